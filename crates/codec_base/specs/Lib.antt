@@ -1,0 +1,14 @@
+pub mod Codec
+pub mod Numbers
+pub mod Varint
+pub mod Parts
+pub mod Laws
+pub mod VarintLaws
+pub mod PartsLaws
+pub mod Loop
+pub mod Reads
+pub mod Combine
+pub mod Causes
+pub mod Writing
+pub mod Failing
+pub mod Streams

@@ -1,0 +1,72 @@
+ghost use Rattle.std.specs.Prelude.{◌≡◌};
+ghost use Rattle.codec_base.specs.declared.error.CodecError.TheVariants.{Memory};
+
+use std::alloc::{AllocError, AllocFailed};
+
+/// What is invalid in a byte string.
+#[derive(Clone, Copy, Debug, PartialEq, Eq, Hash)]
+pub enum InvalidAt {
+    Varint,
+    Option,
+    Length,
+    Padding,
+    Location,
+    NonEmptyRange,
+    Target,
+    CompactTarget,
+    Witness,
+    ExtraData,
+}
+
+/// Why a value couldn't be read or written.
+#[derive(Clone, Copy, Debug, PartialEq, Eq, Hash)]
+pub enum CodecError {
+    /// The bytes end before the value does.
+    EndOfBuffer,
+    /// A tag that no variant has.
+    InvalidEnum(u8),
+    /// Bytes that spell no value that is allowed.
+    Invalid(InvalidAt),
+    /// Want of memory.
+    Memory,
+}
+
+impl InvalidAt {
+    /// Where it was found, and what is wrong there.
+    pub fn texts(self) -> (&'static str, &'static str) {
+        match self {
+            InvalidAt::Varint => ("Varint", "Varint"),
+            InvalidAt::Option => ("Option", "Option"),
+            InvalidAt::Length => ("Length", "Length"),
+            InvalidAt::Padding => ("Padding", "Padding"),
+            InvalidAt::Location => ("Location", "Location"),
+            InvalidAt::NonEmptyRange => ("NonEmptyRange", "start must be < end"),
+            InvalidAt::Target => (
+                "storage::qmdb::sync::Target",
+                "range bounds out of valid range",
+            ),
+            InvalidAt::CompactTarget => (
+                "storage::qmdb::sync::CompactTarget",
+                "size must be in 1..=MAX_LEAVES",
+            ),
+            InvalidAt::Witness => ("Witness", "Witness"),
+            InvalidAt::ExtraData => ("ExtraData", "ExtraData"),
+        }
+    }
+}
+
+impl From<AllocError> for CodecError {
+    ghost from_gives = { λ _ e. e ≡ Memory };
+
+    fn from(_: AllocError) -> Self {
+        CodecError::Memory
+    }
+}
+
+impl<T: Drop> From<AllocFailed<T>> for CodecError {
+    ghost from_gives = { λ _ e. e ≡ Memory };
+
+    fn from(_: AllocFailed<T>) -> Self {
+        CodecError::Memory
+    }
+}
