@@ -1,0 +1,5 @@
+pub mod BoundLemmas
+pub mod ImageLemmas
+pub mod MomentLemmas
+pub mod PairLemmas
+pub mod StepLemmas

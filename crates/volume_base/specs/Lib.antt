@@ -1,0 +1,6 @@
+pub mod Bounds
+pub mod Errors
+pub mod Log
+pub mod Moments
+pub mod Pairs
+pub mod Volume

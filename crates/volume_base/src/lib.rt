@@ -1,0 +1,10 @@
+//! Logs and maps by name, and what a crash at any moment may leave of them.
+#![tactic(auto)]
+
+mod error;
+mod map;
+mod volume;
+
+pub use error::{JournalError, TreeCause, VolumeError};
+pub use map::MetaMap;
+pub use volume::Volume;
