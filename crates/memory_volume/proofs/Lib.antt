@@ -1,0 +1,7 @@
+pub mod CallLemmas
+pub mod ChoiceLemmas
+pub mod KeptLemmas
+pub mod ReadLemmas
+pub mod StateLemmas
+pub mod TableLemmas
+pub mod VersionLemmas

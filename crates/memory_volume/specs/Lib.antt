@@ -1,0 +1,9 @@
+pub mod Choice
+pub mod Memory
+pub mod MemoryVolume
+pub mod Record
+pub mod Starts
+pub mod TableLaws
+pub mod Tables
+pub mod VersionLaws
+pub mod Versions

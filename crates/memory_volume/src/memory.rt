@@ -1,0 +1,309 @@
+//! A volume in memory.
+ghost use Rattle.std.specs.Prelude.{◌≡◌, ◌+◌, ◌-◌, ◌<◌, ◌≤◌, ◌^◌, ℕ, min, [], ◌∷◌, ◌++◌, length, IfOk, IfErr, OnOk, OnErr, IsErrOf, IsOkUnless};
+ghost use Rattle.std.specs.FinMap as map;
+ghost use Rattle.memory_volume.specs.Record.{CanChange};
+ghost use Rattle.memory_volume.specs.Starts.{Starts};
+ghost use Rattle.memory_volume.specs.TableLaws.{AreKept-prop};
+ghost use Rattle.memory_volume.specs.Tables.{AreKept};
+ghost use Rattle.memory_volume.specs.declared.entry.Entry.TheVariants.{OfLog, OfMap};
+ghost use Rattle.memory_volume.specs.declared.entry.LogChange.TheVariants.{Append, Sync, Cut, Prune, Put};
+ghost use Rattle.volume_base.specs.Log.{IsItemAt, end_of, no_log, cleared_at, appended, cut_to, pruned_to, Grows, Shrinks, Advances, Vanishes, Stays, BecomesOneOf};
+ghost use Rattle.volume_base.specs.Volume.{OnlyLog, OnlyMap, LogMoves, MapMoves, OnlyLeft, Writes, WriteAnswers, Reads};
+ghost use Rattle.volume_base.specs.declared.error.VolumeError.TheVariants.{Failed, ItemPruned, ItemOutOfRange};
+
+use crate::entry::{Entry, LogChange};
+use crate::record::{record_log, record_map};
+use crate::shared::shared_items;
+use crate::stored::{StoredLog, StoredMap};
+use crate::table::{bounds_of, map_in, read_item};
+use codec_base::{Bytes, FailingCalls, ListOf};
+use std::alloc::Global;
+use volume_base::{MetaMap, Volume, VolumeError};
+
+/// A volume in memory. It keeps a record of the calls that wrote or synced.
+#[derive(Drop)]
+pub struct MemoryVolume {
+    alloc: Global,
+    calls: Vec<Entry>,
+    logs: Vec<StoredLog>,
+    maps: Vec<StoredMap>,
+    failing: FailingCalls,
+    reads: u64,
+    ghost kept: { AreKept calls.items logs.items maps.items } by { AreKept-prop calls.items logs.items maps.items },
+}
+
+impl MemoryVolume {
+    ghost use Rattle.memory_volume.specs.MemoryVolume.{calls_of, failing_of, state_of, Records};
+
+    /// An empty volume with nothing set to fail. It takes no memory.
+    pub fn new(alloc: Global) -> Self
+        ensures calls { calls_of result ≡ [] }
+        ensures failing { failing_of result ≡ record { ahead = []; faults = 0 } }
+        ensures reads { (state_of result).reads ≡ 0 }
+    {
+        MemoryVolume {
+            alloc,
+            calls: Vec::new(alloc),
+            logs: Vec::new(alloc),
+            maps: Vec::new(alloc),
+            failing: FailingCalls::new(alloc),
+            reads: 0,
+        }
+    }
+
+    /// Sets the n-th call of the volume from now to fail: 1 is the next, and 0 sets nothing. Such a call changes nothing but the count of faults.
+    pub fn fail_call(&mut self, n: u64) -> Result<(), VolumeError>
+        ensures set { OnOk result (failing_of self.new ≡ record (failing_of self.old) { ahead = (failing_of self.old).ahead ++ n ∷ [] }) }
+        ensures err { OnErr result (failing_of self.new ≡ failing_of self.old) }
+        ensures calls { calls_of self.new ≡ calls_of self.old }
+        ensures reads { (state_of self.new).reads ≡ (state_of self.old).reads }
+        ensures memory { IsOkUnless result VolumeError.Memory }
+    {
+        self.failing.fail_call(n)?;
+        Ok(())
+    }
+
+    /// Puts a durable log in the place of what is there. It is no call that could be set to fail.
+    pub fn put_log(&mut self, name: &str, start: u64, items: &[Bytes]) -> Result<(), VolumeError>
+        requires { start + length items.now < 2 ^ 64 }
+        ensures put { OnOk result ((state_of self.new).log name.now ≡ record { start = start; items = items.now }) }
+        ensures durable { OnOk result (OnlyLeft ((state_of self.new).log_left (state_of self.new).clock name.now) (record { start = start; items = items.now })) }
+        ensures others { OnlyLog name.now (state_of self.old) (state_of self.new) }
+        ensures images { LogMoves name.now (BecomesOneOf (record { start = start; items = items.now })) (state_of self.old) (state_of self.new) }
+        ensures recorded { Records (OfLog name.now (Put start items.now)) self.old self.new result }
+        ensures failing { failing_of self.new ≡ failing_of self.old }
+        ensures memory { IsOkUnless result VolumeError.Memory }
+    {
+        let put = shared_items(self.alloc, items)?;
+        self.record_change(name, LogChange::Put(start, put))?;
+        Ok(())
+    }
+
+    /// Puts a durable map in the place of what is there. It is no call that could be set to fail.
+    pub fn put_map(&mut self, name: &str, map: &MetaMap) -> Result<(), VolumeError>
+        ensures put { OnOk result ((state_of self.new).map name.now ≡ map.now) }
+        ensures durable { OnOk result (OnlyLeft ((state_of self.new).map_left (state_of self.new).clock name.now) map.now) }
+        ensures others { OnlyMap name.now (state_of self.old) (state_of self.new) }
+        ensures images { MapMoves name.now (BecomesOneOf map.now) (state_of self.old) (state_of self.new) }
+        ensures recorded { Records (OfMap name.now map.now) self.old self.new result }
+        ensures failing { failing_of self.new ≡ failing_of self.old }
+        ensures memory { IsOkUnless result VolumeError.Memory }
+    {
+        self.record_replace(name, map)?;
+        Ok(())
+    }
+
+    // Puts a change of a log behind the record.
+    fn record_change(&mut self, name: &str, change: LogChange) -> Result<(), VolumeError>
+        requires { CanChange ((state_of self.old).log name.now) change }
+        ensures recorded { Records (OfLog name.now change) self.old self.new result }
+        ensures failing { failing_of self.new ≡ failing_of self.old }
+        ensures memory { IsOkUnless result VolumeError.Memory }
+    {
+        record_log(self.alloc, &mut self.calls, &mut self.logs, name, change)?;
+        Ok(())
+    }
+
+    // Puts another map behind the record.
+    fn record_replace(&mut self, name: &str, map: &MetaMap) -> Result<(), VolumeError>
+        ensures recorded { Records (OfMap name.now map.now) self.old self.new result }
+        ensures failing { failing_of self.new ≡ failing_of self.old }
+        ensures memory { IsOkUnless result VolumeError.Memory }
+    {
+        record_map(self.alloc, &mut self.calls, &mut self.maps, name, map)?;
+        Ok(())
+    }
+
+    // Begins a call, which may be one that is set to fail.
+    fn start_call(&mut self) -> Result<(), VolumeError>
+        ensures calls { self.new.calls.items ≡ self.old.calls.items }
+        ensures reads { self.new.reads ≡ self.old.reads }
+        ensures starts { Starts self.old.failing self.new.failing result }
+    {
+        if self.failing.next_fails() {
+            return Err(VolumeError::Failed);
+        }
+        Ok(())
+    }
+}
+
+impl Volume for MemoryVolume {
+    ghost use Rattle.memory_volume.specs.MemoryVolume.{calls_of, state_of, Records, FailsAsSet};
+    ghost use Rattle.memory_volume.specs.VersionLaws.{state_left};
+
+    ghost tells = { Unit {0} };
+
+    ghost state = { state_of };
+
+    fn log_bounds(&mut self, name: &str) -> Result<(u64, u64), VolumeError>
+        ensures start { IfOk result (λ bounds. Unit {0} → bounds.0 ≡ ((state_of self.old).log name.now).start) }
+        ensures end { IfOk result (λ bounds. Unit {0} → bounds.1 ≡ end_of ((state_of self.old).log name.now)) }
+        ensures answers { Reads (Unit {0}) Failed (state_of self.old) (state_of self.new) result }
+        ensures reads { (state_of self.new).reads ≡ (state_of self.old).reads }
+        ensures not_pruned { (p : ℕ) → IsErrOf result (ItemPruned p) → ⊥ }
+        ensures not_out_of_range { (p : ℕ) → IsErrOf result (ItemOutOfRange p) → ⊥ }
+        // It takes no memory.
+        ensures only_failed { IfErr result (λ e. e ≡ Failed) }
+        ensures calls { calls_of self.new ≡ calls_of self.old }
+        ensures fails { FailsAsSet self.old self.new result }
+    {
+        self.start_call()?;
+        Ok(bounds_of(&self.logs, name))
+    }
+
+    fn log_read(&mut self, name: &str, position: u64) -> Result<Bytes, VolumeError>
+        ensures item { IfOk result (λ item. Unit {0} → IsItemAt ((state_of self.old).log name.now) position item) }
+        ensures pruned { Unit {0} → (p : ℕ) → IsErrOf result (ItemPruned p) → (p ≡ position) × (position < ((state_of self.old).log name.now).start) }
+        ensures out_of_range { Unit {0} → (p : ℕ) → IsErrOf result (ItemOutOfRange p) → (p ≡ position) × (end_of ((state_of self.old).log name.now) ≤ position) }
+        ensures answers { Reads (Unit {0}) Failed (state_of self.old) (state_of self.new) result }
+        ensures reads { (state_of self.new).reads ≡ min ((state_of self.old).reads + 1) (2 ^ 64 - 1) }
+        ensures calls { calls_of self.new ≡ calls_of self.old }
+        ensures fails { FailsAsSet self.old self.new result }
+    {
+        self.reads = self.reads.saturating_add(1);
+        self.start_call()?;
+        read_item(self.alloc, &self.logs, name, position)
+    }
+
+    fn log_append(&mut self, name: &str, items: &[Bytes]) -> Result<(), VolumeError>
+        requires { Unit {0} → end_of ((state_of self.old).log name.now) + length items.now < 2 ^ 64 }
+        ensures appended { OnOk result (Unit {0} → (state_of self.new).log name.now ≡ appended ((state_of self.old).log name.now) items.now) }
+        ensures others { Unit {0} → OnlyLog name.now (state_of self.old) (state_of self.new) }
+        ensures images { Unit {0} → LogMoves name.now (Grows ((state_of self.old).log name.now) items.now) (state_of self.old) (state_of self.new) }
+        ensures writes { Writes (Unit {0}) Failed (state_of self.old) (state_of self.new) result }
+        ensures answers { WriteAnswers (Unit {0}) (state_of self.old) (state_of self.new) result }
+        ensures recorded { Records (OfLog name.now (Append items.now)) self.old self.new result }
+        ensures fails { FailsAsSet self.old self.new result }
+    {
+        self.start_call()?;
+        let kept = shared_items(self.alloc, items)?;
+        self.record_change(name, LogChange::Append(kept))?;
+        Ok(())
+    }
+
+    fn log_sync(&mut self, name: &str) -> Result<(), VolumeError>
+        ensures contents { Unit {0} → (state_of self.new).log name.now ≡ (state_of self.old).log name.now }
+        ensures durable { OnOk result (Unit {0} → OnlyLeft ((state_of self.new).log_left (state_of self.new).clock name.now) ((state_of self.new).log name.now)) }
+        ensures others { Unit {0} → OnlyLog name.now (state_of self.old) (state_of self.new) }
+        ensures images { Unit {0} → LogMoves name.now Stays (state_of self.old) (state_of self.new) }
+        ensures writes { Writes (Unit {0}) Failed (state_of self.old) (state_of self.new) result }
+        ensures answers { WriteAnswers (Unit {0}) (state_of self.old) (state_of self.new) result }
+        ensures recorded { Records (OfLog name.now Sync) self.old self.new result }
+        ensures fails { FailsAsSet self.old self.new result }
+    {
+        self.start_call()?;
+        self.record_change(name, LogChange::Sync)?;
+        Ok(())
+    }
+
+    fn log_cut(&mut self, name: &str, end: u64) -> Result<(), VolumeError>
+        requires low { Unit {0} → ((state_of self.old).log name.now).start ≤ end }
+        requires high { Unit {0} → end ≤ end_of ((state_of self.old).log name.now) }
+        ensures cut { OnOk result (Unit {0} → (state_of self.new).log name.now ≡ cut_to ((state_of self.old).log name.now) end) }
+        ensures others { Unit {0} → OnlyLog name.now (state_of self.old) (state_of self.new) }
+        ensures images { Unit {0} → LogMoves name.now (Shrinks end) (state_of self.old) (state_of self.new) }
+        ensures writes { Writes (Unit {0}) Failed (state_of self.old) (state_of self.new) result }
+        ensures answers { WriteAnswers (Unit {0}) (state_of self.old) (state_of self.new) result }
+        ensures recorded { Records (OfLog name.now (Cut end)) self.old self.new result }
+        ensures fails { FailsAsSet self.old self.new result }
+    {
+        self.start_call()?;
+        self.record_change(name, LogChange::Cut(end))?;
+        Ok(())
+    }
+
+    fn log_prune(&mut self, name: &str, start: u64) -> Result<(), VolumeError>
+        requires low { Unit {0} → ((state_of self.old).log name.now).start ≤ start }
+        requires high { Unit {0} → start ≤ end_of ((state_of self.old).log name.now) }
+        ensures pruned { OnOk result (Unit {0} → (state_of self.new).log name.now ≡ pruned_to ((state_of self.old).log name.now) start) }
+        ensures others { Unit {0} → OnlyLog name.now (state_of self.old) (state_of self.new) }
+        ensures images { Unit {0} → LogMoves name.now (Advances start) (state_of self.old) (state_of self.new) }
+        ensures writes { Writes (Unit {0}) Failed (state_of self.old) (state_of self.new) result }
+        ensures answers { WriteAnswers (Unit {0}) (state_of self.old) (state_of self.new) result }
+        ensures recorded { Records (OfLog name.now (Prune start)) self.old self.new result }
+        ensures fails { FailsAsSet self.old self.new result }
+    {
+        self.start_call()?;
+        self.record_change(name, LogChange::Prune(start))?;
+        Ok(())
+    }
+
+    fn log_clear(&mut self, name: &str, size: u64) -> Result<(), VolumeError>
+        ensures cleared { OnOk result (Unit {0} → (state_of self.new).log name.now ≡ cleared_at size) }
+        ensures durable { OnOk result (Unit {0} → OnlyLeft ((state_of self.new).log_left (state_of self.new).clock name.now) (cleared_at size)) }
+        ensures others { Unit {0} → OnlyLog name.now (state_of self.old) (state_of self.new) }
+        ensures images { Unit {0} → LogMoves name.now (BecomesOneOf (cleared_at size)) (state_of self.old) (state_of self.new) }
+        ensures writes { Writes (Unit {0}) Failed (state_of self.old) (state_of self.new) result }
+        ensures answers { WriteAnswers (Unit {0}) (state_of self.old) (state_of self.new) result }
+        ensures recorded { Records (OfLog name.now (Put size [])) self.old self.new result }
+        ensures fails { FailsAsSet self.old self.new result }
+    {
+        self.start_call()?;
+        let none = ListOf::new(self.alloc);
+        self.record_change(name, LogChange::Put(size, none))?;
+        Ok(())
+    }
+
+    fn log_remove(&mut self, name: &str) -> Result<(), VolumeError>
+        ensures removed { OnOk result (Unit {0} → (state_of self.new).log name.now ≡ no_log) }
+        ensures durable { OnOk result (Unit {0} → OnlyLeft ((state_of self.new).log_left (state_of self.new).clock name.now) no_log) }
+        ensures others { Unit {0} → OnlyLog name.now (state_of self.old) (state_of self.new) }
+        ensures images { Unit {0} → LogMoves name.now Vanishes (state_of self.old) (state_of self.new) }
+        ensures writes { Writes (Unit {0}) Failed (state_of self.old) (state_of self.new) result }
+        ensures answers { WriteAnswers (Unit {0}) (state_of self.old) (state_of self.new) result }
+        ensures recorded { Records (OfLog name.now (Put 0 [])) self.old self.new result }
+        ensures fails { FailsAsSet self.old self.new result }
+    {
+        self.start_call()?;
+        let none = ListOf::new(self.alloc);
+        self.record_change(name, LogChange::Put(0, none))?;
+        Ok(())
+    }
+
+    fn map_get(&mut self, name: &str) -> Result<MetaMap, VolumeError>
+        ensures map { IfOk result (λ got. Unit {0} → got ≡ (state_of self.old).map name.now) }
+        ensures answers { Reads (Unit {0}) Failed (state_of self.old) (state_of self.new) result }
+        ensures reads { (state_of self.new).reads ≡ (state_of self.old).reads }
+        ensures not_pruned { (p : ℕ) → IsErrOf result (ItemPruned p) → ⊥ }
+        ensures not_out_of_range { (p : ℕ) → IsErrOf result (ItemOutOfRange p) → ⊥ }
+        ensures calls { calls_of self.new ≡ calls_of self.old }
+        ensures fails { FailsAsSet self.old self.new result }
+    {
+        self.start_call()?;
+        let found = map_in(self.alloc, &self.maps, name)?;
+        Ok(found)
+    }
+
+    fn map_replace(&mut self, name: &str, map: &MetaMap) -> Result<(), VolumeError>
+        ensures map { OnOk result (Unit {0} → (state_of self.new).map name.now ≡ map.now) }
+        ensures durable { OnOk result (Unit {0} → OnlyLeft ((state_of self.new).map_left (state_of self.new).clock name.now) map.now) }
+        ensures others { Unit {0} → OnlyMap name.now (state_of self.old) (state_of self.new) }
+        ensures images { Unit {0} → MapMoves name.now (BecomesOneOf map.now) (state_of self.old) (state_of self.new) }
+        ensures writes { Writes (Unit {0}) Failed (state_of self.old) (state_of self.new) result }
+        ensures answers { WriteAnswers (Unit {0}) (state_of self.old) (state_of self.new) result }
+        ensures recorded { Records (OfMap name.now map.now) self.old self.new result }
+        ensures fails { FailsAsSet self.old self.new result }
+    {
+        self.start_call()?;
+        self.record_replace(name, map)?;
+        Ok(())
+    }
+
+    fn map_remove(&mut self, name: &str) -> Result<(), VolumeError>
+        ensures removed { OnOk result (Unit {0} → (state_of self.new).map name.now ≡ map.empty) }
+        ensures durable { OnOk result (Unit {0} → OnlyLeft ((state_of self.new).map_left (state_of self.new).clock name.now) map.empty) }
+        ensures others { Unit {0} → OnlyMap name.now (state_of self.old) (state_of self.new) }
+        ensures images { Unit {0} → MapMoves name.now (BecomesOneOf map.empty) (state_of self.old) (state_of self.new) }
+        ensures writes { Writes (Unit {0}) Failed (state_of self.old) (state_of self.new) result }
+        ensures answers { WriteAnswers (Unit {0}) (state_of self.old) (state_of self.new) result }
+        ensures recorded { Records (OfMap name.now map.empty) self.old self.new result }
+        ensures fails { FailsAsSet self.old self.new result }
+    {
+        self.start_call()?;
+        let none = MetaMap::new(self.alloc);
+        self.record_replace(name, &none)?;
+        Ok(())
+    }
+
+    ghost contents_left = { λ v told. state_left v.calls.items v.failing v.reads };
+}
