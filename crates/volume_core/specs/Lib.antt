@@ -1,0 +1,18 @@
+pub use Rattle.codec_base.specs.Causes
+pub use Rattle.codec_base.specs.Codec
+pub use Rattle.codec_base.specs.Combine
+pub use Rattle.codec_base.specs.Failing
+pub use Rattle.codec_base.specs.Parts
+pub use Rattle.codec_base.specs.Streams
+pub use Rattle.codec_base.specs.Varint
+pub use Rattle.codec_base.specs.Writing
+pub use Rattle.codec_base.specs.declared.error.CodecError as CodecErrors
+pub use Rattle.memory_volume.specs.Memory
+pub use Rattle.memory_volume.specs.MemoryVolume
+pub use Rattle.volume_base.specs.Bounds
+pub use Rattle.volume_base.specs.Errors
+pub use Rattle.volume_base.specs.Log
+pub use Rattle.volume_base.specs.Moments
+pub use Rattle.volume_base.specs.Volume
+pub use Rattle.volume_base.specs.declared.error.JournalError as JournalErrors
+pub use Rattle.volume_base.specs.declared.error.VolumeError as VolumeErrors
