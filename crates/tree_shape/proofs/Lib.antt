@@ -1,0 +1,6 @@
+pub mod MmrBits
+pub mod MmbBits
+pub mod Merge
+pub mod NodeLemmas
+pub mod PinLemmas
+pub mod SizeLemmas

@@ -1,0 +1,11 @@
+use Rattle.std.proofs.Common.{◌≡◌, ◌<◌, ◌-◌, ◌^◌}
+use Rattle.std.specs.Prelude.{slice_get}
+use Rattle.tree_shape.specs.Mmr.{mmr_heights}
+use Rattle.tree_shape.proofs.MmrBits.{raised}
+use Rattle.tree_shape.proofs.mmr.MmrFamily.peak_height.Given as goal
+
+abbrev pub invariant-loop-height : goal.invariant-loop-height
+invariant-loop-height l = record {
+  told : slice_get (raised l.height (mmr_heights l.rest)) l.left ≡ slice_get (mmr_heights l.fn.n) l.fn.i;
+  small : l.rest < 2 ^ (63 - l.height);
+}

@@ -1,0 +1,22 @@
+-- Which nodes later appends read: peaks, and what stands behind them.
+use Rattle.std.specs.Prelude.{◌≡◌, ◌⊎◌, ℕ, suc, ◌+◌, ◌-◌, ◌^◌, ◌≤◌, List, [], ◌∷◌, Some, slice_get}
+use Rattle.tree_shape.specs.Shape.{Shape}
+
+-- the node of height h over x is one of these peaks, the newest of which ends at e
+abbrev pub PeakIn : ℕ → List ℕ → ℕ → ℕ → Type 0
+PeakIn e [] x h = ⊥
+PeakIn e (k ∷ ks) x h = ((x ≡ e - 2 ^ k) × (h ≡ k)) ⊎ PeakIn (e - 2 ^ k) ks x h
+
+abbrev pub PeakOf : Shape → ℕ → ℕ → ℕ → Type 0
+PeakOf s n x h = PeakIn n (s.heights n) x h
+
+-- it is a peak of n leaves, or stands behind their nodes
+abbrev pub AtHand : Shape → ℕ → ℕ → ℕ → Type 0
+AtHand s n x h = (s.position n 0 ≤ s.position x h) ⊎ PeakOf s n x h
+
+pub record KeepsPeaks (s : Shape) : Type 0 where
+  -- a peak after an append is new, or was a peak before
+  pub peaks : (n x h : ℕ) → PeakOf s (suc n) x h → AtHand s n x h
+  -- an append reads peaks and what it has made
+  pub left : (n i x k : ℕ) → slice_get (s.parents n) i ≡ Some (x, suc k) → AtHand s n x k
+  pub right : (n i x k : ℕ) → slice_get (s.parents n) i ≡ Some (x, suc k) → AtHand s n (x + 2 ^ k) k

@@ -1,0 +1,16 @@
+pub mod Hashing
+pub mod Sha256Codec
+pub mod Shape
+pub mod Mmr
+pub mod Mmb
+pub mod Places
+pub mod MmrSize
+pub mod MmrPlaces
+pub mod MmbPlaces
+pub mod Kept
+pub mod Pins
+pub mod Sizes
+pub mod MmrKept
+pub mod MmbKept
+pub mod Slow
+pub mod Root

@@ -1,0 +1,37 @@
+//! Hashers, locations and positions, and the shapes of append-only trees.
+#![tactic(auto)]
+
+mod bagging;
+mod digest;
+mod family;
+mod hasher;
+mod inactive;
+mod location_codec;
+mod mmb;
+mod mmr;
+mod pins;
+mod places;
+mod root;
+mod sha256;
+mod sizes;
+mod slow;
+mod standard;
+mod valid;
+mod widths;
+
+pub use bagging::Bagging;
+pub use digest::Digest;
+pub use family::Family;
+pub use hasher::Hasher;
+pub use mmb::Mmb;
+pub use mmr::Mmr;
+pub use pins::Pins;
+pub use places::{Location, MAX_LEAVES, Position};
+pub use root::{root_digest, root_of_peaks};
+pub use sha256::{Sha256Digest, Sha256Hasher};
+pub use slow::{slow_node, slow_peaks, slow_root};
+pub use standard::{Standard, begin, update_number};
+pub use widths::{half_width, width};
+
+#[cfg(test)]
+mod tests;
