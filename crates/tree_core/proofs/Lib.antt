@@ -1,0 +1,10 @@
+pub mod MemLemmas
+pub mod Later
+pub mod Held
+pub mod Since
+pub mod PrunedLemmas
+pub mod MapLemmas
+pub mod LinkLemmas
+pub mod FoldLemmas
+pub mod TreeLemmas
+pub mod ApplyLemmas

@@ -1,0 +1,9 @@
+use Rattle.std.proofs.Common.{◌≡◌, ◌+◌, List, length}
+use Rattle.tree_core.specs.Pruned.{made_from, peaks_at, nodes_from, Continues}
+use Rattle.tree_core.proofs.growth.nodes_after.Given as goal
+
+abbrev pub invariant-loop-i : goal.invariant-loop-i
+invariant-loop-i g l = let s = g.F.Family.shape in let h = g.H.Hasher.hash in let b = l.mark.leaves in record {
+  counted : length l.since.items ≡ length (made_from s b l.i);
+  told : (all : List _) → l.mark.peaks.items ≡ peaks_at s h all b → Continues all b l.digests → l.since.items ≡ nodes_from s h all b l.i;
+}

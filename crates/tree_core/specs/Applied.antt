@@ -1,0 +1,37 @@
+-- What applying a batch to a tree does, and why it may be refused.
+use Rattle.std.specs.Prelude.{◌≡◌, ◌⊎◌, ℕ, ◌<◌, List, length}
+use Rattle.tree_shape.specs.Hashing.{Hashing}
+use Rattle.tree_shape.specs.Shape.{Shape, made}
+use Rattle.tree_core.specs.declared.error.Error.{Error}
+use Rattle.tree_core.specs.declared.error.Error.TheVariants.{StaleBatch, AncestorDropped, Memory}
+use Rattle.tree_core.specs.Pruned.{peaks_at}
+use Rattle.tree_core.specs.Links.{HasMark}
+use Rattle.tree_core.specs.Tree.{Tree, node_at}
+use Rattle.tree_core.specs.Batches.{Sealed}
+
+-- the tree of this list has the mark before segment i
+abbrev pub Fits : {D : Type 0} → Shape → Hashing D → List D → ℕ → Sealed D → ℕ → Type 0
+Fits s h all n b i = HasMark b.links i n (peaks_at s h all n)
+
+-- the batch's chain began at the tree of this list
+abbrev pub BeganAt : {D : Type 0} → Shape → Hashing D → List D → ℕ → Sealed D → Type 0
+BeganAt s h all n b = (b.began ≡ n) × (b.peaks ≡ peaks_at s h all n)
+
+-- the batch began at this mark, and both sizes are told; or it didn't
+abbrev pub WhyNot : {F D : Type 0} → Shape → Sealed D → ℕ → List D → Error F → Type 0
+WhyNot s b n ps e =
+    (((b.began ≡ n) × (b.peaks ≡ ps)) × (e ≡ AncestorDropped (length (made s b.first)) (length (made s n))))
+    ⊎ (((b.began ≡ n) × (b.peaks ≡ ps) → ⊥) × (e ≡ StaleBatch))
+
+-- where no mark fits: the tree is the boundary, and both sizes are told; or it isn't the boundary either
+abbrev pub Refused : {F D : Type 0} → Shape → Hashing D → List D → ℕ → Sealed D → Error F → Type 0
+Refused s h all n b StaleBatch = ((i : ℕ) → Fits s h all n b i → ⊥) × (BeganAt s h all n b → ⊥)
+Refused s h all n b (AncestorDropped x y) = (x ≡ length (made s b.first)) × (y ≡ length (made s n)) × BeganAt s h all n b × ((i : ℕ) → Fits s h all n b i → ⊥)
+Refused s h all n b Memory = Unit {0}
+Refused s h all n b _ = ⊥
+
+-- the nodes that were there are as before, and so is the boundary
+pub record IsLonger {D : Type 0} (s : Shape) (n : ℕ) (t u : Tree D) : Type 0 where
+  pub leaves : u.leaves ≡ n
+  pub boundary : u.boundary ≡ t.boundary
+  pub nodes : (p : ℕ) → p < length (made s t.leaves) → node_at u p ≡ node_at t p

@@ -1,0 +1,15 @@
+pub use Rattle.tree_shape.specs.Hashing
+pub use Rattle.tree_shape.specs.Shape
+pub use Rattle.tree_shape.specs.Pins
+pub use Rattle.tree_shape.specs.Sizes
+pub use Rattle.tree_shape.specs.Slow
+pub use Rattle.tree_shape.specs.Root
+pub use Rattle.tree_shape.specs.Mmr
+pub use Rattle.tree_shape.specs.Mmb
+pub mod Errors
+pub mod Pruned
+pub mod Links
+pub mod Reading
+pub mod Tree
+pub mod Batches
+pub mod Applied

@@ -1,0 +1,14 @@
+-- Peaks read one by one.
+use Rattle.std.specs.Prelude.{◌≡◌, ℕ, ◌+◌, ◌-◌, ◌<◌, List, length, Option, Some, IsSome, slice_index_or}
+use Rattle.tree_shape.specs.Shape.{Shape}
+use Rattle.tree_shape.specs.Kept.{PeakOf}
+use Rattle.tree_shape.specs.Pins.{base}
+
+-- t tells each peak of n leaves
+abbrev pub TellsPeaks : {D : Type 0} → Shape → ℕ → (ℕ → ℕ → Option D) → Type 0
+TellsPeaks s n t = (x k : ℕ) → PeakOf s n x k → IsSome (t x k)
+
+-- the peaks of n leaves, the oldest first, are these
+pub record ArePeaks {D : Type 0} (s : Shape) (n : ℕ) (t : ℕ → ℕ → Option D) (ds : List D) : Type 0 where
+  pub counted : length ds ≡ length (s.heights n)
+  pub told : (j : ℕ) (d : D) → j < length (s.heights n) → t (base n (s.heights n) (length (s.heights n) - j)) (slice_index_or (s.heights n) (length (s.heights n) - 1 - j) 0) ≡ Some (slice_index_or ds j d)

@@ -1,0 +1,56 @@
+-- A tree in memory, as contracts see it.
+use Rattle.std.specs.Prelude.{◌≡◌, ℕ, ◌+◌, ◌^◌, ◌<◌, ◌≤◌, List, [], length, Option, Result, Ok, Err, nat_le, if◌then◌else◌}
+use Rattle.std.specs.Map.{lookup}
+use Rattle.std.specs.BTreeMap.{is_at}
+use Rattle.std.specs.Ordering.{nat_cmp}
+use Rattle.tree_shape.specs.Hashing.{Hashing}
+use Rattle.tree_shape.specs.Shape.{Shape, made}
+use Rattle.tree_core.specs.declared.error.Error.{Error}
+use Rattle.tree_core.specs.declared.error.Error.TheVariants.{LocationOverflow, LeafOutOfBounds}
+use Rattle.tree_core.specs.Pruned.{IsPruned, IsTreeOf, pruned, Extends}
+
+-- the number of leaves, where it is pruned, and the kept nodes with their positions
+pub record Tree (D : Type 0) : Type 0 where
+  pub leaves : ℕ
+  pub boundary : ℕ
+  pub kept : List (ℕ × D)
+
+-- the node at a position, where it is kept
+abbrev pub node_at : {D : Type 0} → Tree D → ℕ → Option D
+node_at t p = lookup (is_at (nat_cmp p)) t.kept
+
+-- from the boundary on each node is kept, and each peak of the boundary
+pub record IsSound {D : Type 0} (s : Shape) (t : Tree D) : Type 0 where
+  pub few : t.leaves ≤ 2 ^ 62
+  pub within : t.boundary ≤ t.leaves
+  pub held : IsPruned s t.leaves t.boundary (node_at t)
+
+-- it is the tree of this list of leaf digests: each kept node is the slow node
+abbrev pub IsOf : {D : Type 0} → Shape → Hashing D → List D → Tree D → Type 0
+IsOf s h all t = IsTreeOf s h all t.leaves (node_at t)
+
+abbrev pub empty_tree : {D : Type 0} → Tree D
+empty_tree = record { leaves = 0; boundary = 0; kept = [] }
+
+-- the two have the same leaf count, boundary and nodes
+pub record IsLike {D : Type 0} (t u : Tree D) : Type 0 where
+  pub leaves : u.leaves ≡ t.leaves
+  pub boundary : u.boundary ≡ t.boundary
+  pub nodes : (p : ℕ) → node_at u p ≡ node_at t p
+
+-- u is t pruned to loc: kept are the nodes at or past its position and its peaks, and no other pin
+pub record IsPrunedTo {D : Type 0} (s : Shape) (loc : ℕ) (t u : Tree D) : Type 0 where
+  pub leaves : u.leaves ≡ t.leaves
+  pub boundary : u.boundary ≡ loc
+  pub nodes : (p : ℕ) → node_at u p ≡ pruned s loc (node_at t) p
+
+-- whether a tree of n leaves can be pruned to loc
+abbrev pub prune_answer : {F : Type 0} → ℕ → ℕ → Result (Unit {0}) (Error F)
+prune_answer n loc =
+    if nat_le loc n then Ok tt else (if nat_le loc (2 ^ 62) then Err (LeafOutOfBounds loc) else Err (LocationOverflow loc))
+
+-- u is t with what later leaves made behind its nodes
+pub record IsGrown {D : Type 0} (s : Shape) (later : ℕ) (more : List D) (t u : Tree D) : Type 0 where
+  pub leaves : u.leaves ≡ t.leaves + later
+  pub boundary : u.boundary ≡ t.boundary
+  pub nodes : Extends (node_at t) (node_at u) (length (made s t.leaves)) more

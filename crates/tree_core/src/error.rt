@@ -1,0 +1,88 @@
+ghost use Rattle.std.specs.Prelude.{◌≡◌};
+ghost use Rattle.tree_core.specs.Errors.{from_journal};
+ghost use Rattle.tree_core.specs.declared.error.Error.TheVariants.{Memory};
+
+use std::alloc::{AllocError, AllocFailed};
+use tree_shape::{Location, Position};
+use volume_base::JournalError;
+
+/// What is wrong with the data of a stored tree.
+#[derive(Clone, Copy, Debug, PartialEq, Eq)]
+pub enum TreeData {
+    Boundary,
+    Digest,
+}
+
+impl TreeData {
+    /// What went wrong, in words.
+    pub fn text(&self) -> &'static str {
+        match self {
+            TreeData::Boundary => "invalid Merkle pruning boundary",
+            TreeData::Digest => "could not read digest at requested pos",
+        }
+    }
+}
+
+/// Why a call of a tree wasn't done.
+#[derive_where(Clone, Copy, Debug, PartialEq, Eq)]
+pub enum Error<F> {
+    /// The number of leaves is above `MAX_LEAVES`.
+    LocationOverflow(Location<F>),
+    /// The number of leaves is past the tree.
+    RangeOutOfBounds(Location<F>),
+    /// The leaf lies past the tree.
+    LeafOutOfBounds(Location<F>),
+    /// There is no leaf in the range.
+    Empty,
+    /// The node was pruned.
+    ElementPruned(Position<F>),
+    /// The location was named before.
+    DuplicateLocation(Location<F>),
+    /// The location is below the one before it.
+    UnsortedLocation(Location<F>),
+    /// The node isn't there.
+    MissingNode(Position<F>),
+    /// The number of pins isn't that of the peaks.
+    InvalidPinnedNodes,
+    /// The batch doesn't go on from this tree.
+    StaleBatch,
+    /// The batch began at this tree, but no longer has what stands behind it.
+    AncestorDropped {
+        /// The number of nodes before what the batch has.
+        expected: Position<F>,
+        /// The number of nodes of the tree.
+        actual: Position<F>,
+    },
+    DataCorrupted(TreeData),
+    Journal(JournalError),
+    Volume,
+    Memory,
+}
+
+impl<F> From<AllocError> for Error<F> {
+    ghost from_gives = { λ _ e. e ≡ Memory };
+
+    fn from(_: AllocError) -> Self {
+        Error::Memory
+    }
+}
+
+impl<F, T: Drop> From<AllocFailed<T>> for Error<F> {
+    ghost from_gives = { λ _ e. e ≡ Memory };
+
+    fn from(_: AllocFailed<T>) -> Self {
+        Error::Memory
+    }
+}
+
+impl<F> From<JournalError> for Error<F> {
+    ghost from_gives = { λ error e. e ≡ from_journal error };
+
+    fn from(error: JournalError) -> Self {
+        match error {
+            JournalError::Volume => Error::Volume,
+            JournalError::Memory => Error::Memory,
+            other => Error::Journal(other),
+        }
+    }
+}

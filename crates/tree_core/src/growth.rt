@@ -1,0 +1,89 @@
+//! What appends make after a mark.
+ghost use Rattle.std.specs.Prelude.{◌≡◌, ℕ, ◌+◌, ◌-◌, ◌≤◌, ◌<◌, ◌^◌, List, length, map, take, OnOk, IfOk, Some};
+ghost use Rattle.tree_shape.specs.Hashing.{Hashing};
+ghost use Rattle.tree_shape.specs.Kept.{PeakOf};
+ghost use Rattle.tree_shape.specs.Slow.{node, node_of};
+ghost use Rattle.tree_core.specs.Pruned.{made_from, nodes_from, peaks_at, Continues};
+ghost use Rattle.tree_core.specs.Reading.{TellsPeaks};
+
+use crate::mark::Mark;
+use crate::peaks::Peaks;
+use std::alloc::{AllocError, Global};
+use std::marker::PhantomData;
+use tree_shape::{Digest, Family, Hasher, Position, Standard, half_width, width};
+
+/// Adds the nodes that the append of a leaf makes behind the leaf, where `later` leaves were appended before it.
+fn push_parents<F: Family, H: Hasher>(
+    mark: &Mark<F, H::Digest>,
+    since: &mut Vec<H::Digest>,
+    later: u64,
+    hasher: &Standard<H>,
+) -> Result<(), AllocError>
+    requires few { mark.now.leaves + later < 2 ^ 62 }
+    requires counted { length since.old.items ≡ length (made_from F.shape mark.now.leaves later) + 1 }
+    ensures counted { OnOk result (length since.new.items ≡ length (made_from F.shape mark.now.leaves (later + 1))) }
+    ensures nodes { OnOk result ((leaves : List H.Digest) → mark.now.peaks.items ≡ peaks_at F.shape H.hash leaves mark.now.leaves →
+        since.old.items ≡ map (node_of F.shape H.hash leaves) (take (length since.old.items) (made_from F.shape mark.now.leaves (later + 1))) →
+        since.new.items ≡ nodes_from F.shape H.hash leaves mark.now.leaves (later + 1)) }
+{
+    let n = mark.leaves + later;
+    let size = F::size(mark.leaves);
+    let mut i = 0;
+    while let Some((start, height)) = F::parent(n, i) {
+        let half = half_width(height);
+        let left = mark.node_since(since, start, height - 1);
+        let right = mark.node_since(since, start + half, height - 1);
+        let place = Position::<F>::new(size + since.len() as u64);
+        let parent = hasher.node_digest(place, &left, &right);
+        since.push(parent)?;
+        i += 1;
+    }
+    Ok(())
+}
+
+/// The nodes that the appends of these leaf digests make after a mark.
+pub(crate) fn nodes_after<F: Family, H: Hasher>(
+    alloc: Global,
+    mark: &Mark<F, H::Digest>,
+    digests: &[H::Digest],
+    hasher: &Standard<H>,
+) -> Result<Vec<H::Digest>, AllocError>
+    requires { mark.now.leaves + length digests.now ≤ 2 ^ 62 }
+    ensures counted { IfOk result (λ since. length since.items ≡ length (made_from F.shape mark.now.leaves (length digests.now))) }
+    ensures nodes { IfOk result (λ since. (all : List H.Digest) → mark.now.peaks.items ≡ peaks_at F.shape H.hash all mark.now.leaves →
+        Continues all mark.now.leaves digests.now → since.items ≡ nodes_from F.shape H.hash all mark.now.leaves (length digests.now)) }
+{
+    let mut since = Vec::new(alloc);
+    for i in 0..digests.len() {
+        since.push(digests[i])?;
+        push_parents::<F, H>(mark, &mut since, i as u64, hasher)?;
+    }
+    Ok(since)
+}
+
+/// The mark of a number of leaves with these peaks.
+pub(crate) fn mark_of<F: Family, D: Digest, P: Peaks<F, D>>(
+    alloc: Global,
+    peaks: &P,
+    leaves: u64,
+) -> Result<Mark<F, D>, AllocError>
+    requires few { leaves ≤ 2 ^ 62 }
+    requires there { TellsPeaks F.shape leaves (P.told peaks.now) }
+    ensures leaves { IfOk result (λ m. m.leaves ≡ leaves) }
+    ensures peaks { IfOk result (λ m. (h : Hashing D) (all : List D) →
+        ((x k : ℕ) → PeakOf F.shape leaves x k → P.told peaks.now x k ≡ Some (node F.shape h all x k)) → m.peaks.items ≡ peaks_at F.shape h all leaves) }
+{
+    let mut digests = Vec::new(alloc);
+    let mut end = leaves;
+    let count = F::peak_count(leaves);
+    for i in 0..count {
+        let height = F::peak_height(leaves, i);
+        end -= width(height);
+        digests.push(peaks.read(end, height))?;
+    }
+    Ok(Mark {
+        leaves,
+        peaks: digests,
+        family: PhantomData,
+    })
+}

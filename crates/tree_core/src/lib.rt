@@ -1,0 +1,21 @@
+//! Append-only trees over lists of leaf digests, and batches of nodes.
+#![tactic(auto)]
+
+mod error;
+mod growth;
+mod kept;
+mod mark;
+mod mem;
+mod peaks;
+mod sealed;
+mod segment;
+mod unsealed;
+
+pub use error::{Error, TreeData};
+pub use mem::Mem;
+pub use sealed::MerkleizedBatch;
+pub use tree_shape::{
+    Bagging, Digest, Family, Hasher, Location, MAX_LEAVES, Mmb, Mmr, Pins, Position, Sha256Digest,
+    Sha256Hasher, Standard, slow_node, slow_peaks, slow_root,
+};
+pub use unsealed::UnmerkleizedBatch;

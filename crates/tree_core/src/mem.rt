@@ -1,0 +1,219 @@
+use crate::growth::mark_of;
+use crate::kept::{insert_all, is_kept};
+use crate::mark::Mark;
+use crate::peaks::{Peaks, root_from};
+use crate::segment::{Segment, push_own};
+use crate::{Error, MerkleizedBatch, UnmerkleizedBatch};
+use std::alloc::{AllocError, Global};
+use std::collections::BTreeMap;
+use std::marker::{Model, PhantomData};
+use std::rc::Rc;
+use tree_shape::{Digest, Family, Hasher, Location, MAX_LEAVES, Position, Standard};
+
+/// A tree in memory, pruned at a boundary: its kept nodes by position.
+#[derive(Drop)]
+pub struct Mem<F: Family, D: Digest> {
+    alloc: Global,
+    nodes: BTreeMap<u64, D>,
+    leaves: u64,
+    boundary: u64,
+    family: PhantomData<F>,
+}
+
+impl<F: Family, D: Digest> Model for Mem<F, D> {
+    ghost use Rattle.tree_core.specs.Tree.{Tree, IsSound};
+
+    ghost Value = { Tree D };
+
+    ghost view = { λ m. record { leaves = m.leaves; boundary = m.boundary; kept = m.nodes.entries } };
+
+    ghost invariant = { λ m. IsSound F.shape (record { leaves = m.leaves; boundary = m.boundary; kept = m.nodes.entries }) };
+}
+
+impl<F: Family, D: Digest> Peaks<F, D> for Mem<F, D> {
+    ghost use Rattle.tree_core.specs.Tree.{node_at};
+
+    ghost told = { λ m x k. node_at m (F.shape.position x k) };
+
+    fn read(&self, start: u64, height: u32) -> D {
+        match self.nodes.get(&F::position(start, height)) {
+            Some(digest) => *digest,
+            None => unreachable!(),
+        }
+    }
+}
+
+impl<F: Family, D: Digest> Mem<F, D> {
+    ghost use Rattle.std.specs.Prelude.{◌≡◌, ℕ, ◌+◌, ◌≤◌, ◌<◌, ◌^◌, List, [], ◌++◌, length, drop, OnOk, OnErr, IsOk, IfOk, IfErr, IsOkUnless};
+    ghost use Rattle.tree_shape.specs.Hashing.{Hashing};
+    ghost use Rattle.tree_shape.specs.Shape.{made};
+    ghost use Rattle.tree_shape.specs.Root.{root, root_over};
+    ghost use Rattle.tree_core.specs.Pruned.{made_from, peaks_at, Extends};
+    ghost use Rattle.tree_core.specs.Reading.{ArePeaks};
+    ghost use Rattle.tree_core.specs.Tree.{Tree, node_at, IsSound, IsOf, IsLike, IsPrunedTo, IsGrown, empty_tree, prune_answer};
+    ghost use Rattle.tree_core.specs.Batches.{BeginsAt, StandsAt, IsUnsealedOf, IsSealedOf};
+    ghost use Rattle.tree_core.specs.Applied.{IsLonger, Fits, Refused};
+
+    /// The empty tree. It takes no memory.
+    pub fn new(alloc: Global) -> Result<Self, Error<F>>
+        ensures empty { result ≡ Ok empty_tree }
+        ensures tree { IfOk result (λ t. (h : Hashing D) → IsOf F.shape h [] t) }
+    {
+        Ok(Mem {
+            alloc,
+            nodes: BTreeMap::new(alloc),
+            leaves: 0,
+            boundary: 0,
+            family: PhantomData,
+        })
+    }
+
+    /// The number of nodes, whatever was pruned.
+    pub fn size(&self) -> Position<F>
+        ensures { result ≡ length (made F.shape self.now.leaves) }
+    {
+        Position::new(F::size(self.leaves))
+    }
+
+    /// The number of leaves, whatever was pruned.
+    pub fn leaves(&self) -> Location<F>
+        ensures leaves { result ≡ self.now.leaves }
+        ensures sound { IsSound F.shape self.now }
+    {
+        Location::new(self.leaves)
+    }
+
+    /// The number of peaks.
+    pub fn peak_count(&self) -> u64
+        ensures { result ≡ length (F.shape.heights self.now.leaves) }
+    {
+        u64::from(F::peak_count(self.leaves))
+    }
+
+    /// The node at a position, where it is kept.
+    pub fn get_node(&self, pos: Position<F>) -> Option<D>
+        ensures { result ≡ node_at self.now pos }
+    {
+        self.nodes.get(&pos.as_u64()).copied()
+    }
+
+    /// The root with this many inactive peaks. It takes no memory.
+    pub fn root<H: Hasher<Digest = D>>(
+        &self,
+        hasher: &Standard<H>,
+        inactive_peaks: u64,
+    ) -> Result<D, Error<F>>
+        requires { inactive_peaks ≤ length (F.shape.heights self.now.leaves) }
+        ensures ok { IsOk result }
+        ensures root { IfOk result (λ d. (all : List D) → IsOf F.shape H.hash all self.now → d ≡ root F.shape H.hash all inactive_peaks hasher.now) }
+        ensures peaks { IfOk result (λ d. (ds : List D) → ArePeaks F.shape self.now.leaves (λ x k. node_at self.now (F.shape.position x k)) ds →
+            d ≡ root_over H.hash self.now.leaves ds inactive_peaks hasher.now) }
+    {
+        Ok(root_from::<F, H, Mem<F, D>>(self, hasher, self.leaves, inactive_peaks))
+    }
+
+    /// Prunes to a number of leaves. It takes no memory.
+    pub fn prune(&mut self, loc: Location<F>) -> Result<(), Error<F>>
+        ensures answer { result ≡ prune_answer self.old.leaves loc }
+        ensures err { OnErr result (self.new ≡ self.old) }
+        ensures below { OnOk result (loc ≤ self.old.boundary → self.new ≡ self.old) }
+        ensures above { OnOk result (self.old.boundary < loc → IsPrunedTo F.shape loc self.old self.new) }
+        ensures tree { (h : Hashing D) (all : List D) → IsOf F.shape h all self.old → IsOf F.shape h all self.new }
+    {
+        let leaves = self.leaves;
+        if loc.as_u64() > MAX_LEAVES {
+            return Err(Error::LocationOverflow(loc));
+        }
+        if loc.as_u64() > leaves {
+            return Err(Error::LeafOutOfBounds(loc));
+        }
+        if loc.as_u64() <= self.boundary {
+            return Ok(());
+        }
+        let boundary = loc.as_u64();
+        self.nodes
+            .retain(|position, _| is_kept::<F>(boundary, *position));
+        self.boundary = boundary;
+        Ok(())
+    }
+
+    /// Prunes to the leaves. It takes no memory.
+    pub fn prune_all(&mut self)
+        ensures below { self.old.boundary ≡ self.old.leaves → self.new ≡ self.old }
+        ensures above { self.old.boundary < self.old.leaves → IsPrunedTo F.shape self.old.leaves self.old self.new }
+        ensures tree { (h : Hashing D) (all : List D) → IsOf F.shape h all self.old → IsOf F.shape h all self.new }
+    {
+        let leaves = self.leaves();
+        match self.prune(leaves) {
+            Ok(()) => {}
+            Err(_) => unreachable!(),
+        }
+    }
+
+    /// The mark of the tree.
+    pub(crate) fn mark(&self) -> Result<Mark<F, D>, AllocError>
+        ensures leaves { IfOk result (λ m. m.leaves ≡ self.now.leaves) }
+        ensures peaks { IfOk result (λ m. (h : Hashing D) (all : List D) → IsOf F.shape h all self.now → m.peaks.items ≡ peaks_at F.shape h all self.now.leaves) }
+    {
+        let mark = mark_of::<F, D, Mem<F, D>>(self.alloc, self, self.leaves)?;
+        Ok(mark)
+    }
+
+    /// Adds the nodes that later leaves make, all or none.
+    fn append_nodes(&mut self, more: &[D], later: u64) -> Result<(), AllocError>
+        requires few { self.old.leaves + later ≤ 2 ^ 62 }
+        requires counted { length more.now ≡ length (made_from F.shape self.old.leaves later) }
+        ensures ok { OnOk result (IsGrown F.shape later more.now self.old self.new) }
+        ensures err { OnErr result (IsLike self.old self.new) }
+    {
+        let size = F::size(self.leaves);
+        insert_all(&mut self.nodes, size, more)?;
+        self.leaves += later;
+        Ok(())
+    }
+
+    /// An empty batch on this tree.
+    pub fn new_batch(&self) -> Result<UnmerkleizedBatch<F, D>, Error<F>>
+        ensures begins { IfOk result (λ b. BeginsAt self.now.leaves b) }
+        ensures batch { IfOk result (λ b. (h : Hashing D) (all : List D) → IsOf F.shape h all self.now → IsUnsealedOf F.shape h all b) }
+        ensures memory { IsOkUnless result Error.Memory }
+    {
+        let base = self.mark()?;
+        let boundary = Rc::new(self.alloc, self.mark()?)?;
+        let segments = Vec::new(self.alloc);
+        Ok(UnmerkleizedBatch::begin(self.alloc, boundary, segments, self.leaves, base))
+    }
+
+    /// An empty sealed batch of this tree.
+    pub fn to_batch(&self) -> Result<MerkleizedBatch<F, D>, Error<F>>
+        ensures stands { IfOk result (λ b. StandsAt self.now.leaves b) }
+        ensures batch { IfOk result (λ b. (h : Hashing D) (all : List D) → IsOf F.shape h all self.now → IsSealedOf F.shape h all b) }
+        ensures memory { IsOkUnless result Error.Memory }
+    {
+        let boundary = Rc::new(self.alloc, self.mark()?)?;
+        let nodes = Vec::new(self.alloc);
+        let own = Rc::new(self.alloc, Segment::new(self.mark()?, 0, nodes))?;
+        let mut segments = Vec::new(self.alloc);
+        push_own(&mut segments, own)?;
+        Ok(MerkleizedBatch::seal(self.alloc, boundary, segments, self.leaves, self.leaves))
+    }
+
+    /// Appends what the batch has behind the mark of this tree.
+    pub fn apply_batch(&mut self, batch: &MerkleizedBatch<F, D>) -> Result<(), Error<F>>
+        ensures longer { OnOk result (IsLonger F.shape batch.now.leaves self.old self.new) }
+        ensures fits { OnOk result ((h : Hashing D) (all : List D) → IsOf F.shape h all self.old → (i : ℕ) × Fits F.shape h all self.old.leaves batch.now i) }
+        ensures tree { OnOk result ((h : Hashing D) (all made : List D) → IsOf F.shape h all self.old → IsSealedOf F.shape h made batch.now → IsOf F.shape h (all ++ drop (length all) made) self.new) }
+        ensures refused { IfErr result (λ e. (h : Hashing D) (all : List D) → IsOf F.shape h all self.old → Refused F.shape h all self.old.leaves batch.now e) }
+        ensures err { OnErr result (IsLike self.old self.new) }
+    {
+        let mark = self.mark()?;
+        match batch.place_of(&mark) {
+            Some(place) => {
+                let nodes = batch.nodes_from_place(self.alloc, place)?;
+                self.append_nodes(&nodes, batch.leaves().as_u64() - mark.leaves)?;
+                Ok(())
+            }
+            None => Err(batch.refusal(&mark)),
+        }
+    }
+}

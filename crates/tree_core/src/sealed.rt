@@ -1,0 +1,138 @@
+use crate::mark::Mark;
+use crate::segment::{Segment, nodes_from_place, place_of, share_from};
+use crate::{Error, UnmerkleizedBatch};
+use std::alloc::{AllocError, Global};
+use std::marker::Model;
+use std::rc::Rc;
+use tree_shape::{Digest, Family, Hasher, Location, Position, Standard};
+
+/// A sealed batch: the mark on which its chain began, and the segments that are kept, its own the last.
+#[derive(Drop)]
+pub struct MerkleizedBatch<F: Family, D: Digest> {
+    alloc: Global,
+    boundary: Rc<Mark<F, D>>,
+    segments: Vec<Rc<Segment<F, D>>>,
+    first: u64,
+    leaves: u64,
+}
+
+impl<F: Family, D: Digest> Model for MerkleizedBatch<F, D> {
+    ghost use Rattle.std.specs.Prelude.{map};
+    ghost use Rattle.tree_core.specs.Links.{Link};
+    ghost use Rattle.tree_core.specs.Batches.{Sealed, IsSoundSealed};
+
+    ghost Value = { Sealed D };
+
+    ghost view = { λ b. record { began = b.boundary.value.leaves; peaks = b.boundary.value.peaks.items; first = b.first; links = map (λ g. g.value) b.segments.items; leaves = b.leaves } };
+
+    ghost invariant = { λ b. IsSoundSealed F.shape (record { began = b.boundary.value.leaves; peaks = b.boundary.value.peaks.items; first = b.first; links = map (λ g. g.value) b.segments.items; leaves = b.leaves }) };
+}
+
+impl<F: Family, D: Digest> MerkleizedBatch<F, D> {
+    ghost use Rattle.std.specs.Prelude.{◌≡◌, ℕ, ◌+◌, ◌-◌, ◌≤◌, ◌<◌, ◌^◌, List, [], length, map, drop, slice_get, IfOk, IfSome, IsOk, IsOkUnless};
+    ghost use Rattle.tree_shape.specs.Hashing.{Hashing};
+    ghost use Rattle.tree_shape.specs.Shape.{made};
+    ghost use Rattle.tree_shape.specs.Root.{root};
+    ghost use Rattle.tree_core.specs.Links.{Link, IsLinked, HasMark, joined_nodes};
+    ghost use Rattle.tree_core.specs.Batches.{Sealed, IsSoundSealed, IsSealedOf, IsUnsealedOf, IsChildOf};
+    ghost use Rattle.tree_core.specs.Applied.{WhyNot};
+
+    pub(crate) fn seal(
+        alloc: Global,
+        boundary: Rc<Mark<F, D>>,
+        segments: Vec<Rc<Segment<F, D>>>,
+        first: u64,
+        leaves: u64,
+    ) -> Self
+        requires sound { IsSoundSealed F.shape (record { began = boundary.value.leaves; peaks = boundary.value.peaks.items; first = first; links = map {B = Link D} (λ g. g.value) segments.items; leaves = leaves }) }
+        ensures { result ≡ record { began = boundary.value.leaves; peaks = boundary.value.peaks.items; first = first; links = map (λ g. g.value) segments.items; leaves = leaves } }
+    {
+        MerkleizedBatch {
+            alloc,
+            boundary,
+            segments,
+            first,
+            leaves,
+        }
+    }
+
+    /// The batch's own segment.
+    fn own(&self) -> &Segment<F, D>
+        ensures last { slice_get self.now.links (length self.now.links - 1) ≡ Some result.now }
+        ensures ends { result.now.leaves + result.now.later ≡ self.now.leaves }
+        ensures sound { IsSoundSealed F.shape self.now }
+    {
+        &self.segments[self.segments.len() - 1]
+    }
+
+    /// The number of leaves with this batch.
+    pub fn leaves(&self) -> Location<F>
+        ensures leaves { result ≡ self.now.leaves }
+        ensures valid { result ≤ 2 ^ 62 }
+    {
+        Location::new(self.leaves)
+    }
+
+    /// The number of nodes with this batch.
+    pub fn size(&self) -> Position<F>
+        ensures { result ≡ length (made F.shape self.now.leaves) }
+    {
+        Position::new(F::size(self.leaves))
+    }
+
+    /// The root of the tree with this batch. It takes no memory.
+    pub fn root<H: Hasher<Digest = D>>(
+        &self,
+        hasher: &Standard<H>,
+        inactive_peaks: u64,
+    ) -> Result<D, Error<F>>
+        requires { inactive_peaks ≤ length (F.shape.heights self.now.leaves) }
+        ensures ok { IsOk result }
+        ensures root { IfOk result (λ d. (all : List D) → IsSealedOf F.shape H.hash all self.now → d ≡ root F.shape H.hash all inactive_peaks hasher.now) }
+    {
+        Ok(self.own().root(hasher, inactive_peaks))
+    }
+
+    /// A child, with this batch's segments and its own.
+    pub fn new_batch(&self) -> Result<UnmerkleizedBatch<F, D>, Error<F>>
+        ensures child { IfOk result (λ b. IsChildOf self.now b) }
+        ensures batch { IfOk result (λ b. (h : Hashing D) (all : List D) → IsSealedOf F.shape h all self.now → IsUnsealedOf F.shape h all b) }
+        ensures memory { IsOkUnless result Error.Memory }
+    {
+        let base = self.own().mark_behind(self.alloc)?;
+        let boundary = self.boundary.clone()?;
+        let segments = share_from(self.alloc, &self.segments, 0)?;
+        Ok(UnmerkleizedBatch::begin(self.alloc, boundary, segments, self.first, base))
+    }
+
+    /// The first kept segment with this mark before it.
+    pub(crate) fn place_of(&self, mark: &Mark<F, D>) -> Option<usize>
+        ensures some { IfSome result (λ i. HasMark self.now.links i mark.now.leaves mark.now.peaks.items) }
+        ensures none { result ≡ None → (i : ℕ) → HasMark self.now.links i mark.now.leaves mark.now.peaks.items → ⊥ }
+        ensures sound { IsSoundSealed F.shape self.now }
+    {
+        place_of(&self.segments, mark)
+    }
+
+    /// The nodes of the segments from this one on, which has a mark before it.
+    pub(crate) fn nodes_from_place(&self, alloc: Global, place: usize) -> Result<Vec<D>, AllocError>
+        requires { place ≤ length self.now.links }
+        ensures { IfOk result (λ v. v.items ≡ joined_nodes (drop place self.now.links)) }
+    {
+        nodes_from_place(alloc, &self.segments, place)
+    }
+
+    /// Why a tree with this mark, which stands before no kept segment, can't take the batch.
+    pub(crate) fn refusal(&self, mark: &Mark<F, D>) -> Error<F>
+        ensures { WhyNot F.shape self.now mark.now.leaves mark.now.peaks.items result }
+    {
+        if self.boundary.is_same(mark) {
+            Error::AncestorDropped {
+                expected: Position::new(F::size(self.first)),
+                actual: Position::new(F::size(mark.leaves)),
+            }
+        } else {
+            Error::StaleBatch
+        }
+    }
+}

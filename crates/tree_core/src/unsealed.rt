@@ -1,0 +1,148 @@
+use crate::growth::nodes_after;
+use crate::mark::Mark;
+use crate::segment::{Segment, first_of, push_own, share_from};
+use crate::{Error, MerkleizedBatch};
+use std::alloc::Global;
+use std::marker::Model;
+use std::rc::Rc;
+use tree_shape::{Digest, Family, Hasher, Location, MAX_LEAVES, Position, Standard};
+
+/// A batch that still takes leaves: where its chain began, the ancestors that are kept, the mark that it stands on.
+#[derive(Drop)]
+pub struct UnmerkleizedBatch<F: Family, D: Digest> {
+    alloc: Global,
+    boundary: Rc<Mark<F, D>>,
+    segments: Vec<Rc<Segment<F, D>>>,
+    first: u64,
+    base: Mark<F, D>,
+    digests: Vec<D>,
+}
+
+impl<F: Family, D: Digest> Model for UnmerkleizedBatch<F, D> {
+    ghost use Rattle.std.specs.Prelude.{map};
+    ghost use Rattle.tree_core.specs.Links.{Link};
+    ghost use Rattle.tree_core.specs.Batches.{Unsealed, IsSoundUnsealed};
+
+    ghost Value = { Unsealed D };
+
+    ghost view = { λ b. record { began = b.boundary.value.leaves; peaks = b.boundary.value.peaks.items; first = b.first; links = map (λ g. g.value) b.segments.items; base = b.base.leaves; base_peaks = b.base.peaks.items; digests = b.digests.items } };
+
+    ghost invariant = { λ b. IsSoundUnsealed F.shape (record { began = b.boundary.value.leaves; peaks = b.boundary.value.peaks.items; first = b.first; links = map (λ g. g.value) b.segments.items; base = b.base.leaves; base_peaks = b.base.peaks.items; digests = b.digests.items }) };
+}
+
+impl<F: Family, D: Digest> UnmerkleizedBatch<F, D> {
+    ghost use Rattle.std.specs.Prelude.{◌≡◌, ℕ, ◌+◌, ◌-◌, ◌≤◌, ◌<◌, ◌^◌, List, [], ◌∷◌, ◌++◌, length, map, IfOk, OnOk, OnErr, IsOkUnless};
+    ghost use Rattle.tree_shape.specs.Slow.{leaf};
+    ghost use Rattle.tree_core.specs.Links.{Link, IsLinked};
+    ghost use Rattle.tree_core.specs.Batches.{Unsealed, IsUnsealedOf, IsSealedOf, IsSealedFrom, leaf_count, with_digests};
+
+    pub(crate) fn begin(
+        alloc: Global,
+        boundary: Rc<Mark<F, D>>,
+        segments: Vec<Rc<Segment<F, D>>>,
+        first: u64,
+        base: Mark<F, D>,
+    ) -> Self
+        requires { IsLinked F.shape first (map {B = Link D} (λ g. g.value) segments.items) base.leaves }
+        ensures { result ≡ record { began = boundary.value.leaves; peaks = boundary.value.peaks.items; first = first; links = map (λ g. g.value) segments.items; base = base.leaves; base_peaks = base.peaks.items; digests = [] } }
+    {
+        UnmerkleizedBatch {
+            alloc,
+            boundary,
+            segments,
+            first,
+            base,
+            digests: Vec::new(alloc),
+        }
+    }
+
+    /// The number of leaves with this batch.
+    pub fn leaves(&self) -> Location<F>
+        ensures leaves { result ≡ leaf_count self.now }
+        ensures valid { result ≤ 2 ^ 62 }
+    {
+        Location::new(self.base.leaves + self.digests.len() as u64)
+    }
+
+    /// The number of ancestors that are kept.
+    pub fn segments(&self) -> u64
+        ensures { result ≡ length self.now.links }
+    {
+        self.segments.len() as u64
+    }
+
+    /// Adds a leaf by its digest.
+    pub fn add_leaf_digest(&mut self, digest: D) -> Result<(), Error<F>>
+        ensures ok { OnOk result (self.new ≡ with_digests self.old (digest ∷ [])) }
+        ensures err { OnErr result (self.new ≡ self.old) }
+        ensures full { leaf_count self.old ≡ 2 ^ 62 → result ≡ Err (Error.LocationOverflow (2 ^ 62 + 1)) }
+        ensures memory { leaf_count self.old < 2 ^ 62 → IsOkUnless result Error.Memory }
+    {
+        if self.base.leaves + self.digests.len() as u64 == MAX_LEAVES {
+            return Err(Error::LocationOverflow(Location::new(MAX_LEAVES + 1)));
+        }
+        self.digests.push(digest)?;
+        Ok(())
+    }
+
+    /// Adds leaves by their digests, all or none.
+    pub fn add_leaf_digests(&mut self, digests: &[D]) -> Result<(), Error<F>>
+        ensures ok { OnOk result (self.new ≡ with_digests self.old digests.now) }
+        ensures err { OnErr result (self.new ≡ self.old) }
+        ensures full { 2 ^ 62 < leaf_count self.old + length digests.now → result ≡ Err (Error.LocationOverflow (2 ^ 62 + 1)) }
+        ensures memory { leaf_count self.old + length digests.now ≤ 2 ^ 62 → IsOkUnless result Error.Memory }
+    {
+        let leaves = self.base.leaves + self.digests.len() as u64;
+        if digests.len() as u64 > MAX_LEAVES - leaves {
+            return Err(Error::LocationOverflow(Location::new(MAX_LEAVES + 1)));
+        }
+        self.digests.extend_from_slice(digests)?;
+        Ok(())
+    }
+
+    /// Seals the batch, with the newest `reached` ancestors. Each new node is hashed once.
+    pub fn merkleize<H: Hasher<Digest = D>>(
+        self,
+        hasher: &Standard<H>,
+        reached: u64,
+    ) -> Result<MerkleizedBatch<F, D>, Error<F>>
+        requires { reached ≤ length self.links }
+        ensures sealed { IfOk result (λ b. IsSealedFrom self reached b) }
+        ensures batch { IfOk result (λ b. (all : List D) → IsUnsealedOf F.shape H.hash all self → IsSealedOf F.shape H.hash (all ++ self.digests) b) }
+        ensures memory { IsOkUnless result Error.Memory }
+    {
+        let UnmerkleizedBatch {
+            alloc,
+            boundary,
+            segments,
+            first: _,
+            base,
+            digests,
+        } = self;
+        let place = segments.len() - reached as usize;
+        let first = first_of(&segments, place, base.leaves);
+        let mut kept = share_from(alloc, &segments, place)?;
+        let nodes = nodes_after::<F, H>(alloc, &base, &digests, hasher)?;
+        let later = digests.len() as u64;
+        let leaves = base.leaves + later;
+        let own = Rc::new(alloc, Segment::new(base, later, nodes))?;
+        push_own(&mut kept, own)?;
+        Ok(MerkleizedBatch::seal(alloc, boundary, kept, first, leaves))
+    }
+
+    /// Adds a leaf.
+    pub fn add<H: Hasher<Digest = D>>(
+        &mut self,
+        hasher: &Standard<H>,
+        element: &[u8],
+    ) -> Result<(), Error<F>>
+        ensures ok { OnOk result (self.new ≡ with_digests self.old (leaf F.shape H.hash (leaf_count self.old) element.now ∷ [])) }
+        ensures err { OnErr result (self.new ≡ self.old) }
+        ensures full { leaf_count self.old ≡ 2 ^ 62 → result ≡ Err (Error.LocationOverflow (2 ^ 62 + 1)) }
+        ensures memory { leaf_count self.old < 2 ^ 62 → IsOkUnless result Error.Memory }
+    {
+        let leaves = self.leaves();
+        let place = Position::<F>::new(F::size(leaves.as_u64()));
+        self.add_leaf_digest(hasher.leaf_digest(place, element))
+    }
+}
