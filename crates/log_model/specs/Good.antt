@@ -1,0 +1,50 @@
+-- Good states: what every state of a log and its batches keeps.
+use Rattle.std.specs.Prelude.{◌≡◌, ℕ, ◌+◌, ◌≤◌, List, [], ◌∷◌, length, take, unwrap_or, IsSome, IsNone, IfSome, Option, Some, None}
+use Rattle.log_model.specs.Meaning.{Meaning}
+use Rattle.log_model.specs.Batches.{Batch, Unsealed, Sealed, Gone, size_of}
+use Rattle.log_model.specs.Machine.{State, max_leaves, batch_at}
+
+-- A list ends with a commit.
+abbrev pub EndsWithCommit : {Op V : Type 0} → Meaning Op V → List Op → Type 0
+EndsWithCommit m [] = ⊥
+EndsWithCommit m (op ∷ []) = IsSome (m.floor op)
+EndsWithCommit m (op ∷ next ∷ ops) = EndsWithCommit m (next ∷ ops)
+
+-- The floor of an operation at location i, where it is a commit, is at least this and at most its location.
+abbrev pub FloorFits : ℕ → ℕ → Option ℕ → Type 0
+FloorFits low i None = Unit {0}
+FloorFits low i (Some floor) = (low ≤ floor) × (floor ≤ i)
+
+-- From location i on, the floors of commits never fall from this one on, and each is at most its commit's location.
+abbrev pub FloorsRise : {Op V : Type 0} → Meaning Op V → ℕ → ℕ → List Op → Type 0
+FloorsRise m low i [] = Unit {0}
+FloorsRise m low i (op ∷ ops) = FloorFits low i (m.floor op) × FloorsRise m (unwrap_or (m.floor op) low) (i + 1) ops
+
+-- Each value and each metadata is one of these.
+abbrev pub ValuesAre : {Op V : Type 0} → Meaning Op V → (V → Type 0) → List Op → Type 0
+ValuesAre m allowed [] = Unit {0}
+ValuesAre m allowed (op ∷ ops) = IfSome (m.value op) allowed × ValuesAre m allowed ops
+
+-- None is a commit.
+abbrev pub AreAppends : {Op V : Type 0} → Meaning Op V → List Op → Type 0
+AreAppends m [] = Unit {0}
+AreAppends m (op ∷ ops) = IsNone (m.floor op) × AreAppends m ops
+
+-- A list of the log: it begins with the first commit and ends with one, a tree can hold it, its values are allowed, and its floors rise.
+pub record IsGoodList {Op V : Type 0} (m : Meaning Op V) (allowed : V → Type 0) (first : Op) (list : List Op) : Type 0 where
+  pub begins : take 1 list ≡ first ∷ []
+  pub ends : EndsWithCommit m list
+  pub few : length list ≤ max_leaves
+  pub values : ValuesAre m allowed list
+  pub floors : FloorsRise m 0 0 list
+
+-- An unsealed batch stands on a list of the log, whose length is its base; its appends are allowed, and a tree can hold them. The boundary of a sealed one is a prefix of its list that ends with a commit.
+abbrev pub IsGoodBatch : {Op V : Type 0} → Meaning Op V → (V → Type 0) → Op → Batch Op → Type 0
+IsGoodBatch m allowed first (Unsealed u) = IsGoodList m allowed first u.list × (u.base ≡ length u.list) × AreAppends m u.pending × ValuesAre m allowed u.pending × (size_of u ≤ max_leaves)
+IsGoodBatch m allowed first (Sealed c) = IsGoodList m allowed first c.list × (c.boundary ≤ length c.list) × EndsWithCommit m (take c.boundary c.list)
+IsGoodBatch m allowed first Gone = Unit {0}
+
+-- The log's list is good, and so is each batch.
+pub record IsGood {Op V : Type 0} (m : Meaning Op V) (allowed : V → Type 0) (first : Op) (s : State Op) : Type 0 where
+  pub ops : IsGoodList m allowed first s.ops
+  pub batches : (b : ℕ) → IsGoodBatch m allowed first (batch_at s b)

@@ -1,0 +1,38 @@
+-- The list machine's state, and what each kind of step makes of it.
+use Rattle.std.specs.Prelude.{ℕ, ◌^◌, Bool, List, [], ◌∷◌, ◌++◌, take, slice_index_or, slice_set}
+use Rattle.std.specs.Cmp.Lexicographic.{pointwise}
+use Rattle.log_model.specs.Meaning.{Meaning}
+use Rattle.log_model.specs.Batches.{Batch, Unsealed, Gone, SealedBatch, begun_on}
+
+-- The list of operations, and the batches by number.
+pub record State (Op : Type 0) : Type 0 where
+  pub ops : List Op
+  pub batches : List (Batch Op)
+
+-- The greatest length of a list.
+abbrev pub max_leaves : ℕ
+max_leaves = 2 ^ 62
+
+-- The state of a log that holds its first commit alone.
+abbrev pub opened : {Op : Type 0} → Op → State Op
+opened commit = record { ops = commit ∷ []; batches = [] }
+
+-- Batch b. It is gone where no such number was drawn.
+abbrev pub batch_at : {Op : Type 0} → State Op → ℕ → Batch Op
+batch_at s b = slice_index_or s.batches b Gone
+
+-- The state with another batch b.
+abbrev pub with_batch : {Op : Type 0} → State Op → ℕ → Batch Op → State Op
+with_batch s b batch = record s { batches = slice_set s.batches b batch }
+
+-- The state with a new batch on the present list.
+abbrev pub begun : {Op : Type 0} → State Op → State Op
+begun s = record s { batches = s.batches ++ (Unsealed (begun_on s.ops) ∷ []) }
+
+-- The state whose list is the batch's.
+abbrev pub applied : {Op : Type 0} → State Op → SealedBatch Op → State Op
+applied s batch = record s { ops = batch.list }
+
+-- Whether the present list is the first n of a batch's list.
+abbrev pub stands_at : {Op V : Type 0} → Meaning Op V → State Op → List Op → ℕ → Bool
+stands_at m s list n = pointwise m.same s.ops (take n list)
