@@ -1,0 +1,4 @@
+pub mod Commitments
+pub mod Errors
+pub mod Kept
+pub mod Slots

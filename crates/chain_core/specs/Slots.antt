@@ -1,0 +1,35 @@
+-- What a pool is seen as: one slot for each number that was drawn, which holds a batch as long as it is alive.
+use Rattle.std.specs.Prelude.{◌≡◌, ℕ, ◌+◌, ◌-◌, ◌==◌, ◌<◌, ◌≤◌, length, List, [], ◌∷◌, Option, Some, None, IsSome, IsSomeAnd, slice_index_or, if◌then◌else◌}
+use Rattle.std.specs.Option.{option_map_or}
+use Rattle.chain_core.specs.declared.pool.HeldBatch.{HeldBatch}
+
+-- What is alive under a number. A number that wasn't drawn has nothing.
+abbrev pub batch_at : {T : Type 0} → List (Option (HeldBatch T)) → ℕ → Option (HeldBatch T)
+batch_at slots id = slice_index_or slots id None
+
+-- A batch is alive under the number.
+abbrev pub IsAlive : {T : Type 0} → List (Option (HeldBatch T)) → ℕ → Type 0
+IsAlive slots id = IsSome (batch_at slots id)
+
+-- How often the batch under a number is held.
+abbrev pub holds_of : {T : Type 0} → List (Option (HeldBatch T)) → ℕ → ℕ
+holds_of slots id = option_map_or (λ b. b.holds) (batch_at slots id) 0
+
+-- The batch, held once more.
+abbrev pub with_hold : {T : Type 0} → HeldBatch T → HeldBatch T
+with_hold b = record b { holds = b.holds + 1 }
+
+-- The batch, held once less. Nothing is left of it where this was the last time.
+abbrev pub without_hold : {T : Type 0} → HeldBatch T → Option (HeldBatch T)
+without_hold b = if b.holds == 1 then None else Some (record b { holds = b.holds - 1 })
+
+-- The numbers are those from a link on, from parent to parent, to the last one before the first that is dead.
+abbrev pub IsReach : {T : Type 0} → (ℕ → Option (HeldBatch T)) → Option ℕ → List ℕ → Type 0
+IsReach living None ids = ids ≡ []
+IsReach living (Some id) [] = living id ≡ None
+IsReach living (Some id) (first ∷ ids) = (first ≡ id) × IsSomeAnd (living id) (λ b. IsReach living b.parent ids)
+
+-- Each number that was drawn stays drawn, and one that is dead stays dead.
+pub record KeepsDead {T : Type 0} (old new : List (Option (HeldBatch T))) : Type 0 where
+  pub drawn : length old ≤ length new
+  pub dead : (id : ℕ) → id < length old → batch_at old id ≡ None → batch_at new id ≡ None

@@ -1,0 +1,91 @@
+ghost use Rattle.std.specs.Prelude.{◌≡◌};
+ghost use Rattle.chain_core.specs.declared.error.Error.TheVariants.{Memory};
+
+use std::alloc::{AllocError, AllocFailed};
+use tree_shape::Location;
+use volume_base::JournalError;
+
+/// Which data of a database is not what it has to be.
+#[derive(Clone, Copy, Debug, PartialEq, Eq)]
+pub enum DataFault {
+    /// The bytes of a commit are no encoding of an operation.
+    CommitOperation,
+    NotACommit,
+    /// A witness that stands for no state.
+    Witness,
+    /// The witness log is empty past its beginning.
+    NoTip,
+    ImportNotApplied,
+}
+
+impl DataFault {
+    pub fn text(&self) -> &'static str {
+        match self {
+            DataFault::CommitOperation => "invalid commit operation",
+            DataFault::NotACommit => "last operation was not a commit",
+            DataFault::Witness => "invalid compact witness",
+            DataFault::NoTip => "witness journal has no tip",
+            DataFault::ImportNotApplied => "compact-sync import not applied",
+        }
+    }
+}
+
+/// Why a call of a database or of a batch wasn't done.
+#[derive_where(Clone, Copy, Debug, PartialEq, Eq)]
+pub enum Error<F> {
+    Journal(JournalError),
+    /// The location, and the size that it reaches or passes.
+    LocationOutOfBounds(Location<F>, Location<F>),
+    /// A location, and the next one, which isn't above it.
+    LocationOutOfOrder(Location<F>, Location<F>),
+    /// The location lies below the floor of the batch that is read.
+    BelowInactivityFloor(Location<F>),
+    /// The batch can't be sealed or applied at the state of the database.
+    StaleBatch,
+    /// The batch can't be read at the state of the database.
+    StaleRead,
+    /// The floor, and the floor built on, which is above it.
+    FloorRegressed(Location<F>, Location<F>),
+    /// The floor, and the location of the commit, which is below it.
+    FloorBeyondSize(Location<F>, Location<F>),
+    /// The location of a prune, and the floor, which is below it.
+    PruneBeyondMinRequired(Location<F>, Location<F>),
+    /// No commit that is kept ends at the size.
+    HistoricalFloorPruned(Location<F>),
+    /// The operation for the location is of another kind than asked for.
+    UnexpectedData(Location<F>),
+    DataCorrupted(DataFault),
+    InvalidInitializationBound,
+    Volume,
+    Memory,
+}
+
+impl<F> From<AllocError> for Error<F> {
+    ghost from_gives = { λ _ e. e ≡ Memory };
+
+    fn from(_: AllocError) -> Self {
+        Error::Memory
+    }
+}
+
+impl<F, T: Drop> From<AllocFailed<T>> for Error<F> {
+    ghost from_gives = { λ _ e. e ≡ Memory };
+
+    fn from(_: AllocFailed<T>) -> Self {
+        Error::Memory
+    }
+}
+
+impl<F> From<JournalError> for Error<F> {
+    ghost use Rattle.chain_core.specs.Errors.{from_journal};
+
+    ghost from_gives = { λ error e. e ≡ from_journal error };
+
+    fn from(error: JournalError) -> Self {
+        match error {
+            JournalError::Volume => Error::Volume,
+            JournalError::Memory => Error::Memory,
+            other => Error::Journal(other),
+        }
+    }
+}

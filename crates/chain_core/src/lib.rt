@@ -1,0 +1,17 @@
+//! Chains of batches: at which states of a database a batch may be read, sealed and applied, and the pool that holds them.
+#![tactic(auto)]
+
+mod bounds;
+mod commitment;
+mod error;
+mod floor;
+mod pool;
+
+pub use bounds::{Bounds, effective_boundary, merkleizable, validate_batch_applicable};
+pub use commitment::{Commitment, Compatible};
+pub use error::{DataFault, Error};
+pub use floor::validate_merkleize_floor;
+pub use pool::{BatchId, HeldBatch, Pool, PoolError};
+
+#[cfg(test)]
+mod tests;

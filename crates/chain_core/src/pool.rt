@@ -1,0 +1,267 @@
+ghost use Rattle.std.specs.Prelude.{◌≡◌, ℕ, ◌+◌, ◌<◌, ◌↔◌, List, [], ◌∷◌, ◌++◌, ◌-◌, ◌^◌, length, slice_set, Option, Some, None, IsTrue, IsOk, IfOk, OnOk, OnErr, IsOkUnless, IsErrOf, IfSome, IsSome, slice_index_or, option_and_then};
+ghost use Rattle.std.specs.Option.{option_copied, option_map, ok_or, ForSome};
+ghost use Rattle.std.specs.Ordering.{nat_cmp};
+ghost use Rattle.std.specs.BTreeMap.{get};
+ghost use Rattle.chain_core.specs.Kept.{SetsAt};
+ghost use Rattle.chain_core.specs.Slots.{batch_at, holds_of, IsAlive, with_hold, without_hold, IsReach, KeepsDead};
+
+use std::alloc::{AllocError, AllocFailed, Global};
+use std::collections::BTreeMap;
+use std::marker::Model;
+
+/// The number of a batch in a pool. Contracts see it as that number.
+#[derive(Clone, Copy, Debug, PartialEq, Eq)]
+pub struct BatchId {
+    number: u64,
+}
+
+impl Model for BatchId {
+    ghost use Rattle.std.specs.Prelude.{ℕ};
+
+    ghost Value = { ℕ };
+
+    ghost view = { λ b. b.number };
+
+    ghost inverse = { λ n. record { number = n } };
+}
+
+impl BatchId {
+    pub fn number(&self) -> u64
+        ensures { result ≡ self.now }
+    {
+        self.number
+    }
+}
+
+/// Why a call of a pool wasn't done.
+#[derive(Clone, Copy, Debug, PartialEq, Eq)]
+pub enum PoolError {
+    /// No batch is alive under the number.
+    NoBatch,
+    Memory,
+}
+
+impl From<AllocError> for PoolError {
+    ghost use Rattle.chain_core.specs.declared.pool.PoolError.TheVariants.{Memory};
+
+    ghost from_gives = { λ _ e. e ≡ Memory };
+
+    fn from(_: AllocError) -> Self {
+        PoolError::Memory
+    }
+}
+
+impl<T: Drop> From<AllocFailed<T>> for PoolError {
+    ghost use Rattle.chain_core.specs.declared.pool.PoolError.TheVariants.{Memory};
+
+    ghost from_gives = { λ _ e. e ≡ Memory };
+
+    fn from(_: AllocFailed<T>) -> Self {
+        PoolError::Memory
+    }
+}
+
+/// A batch that is alive. Contracts see a pool as these.
+#[derive(Drop)]
+pub struct HeldBatch<T> {
+    pub item: T,
+    /// The number of the parent, which may be dead.
+    pub parent: Option<BatchId>,
+    /// How often the batch is held.
+    pub holds: u64,
+}
+
+/// Sealed batches by number. Contracts see a slot for each number that was drawn.
+#[derive(Drop)]
+pub struct Pool<T> {
+    batches: BTreeMap<u64, HeldBatch<T>>,
+    drawn: u64,
+    alloc: Global,
+}
+
+impl<T> Model for Pool<T> {
+    ghost use Rattle.std.specs.Prelude.{List, Option};
+    ghost use Rattle.chain_core.specs.declared.pool.HeldBatch.{HeldBatch};
+
+    ghost Value = { List (Option (HeldBatch T)) };
+
+    ghost use Rattle.chain_core.specs.Kept.{slots_of, IsKept};
+
+    ghost view = { λ p. slots_of p.batches p.drawn };
+
+    ghost invariant = { λ p. IsKept p.batches p.drawn };
+}
+
+impl<T: Drop> Pool<T> {
+    /// A pool that has drawn no number. It takes no memory.
+    pub fn new(alloc: Global) -> Self
+        ensures { result ≡ [] }
+    {
+        Pool {
+            batches: BTreeMap::new(alloc),
+            drawn: 0,
+            alloc,
+        }
+    }
+
+    /// How many numbers were drawn.
+    pub fn drawn(&self) -> u64
+        ensures { result ≡ length self.now }
+    {
+        self.drawn
+    }
+
+    fn find(&self, id: BatchId) -> Option<&HeldBatch<T>>
+        ensures value { option_copied result ≡ batch_at self.now id }
+        ensures held { IfSome result (λ b. 0 < b.now.holds) }
+        ensures after { IfSome result (λ b. ForSome b.now.parent (λ p. p < id)) }
+    {
+        self.batches.get(&id.number)
+    }
+
+    /// How often the batch is held.
+    pub fn holds(&self, id: BatchId) -> u64
+        ensures value { result ≡ holds_of self.now id }
+        ensures alive { (0 < result) ↔ IsAlive self.now id }
+    {
+        match self.find(id) {
+            Some(batch) => batch.holds,
+            None => 0,
+        }
+    }
+
+    pub fn is_alive(&self, id: BatchId) -> bool
+        ensures { IsTrue result ↔ IsAlive self.now id }
+    {
+        self.find(id).is_some()
+    }
+
+    /// The item of a batch that is alive.
+    pub fn get(&self, id: BatchId) -> Result<&T, PoolError>
+        ensures alive { IsOk result ↔ IsAlive self.now id }
+        ensures item { IfOk result (λ item. option_map (λ b. b.item) (batch_at self.now id) ≡ Some item.now) }
+        ensures dead { IsOkUnless result PoolError.NoBatch }
+    {
+        match self.find(id) {
+            Some(batch) => Ok(&batch.item),
+            None => Err(PoolError::NoBatch),
+        }
+    }
+
+    /// The link of a batch that is alive. It may name a dead one.
+    pub fn parent(&self, id: BatchId) -> Result<Option<BatchId>, PoolError>
+        ensures link { result ≡ ok_or (option_map (λ b. b.parent) (batch_at self.now id)) PoolError.NoBatch }
+        ensures after { IfOk result (λ link. IfSome link (λ p. p < id)) }
+    {
+        match self.find(id) {
+            Some(batch) => Ok(batch.parent),
+            None => Err(PoolError::NoBatch),
+        }
+    }
+
+    /// The ancestors of a batch that is alive, from its parent on, to the last one before the first that is dead.
+    pub fn ancestors_of(&self, id: BatchId) -> Result<Vec<BatchId>, PoolError>
+        ensures reach { IfOk result (λ ids. IfSome (batch_at self.now id) (λ b. IsReach (batch_at self.now) b.parent ids.items)) }
+        ensures dead { IsErrOf result PoolError.NoBatch ↔ (batch_at self.now id ≡ None) }
+    {
+        let link = self.parent(id)?;
+        self.reach_from(link)
+    }
+
+    fn reach_from(&self, link: Option<BatchId>) -> Result<Vec<BatchId>, PoolError>
+        ensures reach { IfOk result (λ ids. IsReach (batch_at self.now) link ids.items) }
+        ensures memory { IsOkUnless result PoolError.Memory }
+    {
+        let mut next = link;
+        let mut reached = Vec::new(self.alloc);
+        while let Some(id) = next {
+            let Some(batch) = self.find(id) else {
+                return Ok(reached);
+            };
+            reached.push(id)?;
+            next = batch.parent;
+        }
+        Ok(reached)
+    }
+
+    /// Draws a number for a batch, which is held once. Where memory runs out the batch is dropped.
+    pub fn insert(&mut self, item: T, parent: Option<BatchId>) -> Result<BatchId, PoolError>
+        requires room { length self.old < 2 ^ 64 - 1 }
+        requires after { ForSome parent (λ p. p < length self.old) }
+        ensures ok { OnOk result (self.new ≡ self.old ++ Some (record { item = item; parent = parent; holds = 1 }) ∷ []) }
+        ensures number { IfOk result (λ id. id ≡ length self.old) }
+        ensures for_ever { KeepsDead self.old self.new }
+        ensures err { OnErr result (self.new ≡ self.old) }
+        ensures memory { IsOkUnless result PoolError.Memory }
+    {
+        let number = self.drawn;
+        let batch = HeldBatch {
+            item,
+            parent,
+            holds: 1,
+        };
+        self.batches.insert(number, batch)?;
+        self.drawn = number + 1;
+        Ok(BatchId { number })
+    }
+
+    /// Holds a batch once more.
+    pub fn hold(&mut self, id: BatchId) -> Result<(), PoolError>
+        requires room { holds_of self.old id < 2 ^ 64 - 1 }
+        ensures alive { IsOk result ↔ IsAlive self.old id }
+        ensures ok { OnOk result (self.new ≡ slice_set self.old id (option_map with_hold (batch_at self.old id))) }
+        ensures for_ever { KeepsDead self.old self.new }
+        ensures err { OnErr result (self.new ≡ self.old) }
+        ensures dead { IsOkUnless result PoolError.NoBatch }
+    {
+        hold_at(&mut self.batches, id.number)
+    }
+
+    /// Holds a batch once less. Where this was its last hold its item is dropped, and the number stays dead.
+    pub fn release(&mut self, id: BatchId) -> Result<(), PoolError>
+        ensures alive { IsOk result ↔ IsAlive self.old id }
+        ensures ok { OnOk result (self.new ≡ slice_set self.old id (option_and_then without_hold (batch_at self.old id))) }
+        ensures for_ever { KeepsDead self.old self.new }
+        ensures err { OnErr result (self.new ≡ self.old) }
+        ensures dead { IsOkUnless result PoolError.NoBatch }
+    {
+        release_at(&mut self.batches, id.number)
+    }
+}
+
+fn hold_at<T: Drop>(batches: &mut BTreeMap<u64, HeldBatch<T>>, number: u64) -> Result<(), PoolError>
+    requires room { ForSome (get nat_cmp batches.old number) (λ b. b.holds < 2 ^ 64 - 1) }
+    ensures alive { IsOk result ↔ IsSome (get nat_cmp batches.old number) }
+    ensures more { SetsAt batches.old batches.new number (option_map with_hold (get nat_cmp batches.old number)) }
+    ensures dead { IsOkUnless result PoolError.NoBatch }
+{
+    match batches.get_mut(&number) {
+        Some(batch) => {
+            batch.holds += 1;
+            Ok(())
+        }
+        None => Err(PoolError::NoBatch),
+    }
+}
+
+fn release_at<T: Drop>(
+    batches: &mut BTreeMap<u64, HeldBatch<T>>,
+    number: u64,
+) -> Result<(), PoolError>
+    requires held { ForSome (get nat_cmp batches.old number) (λ b. 0 < b.holds) }
+    ensures alive { IsOk result ↔ IsSome (get nat_cmp batches.old number) }
+    ensures less { SetsAt batches.old batches.new number (option_and_then without_hold (get nat_cmp batches.old number)) }
+    ensures dead { IsOkUnless result PoolError.NoBatch }
+{
+    match batches.get_mut(&number) {
+        Some(batch) if batch.holds > 1 => {
+            batch.holds -= 1;
+            Ok(())
+        }
+        Some(_) => {
+            batches.remove(&number);
+            Ok(())
+        }
+        None => Err(PoolError::NoBatch),
+    }
+}

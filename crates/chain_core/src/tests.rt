@@ -1,0 +1,101 @@
+use crate::{
+    Bounds, Commitment, DataFault, Error, Pool, PoolError, effective_boundary, merkleizable,
+    validate_batch_applicable, validate_merkleize_floor,
+};
+use codec_base::ListOf;
+use std::test::Fail;
+use tree_shape::{Hasher, Location, Mmr, Sha256Digest, Sha256Hasher};
+use volume_base::JournalError;
+
+/// The state of this size whose root is that of one byte.
+fn state(size: u64, root: u8) -> Commitment<Mmr, Sha256Digest> {
+    let mut hasher = Sha256Hasher::new();
+    hasher.update(&[root]);
+    Commitment::new(Location::new(size), hasher.finish())
+}
+
+#[test]
+fn which_commitments_a_batch_may_read_or_apply_at(rt: HostRuntime) -> Result<(), Fail> {
+    let mut ancestors = ListOf::new(rt.alloc());
+    ancestors.push(state(16, 16))?;
+    ancestors.push(state(12, 12))?;
+    let bounds = Bounds {
+        base: state(16, 16),
+        db: state(10, 1),
+        tip: state(18, 18),
+        ancestors,
+        inactivity_floor: Location::new(3),
+    };
+    for (size, root, reads, applies) in [
+        (18, 18, true, false),
+        (16, 16, true, true),
+        (10, 1, true, true),
+        (16, 99, false, false),
+        (18, 99, false, false),
+    ] {
+        let read = bounds.compatible(&7u8, state(size, root)).is_ok();
+        assert_eq!(rt; read, reads, "reads at {size} {root}");
+        let ancestors = bounds.ancestors.as_slice();
+        let applied = validate_batch_applicable(state(size, root), state(10, 1), ancestors).is_ok();
+        assert_eq!(rt; applied, applies, "applies at {size} {root}");
+    }
+    Ok(())
+}
+
+#[test]
+fn boundaries_floors_and_texts(rt: HostRuntime) -> Result<(), Fail> {
+    let start = Bounds::from_db(rt.alloc(), state(10, 1), Location::new(3))?;
+    assert!(rt; start.tip == state(10, 1) && start.ancestors.len() == 0);
+    assert!(rt; start.validate_apply_to(start.tip).is_ok());
+    assert!(rt; state(10, 1).compatible(&7u8, state(10, 1)).is_ok());
+    let boundary = effective_boundary(state(10, 1), Some(state(12, 12)));
+    let sealed = merkleizable(&7u8, boundary, state(12, 12), start.ancestors.as_slice());
+    assert!(rt; sealed.is_ok());
+    let floor = validate_merkleize_floor::<Mmr>(
+        Location::new(3),
+        Location::new(2),
+        Location::new(9),
+    );
+    assert_eq!(rt;
+        floor,
+        Err(Error::FloorRegressed(Location::new(2), Location::new(3)))
+    );
+    assert_eq!(rt; Error::<Mmr>::from(JournalError::Volume), Error::Volume);
+    for (fault, text) in [
+        (DataFault::CommitOperation, "invalid commit operation"),
+        (DataFault::NotACommit, "last operation was not a commit"),
+        (DataFault::Witness, "invalid compact witness"),
+        (DataFault::NoTip, "witness journal has no tip"),
+        (
+            DataFault::ImportNotApplied,
+            "compact-sync import not applied",
+        ),
+    ] {
+        assert_eq!(rt; fault.text(), text);
+    }
+    Ok(())
+}
+
+#[test]
+fn a_released_ancestor_ends_the_chain(rt: HostRuntime) -> Result<(), Fail> {
+    let mut pool = Pool::new(rt.alloc());
+    let oldest = pool.insert('a', None)?;
+    assert_eq!(rt; pool.drawn(), 1);
+    let middle = pool.insert('b', Some(oldest))?;
+    assert_eq!(rt; pool.drawn(), 2);
+    let newest = pool.insert('c', Some(middle))?;
+    assert_eq!(rt; newest.number(), 2);
+    let reach = pool.ancestors_of(newest)?;
+    assert_eq!(rt; reach.as_slice(), [middle, oldest].as_slice());
+
+    pool.release(middle)?;
+    assert_eq!(rt; pool.get(middle), Err(PoolError::NoBatch));
+    assert_eq!(rt; pool.parent(newest), Ok(Some(middle)));
+    assert!(rt; pool.is_alive(oldest));
+    assert_eq!(rt; pool.ancestors_of(newest)?.len(), 0);
+    assert_eq!(rt; pool.holds(newest), 1);
+    pool.hold(newest)?;
+    pool.release(newest)?;
+    assert_eq!(rt; pool.get(newest), Ok(&'c'));
+    Ok(())
+}
