@@ -1,0 +1,202 @@
+-- What a change of the batches in memory means.
+use Rattle.std.proofs.Common.{◌≡◌, ℕ, ◌+◌, ◌<◌, ◌≤◌, Bool, true, false, zero, suc, List, [], ◌∷◌, append-nil, ◌++◌, length, map, take, get_or, refl, sym, ◌∙◌, ap, subst, arith}
+use Rattle.std.specs.Prelude.{nat_lt, nat_le, slice_set}
+use Rattle.std.specs.Bool.{Decides}
+use Rattle.std.specs.Cmp.Lexicographic.{pointwise}
+use Rattle.std.proofs.Math.ListN.{get_or-map}
+use Rattle.std.proofs.Math.Seq.{map-set_same, take-length, take-append_seam}
+use Rattle.std.proofs.lemmas.List.{map-set, length-take, length-append, length-take-le, take-append-le}
+use Rattle.std.proofs.lemmas.Bool.Decides.{nat_tests}
+use Rattle.std.proofs.lemmas.Slice.Eq.{slice_eq-Decides}
+use Rattle.log_model.specs.Batches as batches
+use Rattle.log_model.specs.Machine.{State, batch_at, with_batch, stands_at, max_leaves}
+use Rattle.twins.specs.declared.operation.Operation.{Operation}
+use Rattle.twins.specs.declared.batch.Batch.{Batch}
+use Rattle.twins.specs.declared.batch.Batch.TheVariants.{Unsealed, Sealed, Gone}
+use Rattle.twins.specs.declared.batch.UnsealedBatch.{UnsealedBatch}
+use Rattle.twins.specs.declared.batch.SealedBatch.{SealedBatch}
+use Rattle.twins.specs.declared.operation.Operation.TheVariants.{Append}
+use Rattle.twins.specs.declared.command.Answer.TheVariants as answer
+use Rattle.twins.specs.declared.command.Refusal.TheVariants.{StaleBatch, LocationOverflow}
+use Rattle.twins.specs.Step.{append_to, seal, apply, plain_commit, root_of_list}
+use Rattle.std.proofs.lemmas.Option.{slice_get_read, get_or_from_slice_get}
+use Rattle.twins.specs.SameOperations.{meaning, same_operation, operation_decide}
+use Rattle.twins.specs.StateOf.{batch_of, state_from, BatchKept}
+
+pub batch_at-from : (ops : List Operation) (bs : List Batch) (b : ℕ) → batch_at (state_from ops bs) b ≡ batch_of ops (get_or bs b Gone)
+batch_at-from ops bs b = get_or-map (batch_of ops) bs b Gone
+
+pub from-set : (ops : List Operation) (bs : List Batch) (b : ℕ) (x : Batch) → state_from ops (slice_set bs b x) ≡ with_batch (state_from ops bs) b (batch_of ops x)
+from-set ops bs b x = ap (λ (xs : List (batches.Batch Operation)). record { ops = ops; batches = xs }) (map-set (batch_of ops) bs b x)
+
+lists_decide : (xs ys : List Operation) → Decides (pointwise same_operation xs ys) (xs ≡ ys)
+lists_decide xs ys = slice_eq-Decides operation_decide xs ys _ refl
+
+is_false : (b : Bool) (P : Type 0) → Decides b P → (P → ⊥) → b ≡ false
+is_false false P h no_way = refl
+is_false true P h no_way = absurd (no_way (h.0 refl))
+
+pub stands : (s : State Operation) (list : List Operation) (n : ℕ) → s.ops ≡ take n list → stands_at meaning s list n ≡ true
+stands s list n e = (lists_decide s.ops (take n list)).1 e
+
+pub stands_not : (s : State Operation) (list : List Operation) (n : ℕ) → (length s.ops ≡ length (take n list) → ⊥) → stands_at meaning s list n ≡ false
+stands_not s list n differ = is_false _ _ (lists_decide s.ops (take n list)) (λ e. differ (ap length e))
+
+pub lt_false : (m n : ℕ) → n ≤ m → nat_lt m n ≡ false
+lt_false m n le = grind (arith, nat_tests)
+
+pub lt_true : (m n : ℕ) → m < n → nat_lt m n ≡ true
+lt_true m n lt = grind (arith, nat_tests)
+
+pub le_false : (m n : ℕ) → n < m → nat_le m n ≡ false
+le_false m n lt = grind (arith, nat_tests)
+
+-- an element that was read
+pub read_at : (bs : List Batch) (b : ℕ) (x : Batch) → b < length bs → x ≡ get_or bs b x → get_or bs b Gone ≡ x
+read_at bs b x lt e = get_or_from_slice_get bs b x Gone (slice_get_read bs (length bs) b x refl lt e)
+
+-- ---- an append
+
+pub append_done : (limit : ℕ) (ops : List Operation) (bs : List Batch) (b : ℕ) (v : List ℕ) (u u' : UnsealedBatch) → get_or bs b Gone ≡ Unsealed u
+    → length v ≤ limit → u.base + length u.own.items < max_leaves → u'.base ≡ u.base → u'.own.items ≡ u.own.items ++ (Append v ∷ [])
+    → (answer.Done, state_from ops (slice_set bs b (Unsealed u'))) ≡ append_to limit (state_from ops bs) b v (batch_at (state_from ops bs) b)
+append_done limit ops bs b v u u' e short few base own =
+    rw (batch_at-from ops bs b, e, lt_false limit (length v) short, le_false max_leaves (u.base + length u.own.items) few)
+    (ap (λ s. (answer.Done, s)) (from-set ops bs b (Unsealed u') ∙ rw (base, own) refl))
+
+-- ---- an apply
+
+length-shared : (ops own : List Operation) (shared n : ℕ) → n ≤ shared → shared ≤ length ops → length (take n (take shared ops ++ own)) ≡ n
+length-shared ops own shared n low high =
+    let front : length (take shared ops) ≡ shared = length-take-le shared ops high in
+    let whole = length-append (take shared ops) own in
+    length-take-le n (take shared ops ++ own) (omega arith)
+
+pub apply_stale : (ops : List Operation) (bs : List Batch) (b : ℕ) (c : SealedBatch) → get_or bs b Gone ≡ Sealed c → BatchKept ops (Sealed c) → (length ops ≡ c.boundary → ⊥)
+    → (answer.Refused StaleBatch, state_from ops (slice_set bs b (Sealed c))) ≡ apply (state_from ops bs) b (batch_at (state_from ops bs) b)
+apply_stale ops bs b c e kept differ =
+    let size = length-shared ops c.own.items c.shared c.boundary kept.0 kept.1 in
+    let stale : stands_at meaning (state_from ops bs) (take c.shared ops ++ c.own.items) c.boundary ≡ false = stands_not (state_from ops bs) _ _ (λ same. differ (same ∙ size)) in
+    let still : map (batch_of ops) (slice_set bs b (Sealed c)) ≡ map (batch_of ops) bs = map-set_same (batch_of ops) bs b (Sealed c) Gone (ap (batch_of ops) (sym e)) in
+    rw (batch_at-from ops bs b, e, stale, still) refl
+
+-- a batch is kept, and means the same, over a longer log
+pub kept_longer : (ops more : List Operation) (x : Batch) → BatchKept ops x → BatchKept (ops ++ more) x
+kept_longer ops more (Unsealed u) kept = let l = length-append ops more in (omega (arith, l, kept.0), kept.1)
+kept_longer ops more (Sealed c) kept =
+    let l = length-append ops more in
+    (kept.0, omega (arith, l, kept.1), kept.2, rw (take-append-le c.shared ops more kept.1) kept.3)
+kept_longer ops more Gone kept = tt
+
+same_longer : (ops more : List Operation) (x : Batch) → BatchKept ops x → batch_of (ops ++ more) x ≡ batch_of ops x
+same_longer ops more (Unsealed u) kept = rw (take-append-le u.base ops more kept.0) refl
+same_longer ops more (Sealed c) kept = rw (take-append-le c.shared ops more kept.1) refl
+same_longer ops more Gone kept = refl
+
+all_longer : (ops more : List Operation) (bs : List Batch) → ((b : ℕ) → BatchKept ops (get_or bs b Gone)) → map (batch_of (ops ++ more)) bs ≡ map (batch_of ops) bs
+all_longer ops more [] kept = refl
+all_longer ops more (x ∷ bs) kept = rw (same_longer ops more x (kept 0), all_longer ops more bs (λ b. kept (suc b))) refl
+
+-- the log at the boundary of a batch shares all of its list that it can
+shares_all : (ops : List Operation) (c : SealedBatch) → BatchKept ops (Sealed c) → length ops ≡ c.boundary → take c.shared ops ≡ ops
+shares_all ops c kept e = let s : c.shared ≡ length ops = omega (arith, e, kept.0, kept.1) in rw s (take-length ops)
+
+pub apply_done : (ops ops' : List Operation) (bs : List Batch) (b : ℕ) (c c' : SealedBatch) → get_or bs b Gone ≡ Sealed c → ((q : ℕ) → BatchKept ops (get_or bs q Gone))
+    → length ops ≡ c.boundary → ops' ≡ ops ++ c.own.items → c'.boundary ≡ c.boundary → c'.shared ≡ length ops' → c'.own.items ≡ []
+    → (answer.Applied, state_from ops' (slice_set bs b (Sealed c'))) ≡ apply (state_from ops bs) b (batch_at (state_from ops bs) b)
+apply_done ops ops' bs b c c' e kept at_end longer boundary shared own =
+    let P : Batch → Type 0 = BatchKept ops in
+    let here : BatchKept ops (Sealed c) = subst P e (kept b) in
+    let front = shares_all ops c here at_end in
+    let whole : take c.shared ops ++ c.own.items ≡ ops' = rw front (sym longer) in
+    let fresh : stands_at meaning (state_from ops bs) (take c.shared ops ++ c.own.items) c.boundary ≡ true =
+    stands (state_from ops bs) _ _ (sym (ap (λ (xs : List Operation). take c.boundary (xs ++ c.own.items)) front ∙ rw (sym at_end) (take-append_seam ops c.own.items))) in
+    let this : batch_of ops' (Sealed c') ≡ batch_of ops' (Sealed c) =
+    rw (boundary, shared, own, longer, take-length (ops ++ c.own.items), take-append-le c.shared ops c.own.items here.1, front, append-nil (ops ++ c.own.items)) refl in
+    let still : map (batch_of ops') (slice_set bs b (Sealed c')) ≡ map (batch_of ops) bs =
+    map-set_same (batch_of ops') bs b (Sealed c') Gone (this ∙ ap (batch_of ops') (sym e)) ∙ rw longer (all_longer ops c.own.items bs kept) in
+    rw (batch_at-from ops bs b, e, fresh, still, whole) refl
+
+-- what holds of each batch holds where one is replaced, or added
+pub set_keeps : (P : Batch → Type 0) (bs : List Batch) (b : ℕ) (x : Batch) → ((q : ℕ) → P (get_or bs q Gone)) → P x → (q : ℕ) → P (get_or (slice_set bs b x) q Gone)
+set_keeps P [] b x f h q = f q
+set_keeps P (y ∷ bs) zero x f h zero = h
+set_keeps P (y ∷ bs) zero x f h (suc q) = f (suc q)
+set_keeps P (y ∷ bs) (suc b) x f h zero = f zero
+set_keeps P (y ∷ bs) (suc b) x f h (suc q) = set_keeps P bs b x (λ r. f (suc r)) h q
+
+pub push_keeps : (P : Batch → Type 0) (bs : List Batch) (x : Batch) → ((q : ℕ) → P (get_or bs q Gone)) → P x → (q : ℕ) → P (get_or (bs ++ (x ∷ [])) q Gone)
+push_keeps P [] x f h zero = h
+push_keeps P [] x f h (suc q) = f (suc q)
+push_keeps P (y ∷ bs) x f h zero = f zero
+push_keeps P (y ∷ bs) x f h (suc q) = push_keeps P bs x (λ r. f (suc r)) h q
+
+pub kept_applied : (ops ops' : List Operation) (bs : List Batch) (b : ℕ) (c c' : SealedBatch) → get_or bs b Gone ≡ Sealed c → ((q : ℕ) → BatchKept ops (get_or bs q Gone))
+    → length ops ≡ c.boundary → ops' ≡ ops ++ c.own.items → c'.boundary ≡ c.boundary → c'.shared ≡ length ops' → c'.own.items ≡ [] → c'.root ≡ c.root
+    → (length ops' ≤ max_leaves) × (c.root ≡ root_of_list ops') × ((q : ℕ) → BatchKept ops' (get_or (slice_set bs b (Sealed c')) q Gone))
+kept_applied ops ops' bs b c c' e kept at_end longer boundary shared own root =
+    let P : Batch → Type 0 = BatchKept ops in
+    let P' : Batch → Type 0 = BatchKept ops' in
+    let here : BatchKept ops (Sealed c) = subst P e (kept b) in
+    let front = shares_all ops c here at_end in
+    let size : length ops' ≡ length ops + length c.own.items = rw longer (length-append ops c.own.items) in
+    let few : length ops' ≤ max_leaves = omega (arith, size, at_end, here.0, here.1, here.2) in
+    let whole : c.root ≡ root_of_list ops' = here.3 ∙ ap root_of_list (rw front (sym longer)) in
+    let all_of : take (length ops') ops' ++ [] ≡ ops' = rw take-length (append-nil ops') in
+    let this : BatchKept ops' (Sealed c') =
+    (omega (arith, boundary, shared, size, at_end), omega (arith, shared), rw own (omega (arith, shared, few)), rw (root, shared, own, all_of) whole) in
+    let others : (q : ℕ) → BatchKept ops' (get_or bs q Gone) = λ q. rw longer (kept_longer ops c.own.items (get_or bs q Gone) (kept q)) in
+    (few, whole, set_keeps P' bs b (Sealed c') others this)
+
+-- ---- a seal
+
+set_set : (bs : List Batch) (b : ℕ) (x y : Batch) → slice_set (slice_set bs b x) b y ≡ slice_set bs b y
+set_set [] b x y = refl
+set_set (z ∷ bs) zero x y = refl
+set_set (z ∷ bs) (suc b) x y = ap (λ (ys : List Batch). z ∷ ys) (set_set bs b x y)
+
+from-sets : (ops : List Operation) (bs : List Batch) (b : ℕ) (x y : Batch) → state_from ops (slice_set (slice_set bs b x) b y) ≡ with_batch (state_from ops bs) b (batch_of ops y)
+from-sets ops bs b x y = ap (state_from ops) (set_set bs b x y) ∙ from-set ops bs b y
+
+length-front : (ops : List Operation) (n : ℕ) → n ≤ length ops → length (take n (take n ops)) ≡ n
+length-front ops n le = length-take-le n (take n ops) (let l = length-take-le n ops le in omega (arith, l))
+
+pub seal_stale : (ops : List Operation) (bs : List Batch) (b : ℕ) (u : UnsealedBatch) (x : Batch) → get_or bs b Gone ≡ Unsealed u → BatchKept ops (Unsealed u) → (length ops ≡ u.base → ⊥)
+    → (answer.Refused StaleBatch, state_from ops (slice_set (slice_set bs b x) b Gone)) ≡ seal (state_from ops bs) b (batch_at (state_from ops bs) b)
+seal_stale ops bs b u x e kept differ =
+    let stale : stands_at meaning (state_from ops bs) (take u.base ops) u.base ≡ false = stands_not (state_from ops bs) _ _ (λ same. differ (same ∙ length-front ops u.base kept.0)) in
+    rw (batch_at-from ops bs b, e, stale, from-sets ops bs b x Gone) refl
+
+-- the log at the base of a batch is the list on which it stands
+at_base : (ops : List Operation) (bs : List Batch) (n : ℕ) → length ops ≡ n → stands_at meaning (state_from ops bs) (take n ops) n ≡ true
+at_base ops bs n e = stands (state_from ops bs) _ _ (sym (rw (sym e, take-length ops) (take-length ops)))
+
+pub seal_full : (ops : List Operation) (bs : List Batch) (b : ℕ) (u : UnsealedBatch) (x : Batch) (size : ℕ) → get_or bs b Gone ≡ Unsealed u → length ops ≡ u.base
+    → size ≡ u.base + length u.own.items + 1 → max_leaves < size
+    → (answer.Refused (LocationOverflow size), state_from ops (slice_set (slice_set bs b x) b Gone)) ≡ seal (state_from ops bs) b (batch_at (state_from ops bs) b)
+seal_full ops bs b u x size e at_end count over =
+    let full : nat_lt max_leaves (u.base + length u.own.items + 1) ≡ true = lt_true max_leaves (u.base + length u.own.items + 1) (omega (arith, count, over)) in
+    rw (batch_at-from ops bs b, e, at_base ops bs u.base at_end, full, from-sets ops bs b x Gone, count) refl
+
+pub seal_done : (ops : List Operation) (bs : List Batch) (b : ℕ) (u : UnsealedBatch) (x : Batch) (size : ℕ) (c : SealedBatch) → get_or bs b Gone ≡ Unsealed u → length ops ≡ u.base
+    → size ≡ u.base + length u.own.items + 1 → size ≤ max_leaves → c.boundary ≡ u.base → c.shared ≡ u.base → c.own.items ≡ u.own.items ++ (plain_commit ∷ []) → c.root ≡ root_of_list (ops ++ c.own.items)
+    → (answer.Sealed size c.root, state_from ops (slice_set (slice_set bs b x) b (Sealed c))) ≡ seal (state_from ops bs) b (batch_at (state_from ops bs) b)
+seal_done ops bs b u x size c e at_end count fits boundary shared own root =
+    let room : nat_lt max_leaves (u.base + length u.own.items + 1) ≡ false = lt_false max_leaves (u.base + length u.own.items + 1) (omega (arith, count, fits)) in
+    let front : take u.base ops ≡ ops = rw (sym at_end) (take-length ops) in
+    let long : length (ops ++ (u.own.items ++ (plain_commit ∷ []))) ≡ size = omega (arith, at_end, count, length-append ops (u.own.items ++ (plain_commit ∷ [])), length-append u.own.items (plain_commit ∷ [])) in
+    rw (batch_at-from ops bs b, e, at_base ops bs u.base at_end, room, from-sets ops bs b x (Sealed c), boundary, shared, root, own, front, long) refl
+
+pub kept_sealed : (ops : List Operation) (bs : List Batch) (b : ℕ) (u : UnsealedBatch) (x : Batch) (size : ℕ) (c : SealedBatch) → ((q : ℕ) → BatchKept ops (get_or bs q Gone)) → length ops ≡ u.base
+    → size ≡ u.base + length u.own.items + 1 → size ≤ max_leaves → c.boundary ≡ u.base → c.shared ≡ u.base → c.own.items ≡ u.own.items ++ (plain_commit ∷ []) → c.root ≡ root_of_list (ops ++ c.own.items)
+    → (q : ℕ) → BatchKept ops (get_or (slice_set (slice_set bs b x) b (Sealed c)) q Gone)
+kept_sealed ops bs b u x size c kept at_end count fits boundary shared own root =
+    let P : Batch → Type 0 = BatchKept ops in
+    let front : take c.shared ops ≡ ops = rw (shared, sym at_end) (take-length ops) in
+    let l : length c.own.items ≡ length u.own.items + 1 = ap length own ∙ length-append u.own.items (plain_commit ∷ []) in
+    let this : BatchKept ops (Sealed c) = (omega (arith, boundary, shared), omega (arith, shared, at_end), omega (arith, shared, l, count, fits), rw front root) in
+    rw (set_set bs b x (Sealed c)) (set_keeps P bs b (Sealed c) kept this)
+
+-- a list that stands within another isn't longer
+pub shorter : (s : State Operation) (list : List Operation) (n : ℕ) → stands_at meaning s list n ≡ true → length s.ops ≤ length list
+shorter s list n e = let same : s.ops ≡ take n list = (lists_decide s.ops (take n list)).0 e in rw same (omega (arith, length-take n list))

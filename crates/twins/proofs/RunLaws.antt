@@ -1,0 +1,126 @@
+-- The laws of whole runs.
+use Rattle.std.proofs.Common.{◌≡◌, ◌⊎◌, inl, inr, ℕ, zero, suc, ◌+◌, ◌<◌, ◌≤◌, Bool, true, false, cond, List, [], ◌∷◌, ◌++◌, length, take, get_or, Some, refl, ap, subst, arith}
+use Rattle.std.specs.Prelude.{nat_lt, nat_le, slice_get, unwrap_or}
+use Rattle.std.specs.List.Sorted.{IsNonDecreasingBy}
+use Rattle.log_model.specs.Batches.{Batch, Unsealed, Sealed, Gone, size_of, effective_boundary}
+use Rattle.log_model.specs.Machine.{State, max_leaves, batch_at, with_batch, stands_at}
+use Rattle.twins.specs.SameOperations.{meaning}
+use Rattle.twins.specs.declared.operation.Operation.{Operation}
+use Rattle.twins.specs.declared.command.Command.{Command}
+use Rattle.twins.specs.declared.command.Command.TheVariants as command
+use Rattle.twins.specs.declared.command.Answer.TheVariants as answer
+use Rattle.twins.specs.declared.command.Refusal.{Refusal}
+use Rattle.twins.specs.declared.command.Reply.{Reply}
+use Rattle.twins.specs.Step.{Outcome, step, reply, append_to, seal, apply}
+use Rattle.twins.specs.Trace.{trace, replies_from, state_after, fresh_state}
+use Rattle.twins.specs.Laws.{SizesNeverFall, TellsList, RepliesTellLists, RunsContinue, RefusalsKeep}
+use Rattle.twins.proofs.Representation.{shorter}
+
+-- what holds of both choices holds of the one that a test makes
+either : (P : Outcome → Type 0) (b : Bool) (x y : Outcome) → (b ≡ true → P x) → (b ≡ false → P y) → P (cond b x y)
+either P true x y p q = p refl
+either P false x y p q = q refl
+
+-- ---- sizes
+
+abbrev Grows : State Operation → Outcome → Type 0
+Grows s o = length s.ops ≤ length o.1.ops
+
+append_grows : (limit : ℕ) (s : State Operation) (b : ℕ) (v : List ℕ) (x : Batch Operation) → Grows s (append_to limit s b v x)
+append_grows limit s b v (Unsealed u) = either (Grows s) (nat_lt limit (length v)) _ _ (λ e. omega arith) (λ e. either (Grows s) (nat_le max_leaves (size_of u)) _ _ (λ f. omega arith) (λ f. omega arith))
+append_grows limit s b v (Sealed c) = omega arith
+append_grows limit s b v Gone = omega arith
+
+seal_grows : (s : State Operation) (b : ℕ) (x : Batch Operation) → Grows s (seal s b x)
+seal_grows s b (Unsealed u) = either (Grows s) (stands_at meaning s u.list (effective_boundary u)) _ _ (λ e. either (Grows s) (nat_lt max_leaves (size_of u + 1)) _ _ (λ f. omega arith) (λ f. omega arith)) (λ e. omega arith)
+seal_grows s b (Sealed c) = omega arith
+seal_grows s b Gone = omega arith
+
+apply_grows : (s : State Operation) (b : ℕ) (x : Batch Operation) → Grows s (apply s b x)
+apply_grows s b (Sealed c) = either (Grows s) (stands_at meaning s c.list c.boundary) _ _ (λ e. shorter s c.list c.boundary e) (λ e. omega arith)
+apply_grows s b (Unsealed u) = omega arith
+apply_grows s b Gone = omega arith
+
+step_grows : (limit : ℕ) (s : State Operation) (c : Command) → Grows s (step limit s c)
+step_grows limit s command.New = omega arith
+step_grows limit s (command.Append b v) = append_grows limit s b v (batch_at s b)
+step_grows limit s (command.Seal b) = seal_grows s b (batch_at s b)
+step_grows limit s (command.Apply b) = apply_grows s b (batch_at s b)
+step_grows limit s command.Size = omega arith
+
+-- no later reply tells a smaller size
+later_larger : (limit : ℕ) (s : State Operation) (cs : List Command) (j : ℕ) (d : Reply) → j < length (replies_from limit s cs) → length s.ops ≤ (get_or (replies_from limit s cs) j d).size
+later_larger limit s [] j d lt = absurd (omega arith)
+later_larger limit s (c ∷ cs) zero d lt = step_grows limit s c
+later_larger limit s (c ∷ cs) (suc j) d lt = let one = step_grows limit s c in let rest = later_larger limit (step limit s c).1 cs j d (omega arith) in omega (arith, one, rest)
+
+never_fall_from : (limit : ℕ) (s : State Operation) (cs : List Command) → IsNonDecreasingBy (λ (r : Reply). r.size) (replies_from limit s cs)
+never_fall_from limit s [] i j d le lt = absurd (omega arith)
+never_fall_from limit s (c ∷ cs) zero zero d le lt = omega arith
+never_fall_from limit s (c ∷ cs) zero (suc j) d le lt = later_larger limit (step limit s c).1 cs j d (omega arith)
+never_fall_from limit s (c ∷ cs) (suc i) zero d le lt = absurd (omega arith)
+never_fall_from limit s (c ∷ cs) (suc i) (suc j) d le lt = never_fall_from limit (step limit s c).1 cs i j d (omega arith) (omega arith)
+
+pub never_fall : SizesNeverFall
+unfolding trace
+never_fall limit cs zero zero d le lt = omega arith
+never_fall limit cs zero (suc j) d le lt = later_larger limit fresh_state cs j d (omega arith)
+never_fall limit cs (suc i) zero d le lt = absurd (omega arith)
+never_fall limit cs (suc i) (suc j) d le lt = never_fall_from limit fresh_state cs i j d (omega arith) (omega arith)
+
+-- ---- what replies tell
+
+some_is : (a b : Reply) → Some a ≡ Some b → a ≡ b
+some_is a b e = ap (λ o. unwrap_or o a) e
+
+this_tells : (o : Outcome) (r : Reply) → Some (reply o) ≡ Some r → TellsList r o.1.ops
+this_tells o r e = subst (λ (x : Reply). TellsList x o.1.ops) (some_is (reply o) r e) (record { size = refl; full = refl; compact = refl })
+
+tell_from : (limit : ℕ) (s : State Operation) (cs : List Command) (i : ℕ) (r : Reply) → slice_get (replies_from limit s cs) i ≡ Some r → TellsList r (state_after limit s (take (suc i) cs)).ops
+tell_from limit s [] i r e = absurd (cc)
+tell_from limit s (c ∷ cs) zero r e = this_tells (step limit s c) r e
+tell_from limit s (c ∷ cs) (suc i) r e = tell_from limit (step limit s c).1 cs i r e
+
+pub tell_lists : RepliesTellLists
+unfolding trace
+tell_lists limit cs zero r e = this_tells (answer.Opened 1 0, fresh_state) r e
+tell_lists limit cs (suc i) r e = tell_from limit fresh_state cs i r e
+
+-- ---- runs that continue
+
+continue_from : (limit : ℕ) (s : State Operation) (cs ds : List Command) → replies_from limit s (cs ++ ds) ≡ replies_from limit s cs ++ replies_from limit (state_after limit s cs) ds
+continue_from limit s [] ds = refl
+continue_from limit s (c ∷ cs) ds = ap (λ (rs : List Reply). reply (step limit s c) ∷ rs) (continue_from limit (step limit s c).1 cs ds)
+
+pub continues : RunsContinue
+unfolding trace
+continues limit cs ds = ap (λ (rs : List Reply). reply (answer.Opened 1 0, fresh_state) ∷ rs) (continue_from limit fresh_state cs ds)
+
+-- ---- refusals
+
+abbrev Keeps : State Operation → Command → Outcome → Type 0
+Keeps s c o = (r : Refusal) → o.0 ≡ answer.Refused r → (o.1 ≡ s) ⊎ ((b : ℕ) × (c ≡ command.Seal b) × (o.1 ≡ with_batch s b Gone))
+
+append_keeps : (limit : ℕ) (s : State Operation) (b : ℕ) (v : List ℕ) (c : Command) (x : Batch Operation) → Keeps s c (append_to limit s b v x)
+append_keeps limit s b v c (Unsealed u) = either (Keeps s c) (nat_lt limit (length v)) _ _ (λ e r is. inl refl) (λ e. either (Keeps s c) (nat_le max_leaves (size_of u)) _ _ (λ f r is. inl refl) (λ f r is. absurd (cc)))
+append_keeps limit s b v c (Sealed d) = λ r is. inl refl
+append_keeps limit s b v c Gone = λ r is. inl refl
+
+seal_keeps : (s : State Operation) (b : ℕ) (x : Batch Operation) → Keeps s (command.Seal b) (seal s b x)
+seal_keeps s b (Unsealed u) = either (Keeps s (command.Seal b)) (stands_at meaning s u.list (effective_boundary u)) _ _
+    (λ e. either (Keeps s (command.Seal b)) (nat_lt max_leaves (size_of u + 1)) _ _ (λ f r is. inr (b, refl, refl)) (λ f r is. absurd (cc)))
+    (λ e r is. inr (b, refl, refl))
+seal_keeps s b (Sealed c) = λ r is. inl refl
+seal_keeps s b Gone = λ r is. inl refl
+
+apply_keeps : (s : State Operation) (b : ℕ) (c : Command) (x : Batch Operation) → Keeps s c (apply s b x)
+apply_keeps s b c (Sealed d) = either (Keeps s c) (stands_at meaning s d.list d.boundary) _ _ (λ e r is. absurd (cc)) (λ e r is. inl refl)
+apply_keeps s b c (Unsealed u) = λ r is. inl refl
+apply_keeps s b c Gone = λ r is. inl refl
+
+pub keep : RefusalsKeep
+keep limit s command.New r is = absurd (cc)
+keep limit s (command.Append b v) r is = append_keeps limit s b v (command.Append b v) (batch_at s b) r is
+keep limit s (command.Seal b) r is = seal_keeps s b (batch_at s b) r is
+keep limit s (command.Apply b) r is = apply_keeps s b (command.Apply b) (batch_at s b) r is
+keep limit s command.Size r is = absurd (cc)

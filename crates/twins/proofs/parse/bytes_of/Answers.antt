@@ -1,0 +1,23 @@
+use Rattle.std.proofs.Common.{◌≢◌, inl, inr, sym, ◌∙◌}
+use Rattle.std.specs.Prelude.{codes}
+use Rattle.std.proofs.lemmas.Bool.{eqb-false, false≢true}
+use Rattle.std.proofs.lemmas.Slice.Eq.{bytes_eq-Decides}
+use Rattle.twins.proofs.HexWords.{word_read, word_unread}
+use Rattle.twins.proofs.parse.bytes_of.Goals as goal
+
+pub returns-in_ok-from_slice-in-Ok-clause-bytes : goal.returns-in_ok-from_slice-in-Ok-clause-bytes
+returns-in_ok-from_slice-in-Ok-clause-bytes c =
+    let whole = c.in-Ok.ensures.ok in
+    let same = c.in_ok-from_slice-in-Ok.ensures.same ∙ c.deref.ensures.value in
+    rw same (word_read c.args.word.now c.in-Ok.bytes.items (eqb-false _ _ (sym c.if-is_empty.ensures)) whole)
+
+pub returns-in_default : goal.returns-in_default
+returns-in_default c =
+    let other : c.args.word.now ≢ codes "." = (λ e. false≢true (c.if-eq.ensures ∙ (bytes_eq-Decides c.args.word.now c.as_slice.result.now).1 (e ∙ sym c.as_slice.ensures))) in
+    record {
+      bytes = elim c.in-Err.ensures.err [
+        | inl memory ↦ absurd (c.in_default.not-OutOfMemory memory)
+        | inr failed ↦ word_unread c.args.word.now c.in-Err.e other failed
+      ];
+      memory = tt;
+    }

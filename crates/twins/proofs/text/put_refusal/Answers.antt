@@ -1,0 +1,7 @@
+use Rattle.twins.proofs.text.put_refusal.Goals as goal
+
+pub returns-in-ValueTooLong-clause-text : goal.returns-in-ValueTooLong-clause-text
+returns-in-ValueTooLong-clause-text g c = rw c.in-ValueTooLong.is c.put_number-in-ValueTooLong.ensures.text
+
+pub returns-in-LocationOverflow-clause-text : goal.returns-in-LocationOverflow-clause-text
+returns-in-LocationOverflow-clause-text g c = rw c.in-LocationOverflow.is c.put_number-in-LocationOverflow.ensures.text

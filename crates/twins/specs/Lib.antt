@@ -1,0 +1,16 @@
+pub mod Names
+pub mod Config
+pub mod Lines
+pub mod Grammar
+pub mod Bad
+pub mod Encoding
+pub mod SameOperations
+pub mod Step
+pub mod Trace
+pub mod StateOf
+pub mod Pending
+pub mod Text
+pub mod Outcome
+pub mod Report
+pub mod Laws
+pub mod Good

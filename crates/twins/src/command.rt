@@ -1,0 +1,102 @@
+use codec_base::{Bytes, ListOf};
+use tree_shape::Sha256Digest;
+
+/// A command of the program, one line of its input.
+#[derive(PartialEq, Eq, Drop)]
+pub enum Command {
+    /// Makes an unsealed batch on the present state.
+    New,
+    /// Adds a value to an unsealed batch.
+    Append(u64, Bytes),
+    /// Closes an unsealed batch by a commit.
+    Seal(u64),
+    /// Makes the list of a sealed batch the list.
+    Apply(u64),
+    /// Asks for the size.
+    Size,
+}
+
+/// Why a command is refused.
+#[derive(Clone, Copy, Debug, PartialEq, Eq)]
+pub enum Refusal {
+    /// The batch of this number isn't there in the phase that the command needs.
+    NoBatch(u64),
+    /// The value has this length, which is above the limit.
+    ValueTooLong(u64),
+    /// The batch doesn't fit the present list.
+    StaleBatch,
+    /// This size would be above the greatest.
+    LocationOverflow(u64),
+}
+
+/// What a command answers.
+#[derive(Clone, Copy, Debug, PartialEq, Eq)]
+pub enum Answer {
+    /// The opening: the size and the first location that is kept.
+    Opened { size: u64, start: u64 },
+    /// The number of a new batch.
+    Batch(u64),
+    /// A value was added.
+    Done,
+    /// The size and the root of a sealed batch.
+    Sealed { size: u64, root: Sha256Digest },
+    /// A batch was applied.
+    Applied,
+    /// The size, the first location that is kept and the floor of the last commit.
+    Size { size: u64, start: u64, floor: u64 },
+    /// Nothing was done, for this reason.
+    Refused(Refusal),
+}
+
+/// An answer, with the size and both roots after the command.
+#[derive(Clone, Copy, Debug, PartialEq, Eq)]
+pub struct Reply {
+    pub answer: Answer,
+    pub size: u64,
+    pub full_root: Sha256Digest,
+    pub compact_root: Sha256Digest,
+}
+
+/// The replies of a run, the one to the opening first.
+pub type Replies = ListOf<Reply>;
+
+/// What ends a run.
+#[derive(Clone, Copy, Debug, PartialEq, Eq)]
+pub enum Fault {
+    /// The volume failed.
+    Volume,
+    /// A log isn't 0..0, or the map isn't empty.
+    NotFresh,
+    /// There is no memory.
+    Memory,
+}
+
+/// A run that a fault ended, with the replies before it.
+#[derive(Drop)]
+pub struct Stopped {
+    pub fault: Fault,
+    pub replies: Replies,
+}
+
+/// How the program ends.
+#[derive(Clone, Copy, Debug, PartialEq, Eq)]
+pub enum Status {
+    /// The input was read and run, and all replies were written.
+    Done,
+    /// The words have no known form.
+    BadWords,
+    /// This line, counted from 1, isn't a command.
+    BadLine(u64),
+    /// The input couldn't be read.
+    ReadFault,
+    /// The output couldn't be written.
+    WriteFault,
+    /// The volume failed.
+    Volume,
+    /// The volume holds something.
+    NotFresh,
+    /// There is no memory.
+    Memory,
+    /// The input is too long.
+    TooLong,
+}

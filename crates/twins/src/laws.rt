@@ -1,0 +1,33 @@
+//! Laws of the definitions that the run is stated by.
+ghost use Rattle.twins.specs.Good.{StepsStayGood, RunsAreGood};
+ghost use Rattle.twins.specs.Laws.{SizesNeverFall, RepliesTellLists, RunsContinue, RefusalsKeep};
+
+/// The sizes in the replies of a run never fall.
+pub fn sizes_never_fall()
+    ensures { SizesNeverFall }
+{}
+
+/// Each reply of a run tells the list after the commands up to it, and nothing else of them.
+pub fn replies_tell_lists()
+    ensures { RepliesTellLists }
+{}
+
+/// A run of two lists of commands is the run of the first, continued by the second.
+pub fn runs_continue()
+    ensures { RunsContinue }
+{}
+
+/// A refused command changes nothing, or is a seal and loses its batch.
+pub fn refusals_keep()
+    ensures { RefusalsKeep }
+{}
+
+/// A step makes a good state of a good state.
+pub fn steps_stay_good()
+    ensures { StepsStayGood }
+{}
+
+/// Each state of a run is good.
+pub fn runs_are_good()
+    ensures { RunsAreGood }
+{}

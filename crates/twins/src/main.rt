@@ -1,0 +1,49 @@
+//! Two databases of one log, driven side by side.
+#![tactic(auto)]
+
+mod batch;
+mod command;
+mod config;
+mod laws;
+mod lines;
+mod machine;
+mod main_call;
+mod operation;
+mod parse;
+mod piece;
+mod report;
+mod run;
+#[cfg(test)]
+mod run_tests;
+mod text;
+
+use command::Status;
+use host_edge::{StdSink, StdSource};
+use main_call::twins_main;
+use memory_volume::MemoryVolume;
+use std::env;
+use std::process::ExitCode;
+
+/// Runs the program over standard input and output and a volume in memory, and says how it ends.
+fn run_program(rt: &HostRuntime) -> Status {
+    let alloc = rt.alloc();
+    let Ok(args) = env::args(rt) else {
+        return Status::BadWords;
+    };
+    let Ok(words) = args.skip(1).collect::<Vec<String>>(alloc) else {
+        return Status::Memory;
+    };
+    let mut input = StdSource::new(rt.stdin());
+    let mut output = StdSink::new(rt.stdout());
+    let mut volume = MemoryVolume::new(alloc);
+    twins_main(alloc, &words, &mut input, &mut output, &mut volume)
+}
+
+fn main(rt: HostRuntime) -> ExitCode {
+    let status = run_program(&rt);
+    if status != Status::Done {
+        // The code says it too, where standard error can't be written.
+        let _ = eprintln!(rt; "{status}");
+    }
+    ExitCode::from(status.code())
+}

@@ -1,0 +1,149 @@
+ghost use Rattle.std.specs.Prelude.{◌≡◌, ◌⊎◌, ◌↔◌, ℕ, ◌-◌, ◌^◌, ◌<◌, length, IfSome, IfOk, IfErr, OnOk};
+ghost use Rattle.std.specs.Io.KnownBytes.{Keeps};
+ghost use Rattle.codec_base.specs.Causes.{HasCause, Rose};
+ghost use Rattle.codec_base.specs.Writing.{Writes};
+ghost use Rattle.volume_base.specs.Volume.{SameContents, PastStays};
+ghost use Rattle.twins.specs.Config.{standard_config};
+ghost use Rattle.twins.specs.Lines.{lines_of};
+ghost use Rattle.twins.specs.Bad.{IsFirstBad};
+ghost use Rattle.twins.specs.Text.{text_of};
+ghost use Rattle.twins.specs.Trace.{IsFresh};
+ghost use Rattle.twins.specs.Outcome.{IsWhole, IsInput, IsAnswered, IsCutOff, IsStopped, IsEarly, IsReadStatus, IsRunStatus, fault_status};
+
+use crate::command::{Command, Fault, Replies, Status};
+use crate::config::TwinConfig;
+use crate::parse::{LineError, parse_commands};
+use crate::run::run_twins;
+use crate::text::write_replies;
+use codec_base::{ReadAllError, Sink, Source, WriteFailed, read_all};
+use std::alloc::Global;
+use volume_base::Volume;
+
+/// The longest input.
+const INPUT_LIMIT: u64 = 16777216;
+
+/// Reads the input to its end, and as commands; or says how the program ends.
+fn read_commands<I: Source>(alloc: Global, input: &mut I) -> Result<Vec<Command>, Status>
+    ensures input { IfOk result (λ commands. IsInput (I.left input.old) (I.left input.new) commands.items) }
+    ensures early { IfErr result (IsReadStatus (I.left input.old) (I.left input.new) (I.faults input.old) (I.faults input.new)) }
+{
+    let bytes = match read_all(alloc, input, INPUT_LIMIT) {
+        Ok(bytes) => bytes,
+        Err(ReadAllError::TooLong) => return Err(Status::TooLong),
+        Err(ReadAllError::Failed) => return Err(Status::ReadFault),
+        Err(ReadAllError::Memory) => return Err(Status::Memory),
+    };
+    match parse_commands(alloc, bytes.as_slice()) {
+        Ok(commands) => Ok(commands),
+        Err(LineError::Bad(n)) => Err(Status::BadLine(n)),
+        Err(LineError::Memory) => Err(Status::Memory),
+    }
+}
+
+/// Writes the text of replies, and passes it on.
+fn put_out<O: Sink>(replies: &Replies, output: &mut O) -> Result<(), WriteFailed>
+    ensures text { Writes (O.written output.old) (O.written output.new) result (text_of replies.now) }
+    ensures flushed { OnOk result (O.flushed output.new) }
+    ensures cause { HasCause (O.faults output.old) (O.faults output.new) result }
+{
+    write_replies(replies, output)?;
+    output.flush()
+}
+
+/// How the program ends after this fault of its run.
+fn status_of(fault: Fault) -> Status
+    ensures { result ≡ fault_status fault }
+{
+    match fault {
+        Fault::Volume => Status::Volume,
+        Fault::NotFresh => Status::NotFresh,
+        Fault::Memory => Status::Memory,
+    }
+}
+
+/// Runs commands over a volume under the program's configuration, and writes the replies.
+fn run_and_write<O: Sink, V: Volume>(
+    alloc: Global,
+    commands: &[Command],
+    output: &mut O,
+    volume: &mut V,
+) -> Status
+    ensures run { IsRunStatus commands.now (O.written output.old) (O.written output.new) (O.faults output.old) (O.faults output.new) (V.state volume.old).faults (V.state volume.new).faults result }
+    ensures flushed { result ≡ Status.Done → O.flushed output.new }
+    ensures fresh { ((result ≡ Status.Done) ⊎ (result ≡ Status.WriteFault)) → V.tells → IsFresh standard_config (V.state volume.old).log (V.state volume.old).map }
+    ensures not_fresh { result ≡ Status.NotFresh → V.tells → IsFresh standard_config (V.state volume.old).log (V.state volume.old).map → ⊥ }
+
+    // The volume stays as it was, whatever is answered.
+    ensures clock { (V.state volume.new).clock ≡ (V.state volume.old).clock }
+    ensures contents { V.tells → SameContents (V.state volume.old) (V.state volume.new) }
+    ensures images { V.tells → PastStays (V.state volume.old) (V.state volume.new) }
+
+    // Over a fresh volume with nothing set to fail the run ends by no fault but want of memory.
+    ensures complete { (V.state volume.old).steady → (V.state volume.old).faults < 2 ^ 64 - 1 → V.tells → IsFresh standard_config (V.state volume.old).log (V.state volume.old).map → ((result ≡ Status.Volume) ⊎ (result ≡ Status.NotFresh)) → ⊥ }
+{
+    let Ok(config) = TwinConfig::standard(alloc) else {
+        return Status::Memory;
+    };
+    match run_twins(alloc, &config, volume, commands) {
+        Ok(replies) => match put_out(&replies, output) {
+            Ok(()) => Status::Done,
+            Err(_) => Status::WriteFault,
+        },
+        Err(stopped) => {
+            // The run's fault is the answer, whatever comes of the text.
+            let _ = put_out(&stopped.replies, output);
+            status_of(stopped.fault)
+        }
+    }
+}
+
+/// Reads commands, runs them over a volume and writes the replies; says how the program ends.
+pub fn twins_main<I: Source, O: Sink, V: Volume>(
+    alloc: Global,
+    words: &[String],
+    input: &mut I,
+    output: &mut O,
+    volume: &mut V,
+) -> Status
+    ensures words { (result ≡ Status.BadWords) ↔ (0 < length words.now) }
+    ensures early { IsEarly result → (output.new ≡ output.old) × (volume.new ≡ volume.old) }
+
+    // Before the run.
+    ensures bad_line { (n : ℕ) → result ≡ Status.BadLine n → IsWhole (I.left input.old) (I.left input.new) × IfSome (I.left input.old) (λ bytes. IsFirstBad (lines_of bytes) n) }
+    ensures read_fault { result ≡ Status.ReadFault → Rose (I.faults input.old) (I.faults input.new) }
+    ensures too_long { result ≡ Status.TooLong → IfSome (I.left input.old) (λ bytes. 16777216 < length bytes) }
+
+    // After a whole run.
+    ensures done { result ≡ Status.Done → IsAnswered (I.left input.old) (I.left input.new) (O.written output.old) (O.written output.new) }
+    ensures flushed { result ≡ Status.Done → O.flushed output.new }
+    ensures write_fault { result ≡ Status.WriteFault → Rose (O.faults output.old) (O.faults output.new) }
+    ensures cut_off { result ≡ Status.WriteFault → IsCutOff (I.left input.old) (I.left input.new) (O.written output.old) (O.written output.new) }
+    ensures fresh { ((result ≡ Status.Done) ⊎ (result ≡ Status.WriteFault)) → V.tells → IsFresh standard_config (V.state volume.old).log (V.state volume.old).map }
+
+    // After a run that a fault ended.
+    ensures volume { result ≡ Status.Volume → Rose (V.state volume.old).faults (V.state volume.new).faults }
+    ensures not_fresh { result ≡ Status.NotFresh → V.tells → IsFresh standard_config (V.state volume.old).log (V.state volume.old).map → ⊥ }
+    ensures stopped { ((result ≡ Status.Volume) ⊎ (result ≡ Status.NotFresh)) → IsStopped (I.left input.old) (I.left input.new) (O.written output.old) (O.written output.new) (O.faults output.old) (O.faults output.new) }
+
+    // Want of memory, in the run or before it.
+    ensures memory { result ≡ Status.Memory → ((output.new ≡ output.old) × (volume.new ≡ volume.old)) ⊎ IsStopped (I.left input.old) (I.left input.new) (O.written output.old) (O.written output.new) (O.faults output.old) (O.faults output.new) }
+
+    // The volume stays as it was, whatever is answered.
+    ensures clock { (V.state volume.new).clock ≡ (V.state volume.old).clock }
+    ensures contents { V.tells → SameContents (V.state volume.old) (V.state volume.new) }
+    ensures images { V.tells → PastStays (V.state volume.old) (V.state volume.new) }
+
+    // Over a fresh volume with nothing set to fail the run ends by no fault but want of memory.
+    ensures complete { (V.state volume.old).steady → (V.state volume.old).faults < 2 ^ 64 - 1 → V.tells → IsFresh standard_config (V.state volume.old).log (V.state volume.old).map → ((result ≡ Status.Volume) ⊎ (result ≡ Status.NotFresh)) → ⊥ }
+{
+    if !words.is_empty() {
+        return Status::BadWords;
+    }
+    match read_commands(alloc, input) {
+        Ok(commands) => run_and_write(alloc, &commands, output, volume),
+        Err(status) => status,
+    }
+}
+
+#[cfg(test)]
+mod tests;

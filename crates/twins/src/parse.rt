@@ -1,0 +1,222 @@
+ghost use Rattle.std.specs.Prelude.{◌≡◌, [], ◌∷◌, ◌++◌, ℕ, List, codes, IfOk, IfErr, OnOk, IsOkUnless, MatchOption, MatchBool, MatchResult};
+ghost use Rattle.twins.specs.declared.command.Command.{Command};
+ghost use Rattle.twins.specs.Lines.{words_of};
+ghost use Rattle.twins.specs.declared.parse.LineError.TheVariants.{Memory};
+ghost use Rattle.twins.specs.Lines.{lines_of};
+ghost use Rattle.twins.specs.Grammar.{IsNumberWord, IsBytesWord, IsReading, Says, InputSays};
+ghost use Rattle.twins.specs.Bad.{IsCause, IsBadHere};
+
+use crate::command::Command;
+use crate::lines::{Lines, Words};
+use codec_base::{Bytes, CodecError};
+use hex::FromHexError;
+use std::alloc::{AllocError, Global};
+use std::str;
+
+/// Why an input isn't read as commands.
+#[derive(Clone, Copy, Debug, PartialEq, Eq)]
+pub enum LineError {
+    /// This line, counted from 1, is no command, and each before it is one.
+    Bad(u64),
+    /// There is no memory.
+    Memory,
+}
+
+impl From<CodecError> for LineError {
+    ghost from_gives = { λ _ e. e ≡ Memory };
+
+    fn from(_: CodecError) -> Self {
+        LineError::Memory
+    }
+}
+
+impl From<AllocError> for LineError {
+    ghost from_gives = { λ _ e. e ≡ Memory };
+
+    fn from(_: AllocError) -> Self {
+        LineError::Memory
+    }
+}
+
+/// The number that a word is, in decimal without sign and without zeros in front.
+fn number_of(word: &[u8]) -> Option<u64>
+    ensures { MatchOption result ((n : ℕ) → IsNumberWord word.now n → ⊥) (IsNumberWord word.now) }
+{
+    if word.is_empty() {
+        return None;
+    }
+    if word[0] == b'+' {
+        return None;
+    }
+    if word[0] == b'0' {
+        return if word.len() == 1 { Some(0) } else { None };
+    }
+    let Ok(text) = str::from_utf8(word) else {
+        return None;
+    };
+    let Ok(number) = text.parse::<u64>() else {
+        return None;
+    };
+    Some(number)
+}
+
+/// The bytes that a word stands for, in hexadecimal, or a full stop for none.
+fn bytes_of(alloc: Global, word: &[u8]) -> Result<Option<Bytes>, CodecError>
+    ensures bytes { IfOk result (λ o. MatchOption o ((value : List ℕ) → IsBytesWord word.now value → ⊥) (IsBytesWord word.now)) }
+    ensures memory { IsOkUnless result CodecError.Memory }
+{
+    if word == b".".as_slice() {
+        return Ok(Some(Bytes::new(alloc)));
+    }
+    if word.is_empty() {
+        return Ok(None);
+    }
+    match hex::decode(alloc, word) {
+        Ok(bytes) => Ok(Some(Bytes::from_slice(alloc, &bytes)?)),
+        Err(e) => match e {
+            FromHexError::OutOfMemory => Err(CodecError::Memory),
+            _ => Ok(None),
+        },
+    }
+}
+
+/// Reads the next word as a number.
+fn next_number(words: &mut Words<'_>) -> Option<u64>
+    ensures { MatchOption result ((number : List ℕ) (rest : List (List ℕ)) (n : ℕ) → words.old ≡ number ∷ rest → IsNumberWord number n → ⊥) (λ n. (number : List ℕ) × (words.old ≡ number ∷ words.new) × IsNumberWord number n) }
+{
+    let Some(word) = words.next_word() else {
+        return None;
+    };
+    number_of(word)
+}
+
+/// Whether the next word is this one.
+fn next_is(words: &mut Words<'_>, word: &[u8]) -> bool
+    ensures { MatchBool result (words.old ≡ word.now ∷ words.new) ((rest : List (List ℕ)) → words.old ≡ word.now ∷ rest → ⊥) }
+{
+    match words.next_word() {
+        Some(next) => next == word,
+        None => false,
+    }
+}
+
+/// Reads the words behind `append`.
+fn read_append(alloc: Global, mut words: Words<'_>) -> Result<Option<Command>, CodecError>
+    ensures command { IfOk result (IsReading (codes "append" ∷ words.entry)) }
+    ensures memory { IsOkUnless result CodecError.Memory }
+{
+    let Some(b) = next_number(&mut words) else {
+        return Ok(None);
+    };
+    let Some(word) = words.next_word() else {
+        return Ok(None);
+    };
+    if !words.is_empty() {
+        return Ok(None);
+    }
+    match bytes_of(alloc, word)? {
+        Some(value) => Ok(Some(Command::Append(b, value))),
+        None => Ok(None),
+    }
+}
+
+/// Reads the words behind `seal`.
+fn read_seal(mut words: Words<'_>) -> Option<Command>
+    ensures { IsReading (codes "seal" ∷ words.entry) result }
+{
+    let Some(b) = next_number(&mut words) else {
+        return None;
+    };
+    if !next_is(&mut words, b"-") {
+        return None;
+    }
+    if !next_is(&mut words, b"0") {
+        return None;
+    }
+    if !words.is_empty() {
+        return None;
+    }
+    Some(Command::Seal(b))
+}
+
+/// Reads the words behind `apply`.
+fn read_apply(mut words: Words<'_>) -> Option<Command>
+    ensures { IsReading (codes "apply" ∷ words.entry) result }
+{
+    let Some(b) = next_number(&mut words) else {
+        return None;
+    };
+    if !words.is_empty() {
+        return None;
+    }
+    Some(Command::Apply(b))
+}
+
+/// Reads the words behind the first, which says what command it is.
+fn read_words(alloc: Global, name: &[u8], words: Words<'_>) -> Result<Option<Command>, CodecError>
+    ensures command { IfOk result (IsReading (name.now ∷ words.entry)) }
+    ensures memory { IsOkUnless result CodecError.Memory }
+{
+    if name == b"append".as_slice() {
+        return read_append(alloc, words);
+    }
+    if name == b"seal".as_slice() {
+        return Ok(read_seal(words));
+    }
+    if name == b"apply".as_slice() {
+        return Ok(read_apply(words));
+    }
+    if !words.is_empty() {
+        return Ok(None);
+    }
+    if name == b"new".as_slice() {
+        return Ok(Some(Command::New));
+    }
+    if name == b"size".as_slice() {
+        return Ok(Some(Command::Size));
+    }
+    Ok(None)
+}
+
+/// Reads the command that a line says.
+fn read_line(alloc: Global, line: &[u8]) -> Result<Option<Command>, CodecError>
+    ensures command { IfOk result (IsReading (words_of line.now)) }
+    ensures memory { IsOkUnless result CodecError.Memory }
+{
+    let mut words = Words::new(line);
+    let Some(name) = words.next_word() else {
+        return Ok(None);
+    };
+    read_words(alloc, name, words)
+}
+
+/// Adds the command that a line says.
+fn push_command(commands: &mut Vec<Command>, line: &[u8]) -> Result<(), LineError>
+    ensures ok { OnOk result ((command : Command) × Says line.now command × (commands.new.items ≡ commands.old.items ++ command ∷ [])) }
+    ensures bad { IfErr result (λ e. IsBadHere commands.old.items line.now e) }
+{
+    match read_line(*commands.allocator(), line)? {
+        Some(command) => match commands.push(command) {
+            Ok(()) => Ok(()),
+            Err(_) => Err(LineError::Memory),
+        },
+        None => Err(LineError::Bad(commands.len() as u64 + 1)),
+    }
+}
+
+/// Reads an input as commands, one a line. Room for them is taken once.
+pub fn parse_commands(alloc: Global, input: &[u8]) -> Result<Vec<Command>, LineError>
+    ensures read { IfOk result (λ commands. InputSays input.now commands.items) }
+    ensures bad { IfErr result (IsCause (lines_of input.now)) }
+    ensures again { (commands : List Command) → InputSays input.now commands → MatchResult result (λ read. read.items ≡ commands) (λ e. e ≡ LineError.Memory) }
+{
+    let mut lines = Lines::new(input);
+    let mut commands = Vec::with_capacity(alloc, lines.count())?;
+    while let Some(line) = lines.next_line() {
+        push_command(&mut commands, line)?;
+    }
+    Ok(commands)
+}
+
+#[cfg(test)]
+mod tests;

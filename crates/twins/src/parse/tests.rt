@@ -1,0 +1,59 @@
+use super::{LineError, parse_commands};
+use crate::command::Command;
+use codec_base::Bytes;
+use std::test::Fail;
+
+#[test]
+fn reads_each_command(rt: HostRuntime) -> Result<(), Fail> {
+    let alloc = rt.alloc();
+    let input = b"new\nappend 18446744073709551615 aBCd\nappend 0 .\nseal 10 - 0\napply 7\nsize";
+    let commands = parse_commands(alloc, input)?;
+    let wanted = vec![in alloc;
+        Command::New,
+        Command::Append(18446744073709551615, Bytes::from_slice(alloc, b"\xab\xcd")?),
+        Command::Append(0, Bytes::new(alloc)),
+        Command::Seal(10),
+        Command::Apply(7),
+        Command::Size,
+    ]?;
+    assert!(rt; commands == wanted);
+    Ok(())
+}
+
+#[test]
+fn names_the_first_bad_line(rt: HostRuntime) -> Result<(), Fail> {
+    let alloc = rt.alloc();
+    let cases: [(&[u8], u64); 26] = [
+        (b"\n", 1),
+        (b"new\n\nsize\n", 2),
+        (b"# new\n", 1),
+        (b"size\nfoo\nfoo", 2),
+        (b"new\r\n", 1),
+        (b"New\n", 1),
+        (b" new\n", 1),
+        (b"new \n", 1),
+        (b"new 0\n", 1),
+        (b"size 0\n", 1),
+        (b"new\0\n", 1),
+        (b"append 0\n", 1),
+        (b"append 0 \n", 1),
+        (b"append 0 6\n", 1),
+        (b"append 0 6g\n", 1),
+        (b"append 0 61 61\n", 1),
+        (b"append  0 61\n", 1),
+        (b"append 00 61\n", 1),
+        (b"append +0 61\n", 1),
+        (b"append -1 61\n", 1),
+        (b"append 18446744073709551616 61\n", 1),
+        (b"append \xff 61\n", 1),
+        (b"append 0 \xff\xff\n", 1),
+        (b"seal 0 - 1\n", 1),
+        (b"seal 0 61 0\n", 1),
+        (b"apply\n", 1),
+    ];
+    for (input, line) in cases {
+        let why = parse_commands(alloc, input).err();
+        assert_eq!(rt; why, Some(LineError::Bad(line)), "{input:?}");
+    }
+    Ok(())
+}

@@ -1,0 +1,189 @@
+//! Runs compared with an outside computation (tools/expected.py), and what stops a run.
+use crate::command::{Fault, Replies, Stopped};
+use crate::config::TwinConfig;
+use crate::parse::parse_commands;
+use crate::run::run_twins;
+use crate::text::write_replies;
+use codec_base::MemorySink;
+use memory_volume::MemoryVolume;
+use std::process::Abort;
+use std::test::Fail;
+
+// The roots of the lists that the runs below come to.
+const COMMIT: &str = "6e44d9af463dbbdb8e26fef511895e0a348e2bd099ab0f45425db61c3bd543cc";
+
+const TWO_VALUES: &str = "fb4f8178d68d9e1a3f68875e1f2f94fe29bba20b21ae969906f72e70ec26b646";
+
+const FIRST_VALUE: &str = "d5777e06b8b06315af2f1cd14fe605c39b312a2917452f4bae1a7e0f583d2cc6";
+
+const LONG_VALUE: &str = "9449ace6cd3c80b65698158aba167a7196b4c02ee7f152faa6064faf4b0f2eb9";
+
+fn run_lines(
+    rt: &(impl Abort + AllocGlobal),
+    limit: u64,
+    lines: &[u8],
+    volume: &mut MemoryVolume,
+) -> Result<Replies, Stopped> {
+    let config = TwinConfig::new(
+        rt.alloc(),
+        "log",
+        "nodes",
+        "metadata",
+        "witness",
+        64,
+        128,
+        64,
+        1024,
+        limit,
+    )
+    .expect(rt, "a configuration");
+    let commands = parse_commands(rt.alloc(), lines).expect(rt, "commands");
+    run_twins(rt.alloc(), &config, volume, &commands)
+}
+
+/// Runs lines over a fresh volume, and compares the replies with answer, size and root of each.
+fn compare(
+    rt: &(impl Abort + AllocGlobal),
+    limit: u64,
+    lines: &[u8],
+    want: &[(&str, u64, &str)],
+) -> Result<(), Fail> {
+    let mut volume = MemoryVolume::new(rt.alloc());
+    let Ok(replies) = run_lines(rt, limit, lines, &mut volume) else {
+        panic!(rt; "the run was stopped");
+    };
+    let mut sink = MemorySink::new(rt.alloc(), 65536)?;
+    assert!(rt; write_replies(&replies, &mut sink).is_ok());
+    let mut text = String::new(rt.alloc());
+    for (answer, size, root) in want {
+        text.push_str(&format!(in rt.alloc();
+            "{answer} size={size} full={root} compact={root}\n"
+        )?)?;
+    }
+    assert!(rt; sink.written() == text.as_bytes());
+    Ok(())
+}
+
+#[test]
+fn fresh_opening(rt: HostRuntime) -> Result<(), Fail> {
+    compare(&rt, 1048576, b"", &[("opened start=0", 1, COMMIT)])
+}
+
+#[test]
+fn first_batch_and_apply_again(rt: HostRuntime) -> Result<(), Fail> {
+    compare(
+        &rt,
+        1048576,
+        b"new\nappend 0 61\nappend 0 62\nseal 0 - 0\napply 0\nsize\napply 0\n",
+        &[
+            ("opened start=0", 1, COMMIT),
+            ("batch 0", 1, COMMIT),
+            ("ok", 1, COMMIT),
+            ("ok", 1, COMMIT),
+            (
+                "sealed 4 fb4f8178d68d9e1a3f68875e1f2f94fe29bba20b21ae969906f72e70ec26b646",
+                1,
+                COMMIT,
+            ),
+            ("applied", 4, TWO_VALUES),
+            ("size 4 start 0 floor 0", 4, TWO_VALUES),
+            ("refused StaleBatch", 4, TWO_VALUES),
+        ],
+    )
+}
+
+#[test]
+fn unequal_siblings(rt: HostRuntime) -> Result<(), Fail> {
+    compare(
+        &rt,
+        1048576,
+        b"new\nnew\nappend 0 61\nappend 1 62\nseal 0 - 0\nseal 1 - 0\napply 0\napply 1\n",
+        &[
+            ("opened start=0", 1, COMMIT),
+            ("batch 0", 1, COMMIT),
+            ("batch 1", 1, COMMIT),
+            ("ok", 1, COMMIT),
+            ("ok", 1, COMMIT),
+            (
+                "sealed 3 d5777e06b8b06315af2f1cd14fe605c39b312a2917452f4bae1a7e0f583d2cc6",
+                1,
+                COMMIT,
+            ),
+            (
+                "sealed 3 4f37c3f6cd5de2a4e2636247ba01d7b91a48f5252f50c00c15eb0d4b7f13958c",
+                1,
+                COMMIT,
+            ),
+            ("applied", 3, FIRST_VALUE),
+            ("refused StaleBatch", 3, FIRST_VALUE),
+        ],
+    )
+}
+
+#[test]
+fn refused_seal_loses_its_batch(rt: HostRuntime) -> Result<(), Fail> {
+    compare(
+        &rt,
+        1048576,
+        b"new\nnew\nappend 0 61\nseal 0 - 0\napply 0\nseal 1 - 0\nappend 1 62\nappend 7 61\nseal 0 - 0\n",
+        &[
+            ("opened start=0", 1, COMMIT),
+            ("batch 0", 1, COMMIT),
+            ("batch 1", 1, COMMIT),
+            ("ok", 1, COMMIT),
+            (
+                "sealed 3 d5777e06b8b06315af2f1cd14fe605c39b312a2917452f4bae1a7e0f583d2cc6",
+                1,
+                COMMIT,
+            ),
+            ("applied", 3, FIRST_VALUE),
+            ("refused StaleBatch", 3, FIRST_VALUE),
+            ("refused NoBatch 1", 3, FIRST_VALUE),
+            ("refused NoBatch 7", 3, FIRST_VALUE),
+            ("refused NoBatch 0", 3, FIRST_VALUE),
+        ],
+    )
+}
+
+#[test]
+fn value_limit(rt: HostRuntime) -> Result<(), Fail> {
+    compare(
+        &rt,
+        4,
+        b"new\nappend 0 0102030405\nappend 0 01020304\nseal 0 - 0\napply 0\n",
+        &[
+            ("opened start=0", 1, COMMIT),
+            ("batch 0", 1, COMMIT),
+            ("refused ValueTooLong 5", 1, COMMIT),
+            ("ok", 1, COMMIT),
+            (
+                "sealed 3 9449ace6cd3c80b65698158aba167a7196b4c02ee7f152faa6064faf4b0f2eb9",
+                1,
+                COMMIT,
+            ),
+            ("applied", 3, LONG_VALUE),
+        ],
+    )
+}
+
+#[test]
+fn faults_before_the_opening(rt: HostRuntime) -> Result<(), Fail> {
+    for name in ["log", "nodes", "witness"] {
+        let mut volume = MemoryVolume::new(rt.alloc());
+        assert!(rt; volume.put_log(name, 5, &[]).is_ok());
+        let Err(stopped) = run_lines(&rt, 4, b"size\n", &mut volume) else {
+            panic!(rt; "the run wasn't stopped");
+        };
+        assert_eq!(rt; stopped.fault, Fault::NotFresh, "at {name}");
+        assert_eq!(rt; stopped.replies.len(), 0);
+    }
+    for call in 1..5 {
+        let mut volume = MemoryVolume::new(rt.alloc());
+        assert!(rt; volume.fail_call(call).is_ok());
+        let Err(stopped) = run_lines(&rt, 4, b"size\n", &mut volume) else {
+            panic!(rt; "the run wasn't stopped");
+        };
+        assert_eq!(rt; stopped.fault, Fault::Volume, "at call {call}");
+    }
+    Ok(())
+}
