@@ -1,0 +1,263 @@
+#!/usr/bin/env python3
+"""Computes, apart from the product, what its tests and stored outputs compare with.
+
+usage: tools/expected.py roots          the roots of the example elements, for each inactive count and bagging
+       tools/expected.py run            reads command lines, writes the reply lines of a run on a fresh volume
+       tools/expected.py check          compares the stored files of the repository with what is computed here
+
+Everything is made from hashlib's SHA-256 and the rules in docs/MODEL.md. Nothing is taken from the product's output.
+"""
+import hashlib
+import re
+import sys
+from pathlib import Path
+
+VALUE_LIMIT = 1048576           # the standard configuration's
+FORWARD, BACKWARD = 0, 1        # the bagging bytes
+
+
+# ---- the tree
+
+def digest(*parts):
+    return hashlib.sha256(b"".join(parts)).digest()
+
+
+def number(n):
+    return n.to_bytes(8, "big")
+
+
+def size(leaves):
+    """How many nodes the MMR of that many leaves has."""
+    return 2 * leaves - bin(leaves).count("1")
+
+
+def peaks(leaves):
+    """The peaks from the left: first leaf and height. Their heights are the ones of the number of leaves in binary."""
+    first, out = 0, []
+    for height in range(leaves.bit_length() - 1, -1, -1):
+        if leaves >> height & 1:
+            out.append((first, height))
+            first += 1 << height
+    return out
+
+
+def node(elements, first, height):
+    """The digest of the node over the leaves from `first` on, from the leaves."""
+    position = size(first + (1 << height) - 1) + height
+    if height == 0:
+        return digest(b"\0", number(position), elements[first])
+    half = 1 << (height - 1)
+    return digest(b"\1", number(position), node(elements, first, height - 1), node(elements, first + half, height - 1))
+
+
+def fold(digests, bagging):
+    """One digest from several, from the left or from the right."""
+    if bagging == FORWARD:
+        out = digests[0]
+        for one in digests[1:]:
+            out = digest(b"\2", out, one)
+    else:
+        out = digests[-1]
+        for one in reversed(digests[:-1]):
+            out = digest(b"\2", one, out)
+    return out
+
+
+def root(elements, inactive=0, bagging=FORWARD):
+    leaves = len(elements)
+    digests = [node(elements, first, height) for first, height in peaks(leaves)]
+    if inactive:
+        digests = [fold(digests[:inactive], FORWARD)] + digests[inactive:]
+    folded = fold(digests, bagging) if digests else b""
+    return digest(b"\3", number(leaves), number(inactive), bytes([bagging]), folded)
+
+
+def inactive_peaks(leaves, floor):
+    """How many leading peaks end at or below the floor."""
+    return sum(1 for first, height in peaks(leaves) if first + (1 << height) <= floor)
+
+
+def appended_root(elements, inactive=0, bagging=FORWARD):
+    """The same root by appending leaf after leaf, which the recursion from the leaves is compared with."""
+    made, tops = 0, []
+    for element in elements:
+        one, height = digest(b"\0", number(made), element), 0
+        made += 1
+        while tops and tops[-1][0] == height:
+            one = digest(b"\1", number(made), tops.pop()[1], one)
+            made, height = made + 1, height + 1
+        tops.append((height, one))
+    assert made == size(len(elements))
+    digests = [one for _, one in tops]
+    if inactive:
+        digests = [fold(digests[:inactive], FORWARD)] + digests[inactive:]
+    folded = fold(digests, bagging) if digests else b""
+    return digest(b"\3", number(len(elements)), number(inactive), bytes([bagging]), folded)
+
+
+# ---- operations
+
+def varint(n):
+    out = []
+    while n >= 128:
+        out.append(128 + n % 128)
+        n //= 128
+    return bytes(out + [n])
+
+
+def append(value):
+    return b"\1" + varint(len(value)) + value
+
+
+def commit(metadata, floor):
+    option = b"\0" if metadata is None else b"\1" + varint(len(metadata)) + metadata
+    return b"\0" + option + varint(floor)
+
+
+def list_root(operations, floor):
+    """The root of a list of encoded operations that ends with a commit of this floor."""
+    return root(operations, inactive_peaks(len(operations), floor)).hex()
+
+
+# ---- the list machine, for the lines that the program knows
+
+class Refused(Exception):
+    pass
+
+
+class Machine:
+    def __init__(self, limit=VALUE_LIMIT):
+        self.limit = limit
+        self.operations = [commit(None, 0)]
+        self.batches = []       # (phase, list, pending, boundary), by number
+
+    def batch(self, b, phase):
+        if b >= len(self.batches) or self.batches[b][0] != phase:
+            raise Refused(f"NoBatch {b}")
+        return self.batches[b]
+
+    def step(self, words):
+        if words == ["new"]:
+            self.batches.append(("unsealed", list(self.operations), [], None))
+            return f"batch {len(self.batches) - 1}"
+        if words[0] == "append":
+            b, value = int(words[1]), b"" if words[2] == "." else bytes.fromhex(words[2])
+            _, _, pending, _ = self.batch(b, "unsealed")
+            if len(value) > self.limit:
+                raise Refused(f"ValueTooLong {len(value)}")
+            pending.append(append(value))
+            return "ok"
+        if words[0] == "seal":
+            b = int(words[1])
+            _, below, pending, _ = self.batch(b, "unsealed")
+            if self.operations != below:
+                self.batches[b] = ("gone", [], [], None)
+                raise Refused("StaleBatch")
+            whole = below + pending + [commit(None, 0)]
+            self.batches[b] = ("sealed", whole, [], len(below))
+            return f"sealed {len(whole)} {list_root(whole, 0)}"
+        if words[0] == "apply":
+            _, whole, _, boundary = self.batch(int(words[1]), "sealed")
+            if self.operations != whole[:boundary]:
+                raise Refused("StaleBatch")
+            self.operations = list(whole)
+            return "applied"
+        if words == ["size"]:
+            return f"size {len(self.operations)} start 0 floor 0"
+        raise ValueError(f"no such line: {words}")
+
+    def reply(self, answer):
+        there = list_root(self.operations, 0)
+        return f"{answer} size={len(self.operations)} full={there} compact={there}\n"
+
+
+def run(lines, limit=VALUE_LIMIT):
+    machine = Machine(limit)
+    out = [machine.reply("opened start=0")]
+    for line in lines:
+        try:
+            answer = machine.step(line.split(" "))
+        except Refused as refusal:
+            answer = f"refused {refusal}"
+        out.append(machine.reply(answer))
+    return "".join(out)
+
+
+# ---- what the tests compare with
+
+# The elements whose roots the tests of the trees compare with.
+ELEMENTS = [bytes.fromhex(text) for text in ("000000", "010161", "010162", "000000", "0101ff", "01020304", "00")]
+
+# The runs whose digests the tests of the run compare with: name, value limit, lines.
+FIRST_BATCH = ["new", "append 0 61", "append 0 62", "seal 0 - 0", "apply 0"]
+RUNS = [
+    ("fresh opening", VALUE_LIMIT, []),
+    ("first batch", VALUE_LIMIT, FIRST_BATCH + ["size", "size", "size"]),
+    ("unequal siblings", VALUE_LIMIT, ["new", "new", "append 0 61", "append 1 62", "seal 0 - 0", "seal 1 - 0", "apply 0", "apply 1"]),
+    ("apply again", VALUE_LIMIT, FIRST_BATCH + ["apply 0"]),
+    ("value limit", 4, ["new", "append 0 0102030405", "append 0 01020304", "seal 0 - 0"]),
+]
+
+
+def example_roots():
+    """Name and root of each example."""
+    for leaves in range(len(ELEMENTS) + 1):
+        for inactive in range(len(peaks(leaves)) + 1):
+            for bagging in (FORWARD, BACKWARD):
+                elements = ELEMENTS[:leaves]
+                one = root(elements, inactive, bagging)
+                assert one == appended_root(elements, inactive, bagging)
+                yield f"{leaves} leaves, {inactive} inactive, {'forward' if bagging == FORWARD else 'backward'}", one.hex()
+
+
+def known_digests():
+    """Every digest that a test may name."""
+    known = {one for _, one in example_roots()}
+    known.update(digest(text).hex() for text in (b"", b"abc"))
+    for leaves in range(len(ELEMENTS)):
+        for first, height in peaks(leaves + 1):
+            known.add(node(ELEMENTS, first, height).hex())
+        known.add(node(ELEMENTS, leaves, 0).hex())
+    for _, limit, lines in RUNS:
+        known.update(re.findall(r"\b[0-9a-f]{64}\b", run(lines, limit)))
+    return known
+
+
+def check(top):
+    """Compares the stored files with what is computed here; answers what differs."""
+    wrong = []
+    for program in ("twins",):
+        home = top / "crates" / program
+        stdin, stdout = home / "stdin", home / "stdout"
+        if stdin.exists() and stdout.exists():
+            wanted = run(stdin.read_text(encoding="ascii").splitlines())
+            if stdout.read_text(encoding="ascii") != wanted:
+                wrong.append(f"{stdout.relative_to(top)}: not the replies to {stdin.relative_to(top)}")
+    known = known_digests()
+    for path in sorted((top / "crates").glob("*/src/**/*.rt")):
+        for one in re.findall(r"\b[0-9a-f]{64}\b", path.read_text(encoding="utf-8")):
+            if one not in known:
+                wrong.append(f"{path.relative_to(top)}: the digest {one} is none that is computed here")
+    return wrong
+
+
+def main(words):
+    if words == ["roots"]:
+        for name, one in example_roots():
+            print(f"{one}  {name}")
+    elif words == ["run"]:
+        sys.stdout.write(run(sys.stdin.read().splitlines()))
+    elif words == ["check"]:
+        wrong = check(Path(__file__).resolve().parent.parent)
+        for line in wrong:
+            print(line)
+        print("expected: " + ("what is stored is what is computed" if not wrong else f"{len(wrong)} differ"))
+        return 1 if wrong else 0
+    else:
+        print(__doc__, file=sys.stderr)
+        return 2
+    return 0
+
+
+if __name__ == "__main__":
+    sys.exit(main(sys.argv[1:]))
