@@ -1,7 +1,7 @@
 //! A number that holds its eight bytes.
 ghost use Rattle.std.specs.Prelude.{◌≡◌, ◌<◌, ◌^◌, ℕ, List};
 ghost use Rattle.std.specs.Int.{w64, from_be_bytes};
-ghost use Rattle.codec_base.specs.Codec.{Takes};
+ghost use Rattle.codec_base.specs.Codec.{Takes, IsBytes};
 ghost use Rattle.codec_base.specs.Numbers.{u64_at};
 ghost use Rattle.codec_base.specs.Laws.{eight_bytes, below_64, u64_lawful};
 
@@ -21,9 +21,12 @@ impl Model for U64 {
     ghost Value = { ℕ };
 
     ghost view = { λ n. from_be_bytes w64 n.bytes };
+
+    ghost invariant = { λ n. IsBytes n.bytes };
 }
 
 impl U64 {
+    /// The number of this value.
     pub fn new(value: u64) -> U64
         ensures { result ≡ value }
     {
@@ -32,10 +35,18 @@ impl U64 {
         }
     }
 
+    /// Its value.
     pub fn get(&self) -> u64
         ensures { result ≡ self.now }
     {
         u64::from_be_bytes(self.bytes)
+    }
+
+    /// Its eight bytes, the high one first.
+    pub fn as_slice(&self) -> &[u8]
+        ensures { result.now ≡ eight_bytes self.now }
+    {
+        &self.bytes
     }
 }
 
