@@ -91,3 +91,10 @@ kept_map_at calls name m logs maps maps' sets kept = record {
 
 pub kept_map : (calls calls' : List Entry) (name : List ℕ) (m : Map) (logs : List StoredLog) (maps maps' : List StoredMap) → calls' ≡ calls ++ OfMap name m ∷ [] → Sets name m (stored_map maps) (stored_map maps') → AreKept calls logs maps → AreKept calls' logs maps'
 kept_map calls calls' name m logs maps maps' is sets kept = subst (λ (c : List Entry). AreKept c logs maps') (sym is) (kept_map_at calls name m logs maps maps' sets kept)
+
+-- a change of one name's versions, as the record says it of each name
+pub sets_next : (name other : List ℕ) (change : LogChange) (held : List ℕ → Versions) → (if bytes_eq name other then changed (held name) change else held other) ≡ next_versions other (held other) (OfLog name change)
+sets_next name other change held = elim (bytes_eq name other) as (λ b. bytes_eq name other ≡ b → (if b then changed (held name) change else held other) ≡ (if b then changed (held other) change else held other)) [
+  | true ↦ λ same. ap (λ n. changed (held n) change) ((bytes_eq-Decides name other).0 same)
+  | false ↦ λ apart. refl
+] refl

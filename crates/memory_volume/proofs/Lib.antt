@@ -1,5 +1,6 @@
 pub mod CallLemmas
 pub mod ChoiceLemmas
+pub mod CrashLemmas
 pub mod KeptLemmas
 pub mod ReadLemmas
 pub mod StateLemmas

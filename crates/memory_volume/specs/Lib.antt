@@ -1,7 +1,9 @@
 pub mod Choice
+pub mod Choices
 pub mod Memory
 pub mod MemoryVolume
 pub mod Record
+pub mod Replay
 pub mod Starts
 pub mod TableLaws
 pub mod Tables

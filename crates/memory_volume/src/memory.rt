@@ -1,18 +1,25 @@
 //! A volume in memory.
-ghost use Rattle.std.specs.Prelude.{◌≡◌, ◌+◌, ◌-◌, ◌<◌, ◌≤◌, ◌^◌, ℕ, min, [], ◌∷◌, ◌++◌, length, IfOk, IfErr, OnOk, OnErr, IsErrOf, IsOkUnless};
+ghost use Rattle.std.specs.Prelude.{◌≡◌, ◌+◌, ◌-◌, ◌<◌, ◌≤◌, ◌^◌, ℕ, List, if◌then◌else◌, min, [], ◌∷◌, ◌++◌, length, IfOk, IfErr, OnOk, OnErr, IsErrOf, IsOkUnless};
 ghost use Rattle.std.specs.FinMap as map;
-ghost use Rattle.memory_volume.specs.Record.{CanChange};
+ghost use Rattle.std.specs.Str.{bytes_eq};
+ghost use Rattle.memory_volume.specs.Choices.{chosen_log, IsChosen};
+ghost use Rattle.memory_volume.specs.Record.{CanChange, versions_of, map_of};
+ghost use Rattle.memory_volume.specs.Replay.{replay_name, replayed};
 ghost use Rattle.memory_volume.specs.Starts.{Starts};
 ghost use Rattle.memory_volume.specs.TableLaws.{AreKept-prop};
-ghost use Rattle.memory_volume.specs.Tables.{AreKept};
+ghost use Rattle.memory_volume.specs.Tables.{AreKept, row_of, stored_map};
+ghost use Rattle.memory_volume.specs.Versions.{only, IsVersion};
 ghost use Rattle.memory_volume.specs.declared.entry.Entry.TheVariants.{OfLog, OfMap};
 ghost use Rattle.memory_volume.specs.declared.entry.LogChange.TheVariants.{Append, Sync, Cut, Prune, Put};
-ghost use Rattle.volume_base.specs.Log.{IsItemAt, end_of, no_log, cleared_at, appended, cut_to, pruned_to, Grows, Shrinks, Advances, Vanishes, Stays, BecomesOneOf};
+ghost use Rattle.volume_base.specs.Log.{Log, IsItemAt, end_of, no_log, cleared_at, appended, cut_to, pruned_to, Grows, Shrinks, Advances, Vanishes, Stays, BecomesOneOf};
+ghost use Rattle.volume_base.specs.Moments.{LeftAt, present};
 ghost use Rattle.volume_base.specs.Volume.{OnlyLog, OnlyMap, LogMoves, MapMoves, OnlyLeft, Writes, WriteAnswers, Reads};
 ghost use Rattle.volume_base.specs.declared.error.VolumeError.TheVariants.{Failed, ItemPruned, ItemOutOfRange};
 
+use crate::choice::{LogChoice, chosen_in};
 use crate::entry::{Entry, LogChange};
 use crate::record::{record_log, record_map};
+use crate::replay::{Replayed, replay, replay_row};
 use crate::shared::shared_items;
 use crate::stored::{StoredLog, StoredMap};
 use crate::table::{bounds_of, map_in, read_item};
@@ -100,7 +107,13 @@ impl MemoryVolume {
         ensures failing { failing_of self.new ≡ failing_of self.old }
         ensures memory { IsOkUnless result VolumeError.Memory }
     {
-        record_log(self.alloc, &mut self.calls, &mut self.logs, name, change)?;
+        record_log(
+            self.alloc,
+            &mut self.calls,
+            &mut self.logs,
+            name.as_bytes(),
+            change,
+        )?;
         Ok(())
     }
 
@@ -110,7 +123,95 @@ impl MemoryVolume {
         ensures failing { failing_of self.new ≡ failing_of self.old }
         ensures memory { IsOkUnless result VolumeError.Memory }
     {
-        record_map(self.alloc, &mut self.calls, &mut self.maps, name, map)?;
+        record_map(
+            self.alloc,
+            &mut self.calls,
+            &mut self.maps,
+            name.as_bytes(),
+            map,
+        )?;
+        Ok(())
+    }
+
+    /// What a crash now leaves: a volume whose durable contents are one image. The first choice of a log's name picks its image; a log that isn't named keeps its contents. Nothing is set to fail.
+    pub fn crash(&self, choices: &[LogChoice]) -> Result<MemoryVolume, VolumeError>
+        ensures logs { IfOk result (λ made. (name : List ℕ) → (state_of made).log name ≡ chosen_log choices.now (versions_of (calls_of self.now) name) name) }
+        ensures maps { IfOk result (λ made. (name : List ℕ) → (state_of made).map name ≡ (state_of self.now).map name) }
+        ensures only_logs { IfOk result (λ made. (name : List ℕ) → OnlyLeft ((state_of made).log_left (state_of made).clock name) ((state_of made).log name)) }
+        ensures only_maps { IfOk result (λ made. (name : List ℕ) → OnlyLeft ((state_of made).map_left (state_of made).clock name) ((state_of made).map name)) }
+        // Each choice gives an image.
+        ensures image { IfOk result (λ made. LeftAt (state_of self.now) (state_of self.now).clock (present (state_of made))) }
+        // Each image of a log is given by a choice.
+        ensures every_image { (name : List ℕ) (log : Log) → (state_of self.now).log_left (state_of self.now).clock name log → IsChosen (versions_of (calls_of self.now) name) log }
+        ensures failing { IfOk result (λ made. failing_of made ≡ record { ahead = []; faults = 0 }) }
+        ensures reads { IfOk result (λ made. (state_of made).reads ≡ 0) }
+        ensures memory { IsOkUnless result VolumeError.Memory }
+    {
+        let rows = replay(self.alloc, &self.calls)?;
+        let mut made = MemoryVolume::new(self.alloc);
+        made.crash_logs(&rows, choices)?;
+        made.crash_maps(&self.maps)?;
+        Ok(made)
+    }
+
+    // Puts the chosen image of each log of a replay.
+    fn crash_logs(&mut self, rows: &[Replayed], choices: &[LogChoice]) -> Result<(), VolumeError>
+        requires none { (name : List ℕ) → versions_of (calls_of self.old) name ≡ only no_log }
+        requires fits { (name : List ℕ) (log : Log) → IsVersion (replayed rows.now name) log → end_of log < 2 ^ 64 }
+        ensures logs { OnOk result ((name : List ℕ) → versions_of (calls_of self.new) name ≡ only (chosen_log choices.now (replayed rows.now name) name)) }
+        ensures maps { (name : List ℕ) → map_of (calls_of self.new) name ≡ map_of (calls_of self.old) name }
+        ensures failing { failing_of self.new ≡ failing_of self.old }
+        ensures reads { (state_of self.new).reads ≡ (state_of self.old).reads }
+        ensures memory { IsOkUnless result VolumeError.Memory }
+    {
+        let mut i = rows.len();
+        while i > 0 {
+            i -= 1;
+            self.crash_log(rows, rows[i].name.get().as_slice(), choices)?;
+        }
+        Ok(())
+    }
+
+    // Puts the chosen image of a log.
+    fn crash_log(
+        &mut self,
+        rows: &[Replayed],
+        name: &[u8],
+        choices: &[LogChoice],
+    ) -> Result<(), VolumeError>
+        requires within { row_of replay_name rows.now name.now < length rows.now }
+        requires fits { (log : Log) → IsVersion (replayed rows.now name.now) log → end_of log < 2 ^ 64 }
+        ensures logs { OnOk result ((other : List ℕ) → versions_of (calls_of self.new) other ≡ (if bytes_eq name.now other then only (chosen_log choices.now (replayed rows.now name.now) name.now) else versions_of (calls_of self.old) other)) }
+        ensures maps { (other : List ℕ) → map_of (calls_of self.new) other ≡ map_of (calls_of self.old) other }
+        ensures failing { failing_of self.new ≡ failing_of self.old }
+        ensures reads { (state_of self.new).reads ≡ (state_of self.old).reads }
+        ensures memory { IsOkUnless result VolumeError.Memory }
+    {
+        let row = &rows[replay_row(rows, name)];
+        let log = chosen_in(self.alloc, row, choices)?;
+        let start = log.start();
+        let put = LogChange::Put(start, ListOf::from_vec(log.into_items()));
+        record_log(self.alloc, &mut self.calls, &mut self.logs, name, put)?;
+        Ok(())
+    }
+
+    // Puts each map of a table.
+    fn crash_maps(&mut self, maps: &[StoredMap]) -> Result<(), VolumeError>
+        requires { (name : List ℕ) → map_of (calls_of self.old) name ≡ map.empty }
+        ensures maps { OnOk result ((name : List ℕ) → map_of (calls_of self.new) name ≡ stored_map maps.now name) }
+        ensures logs { (name : List ℕ) → versions_of (calls_of self.new) name ≡ versions_of (calls_of self.old) name }
+        ensures failing { failing_of self.new ≡ failing_of self.old }
+        ensures reads { (state_of self.new).reads ≡ (state_of self.old).reads }
+        ensures memory { IsOkUnless result VolumeError.Memory }
+    {
+        let mut i = maps.len();
+        while i > 0 {
+            i -= 1;
+            let row = &maps[i];
+            let name = row.name.get().as_slice();
+            let map = row.map.get();
+            record_map(self.alloc, &mut self.calls, &mut self.maps, name, map)?;
+        }
         Ok(())
     }
 
@@ -148,7 +249,7 @@ impl Volume for MemoryVolume {
         ensures fails { FailsAsSet self.old self.new result }
     {
         self.start_call()?;
-        Ok(bounds_of(&self.logs, name))
+        Ok(bounds_of(&self.logs, name.as_bytes()))
     }
 
     fn log_read(&mut self, name: &str, position: u64) -> Result<Bytes, VolumeError>
@@ -162,7 +263,7 @@ impl Volume for MemoryVolume {
     {
         self.reads = self.reads.saturating_add(1);
         self.start_call()?;
-        read_item(self.alloc, &self.logs, name, position)
+        read_item(self.alloc, &self.logs, name.as_bytes(), position)
     }
 
     fn log_append(&mut self, name: &str, items: &[Bytes]) -> Result<(), VolumeError>
@@ -270,7 +371,7 @@ impl Volume for MemoryVolume {
         ensures fails { FailsAsSet self.old self.new result }
     {
         self.start_call()?;
-        let found = map_in(self.alloc, &self.maps, name)?;
+        let found = map_in(self.alloc, &self.maps, name.as_bytes())?;
         Ok(found)
     }
 

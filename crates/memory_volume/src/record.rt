@@ -19,7 +19,7 @@ pub fn record_log(
     alloc: Global,
     calls: &mut Vec<Entry>,
     logs: &mut Vec<StoredLog>,
-    name: &str,
+    name: &[u8],
     change: LogChange,
 ) -> Result<(), VolumeError>
     requires { CanChange (stored_log logs.old.items name.now) change }
@@ -41,7 +41,7 @@ pub fn record_map(
     alloc: Global,
     calls: &mut Vec<Entry>,
     maps: &mut Vec<StoredMap>,
-    name: &str,
+    name: &[u8],
     map: &MetaMap,
 ) -> Result<(), VolumeError>
     ensures recorded { OnOk result (calls.new.items ≡ calls.old.items ++ OfMap name.now map.now ∷ []) }

@@ -12,12 +12,12 @@ use std::alloc::{AllocError, Global};
 use volume_base::{MetaMap, VolumeError};
 
 /// The index of the row of a log, or the length.
-fn log_row(logs: &[StoredLog], name: &str) -> usize
+fn log_row(logs: &[StoredLog], name: &[u8]) -> usize
     ensures row { result ≡ row_of log_name logs.now name.now }
     ensures within { result ≤ length logs.now }
 {
     for (i, log) in logs.iter().enumerate() {
-        if log.name.get().as_slice() == name.as_bytes() {
+        if log.name.get().as_slice() == name {
             return i;
         }
     }
@@ -25,12 +25,12 @@ fn log_row(logs: &[StoredLog], name: &str) -> usize
 }
 
 /// The index of the row of a map, or the length.
-fn map_row(maps: &[StoredMap], name: &str) -> usize
+fn map_row(maps: &[StoredMap], name: &[u8]) -> usize
     ensures row { result ≡ row_of map_name maps.now name.now }
     ensures within { result ≤ length maps.now }
 {
     for (i, map) in maps.iter().enumerate() {
-        if map.name.get().as_slice() == name.as_bytes() {
+        if map.name.get().as_slice() == name {
             return i;
         }
     }
@@ -38,7 +38,7 @@ fn map_row(maps: &[StoredMap], name: &str) -> usize
 }
 
 /// The start and the end of a log.
-pub fn bounds_of(logs: &[StoredLog], name: &str) -> (u64, u64)
+pub fn bounds_of(logs: &[StoredLog], name: &[u8]) -> (u64, u64)
     ensures start { result.0 ≡ (stored_log logs.now name.now).start }
     ensures end { result.1 ≡ end_of (stored_log logs.now name.now) }
 {
@@ -55,7 +55,7 @@ pub fn bounds_of(logs: &[StoredLog], name: &str) -> (u64, u64)
 pub fn read_item(
     alloc: Global,
     logs: &[StoredLog],
-    name: &str,
+    name: &[u8],
     position: u64,
 ) -> Result<Bytes, VolumeError>
     ensures item { IfOk result (λ item. IsItemAt (stored_log logs.now name.now) position item) }
@@ -92,7 +92,7 @@ fn item_of(alloc: Global, log: &StoredLog, position: u64) -> Result<Bytes, Volum
 }
 
 /// A copy of a map.
-pub fn map_in(alloc: Global, maps: &[StoredMap], name: &str) -> Result<MetaMap, VolumeError>
+pub fn map_in(alloc: Global, maps: &[StoredMap], name: &[u8]) -> Result<MetaMap, VolumeError>
     ensures map { IfOk result (λ found. found ≡ stored_map maps.now name.now) }
     ensures memory { IsOkUnless result VolumeError.Memory }
 {
@@ -107,7 +107,7 @@ pub fn map_in(alloc: Global, maps: &[StoredMap], name: &str) -> Result<MetaMap, 
 }
 
 /// The index of the row of a log, which is made where there is none.
-pub fn log_slot(alloc: Global, logs: &mut Vec<StoredLog>, name: &str) -> Result<usize, VolumeError>
+pub fn log_slot(alloc: Global, logs: &mut Vec<StoredLog>, name: &[u8]) -> Result<usize, VolumeError>
     ensures kept { (other : List ℕ) → stored_log logs.new.items other ≡ stored_log logs.old.items other }
     ensures at { IfOk result (λ row. row ≡ row_of log_name logs.new.items name.now) }
     ensures within { IfOk result (λ row. row < length logs.new.items) }
@@ -115,7 +115,7 @@ pub fn log_slot(alloc: Global, logs: &mut Vec<StoredLog>, name: &str) -> Result<
 {
     let row = log_row(logs, name);
     if row == logs.len() {
-        let its = shared_bytes(alloc, name.as_bytes())?;
+        let its = shared_bytes(alloc, name)?;
         logs.push(StoredLog {
             name: its,
             start: 0,
@@ -127,7 +127,7 @@ pub fn log_slot(alloc: Global, logs: &mut Vec<StoredLog>, name: &str) -> Result<
 }
 
 /// The index of the row of a map, which is made where there is none.
-pub fn map_slot(alloc: Global, maps: &mut Vec<StoredMap>, name: &str) -> Result<usize, VolumeError>
+pub fn map_slot(alloc: Global, maps: &mut Vec<StoredMap>, name: &[u8]) -> Result<usize, VolumeError>
     ensures kept { (other : List ℕ) → stored_map maps.new.items other ≡ stored_map maps.old.items other }
     ensures at { IfOk result (λ row. row ≡ row_of map_name maps.new.items name.now) }
     ensures within { IfOk result (λ row. row < length maps.new.items) }
@@ -135,7 +135,7 @@ pub fn map_slot(alloc: Global, maps: &mut Vec<StoredMap>, name: &str) -> Result<
 {
     let row = map_row(maps, name);
     if row == maps.len() {
-        let its = shared_bytes(alloc, name.as_bytes())?;
+        let its = shared_bytes(alloc, name)?;
         let map = Shared::new(alloc, MetaMap::new(alloc))?;
         maps.push(StoredMap { name: its, map })?;
     }
@@ -143,7 +143,7 @@ pub fn map_slot(alloc: Global, maps: &mut Vec<StoredMap>, name: &str) -> Result<
 }
 
 /// Owners more of these items.
-fn share_all(alloc: Global, items: &[Shared<Bytes>]) -> Result<Vec<Shared<Bytes>>, VolumeError>
+pub fn share_all(alloc: Global, items: &[Shared<Bytes>]) -> Result<Vec<Shared<Bytes>>, VolumeError>
     ensures same { IfOk result (λ made. made.items ≡ items.now) }
     ensures memory { IsOkUnless result VolumeError.Memory }
 {

@@ -7,8 +7,12 @@ pub use Rattle.codec_base.specs.Streams
 pub use Rattle.codec_base.specs.Varint
 pub use Rattle.codec_base.specs.Writing
 pub use Rattle.codec_base.specs.declared.error.CodecError as CodecErrors
+pub use Rattle.memory_volume.specs.Choice
+pub use Rattle.memory_volume.specs.Choices
 pub use Rattle.memory_volume.specs.Memory
 pub use Rattle.memory_volume.specs.MemoryVolume
+pub use Rattle.memory_volume.specs.Record
+pub use Rattle.memory_volume.specs.Versions
 pub use Rattle.volume_base.specs.Bounds
 pub use Rattle.volume_base.specs.Errors
 pub use Rattle.volume_base.specs.Log

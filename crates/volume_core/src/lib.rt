@@ -7,5 +7,5 @@ pub use codec_base::{
     Source, Spelled, U64, Write, WriteFailed, decode, encode, read_all, read_varint, read_zeros,
     spelling_laws, undo_on_err, varint_size, width_law, write_all, write_varint, write_zeros,
 };
-pub use memory_volume::MemoryVolume;
+pub use memory_volume::{LogChoice, MemoryVolume};
 pub use volume_base::{JournalError, MetaMap, TreeCause, Volume, VolumeError};

@@ -14,4 +14,4 @@ pub returns-in_ok-push-clause-at : goal.returns-in_ok-push-clause-at
 returns-in_ok-push-clause-at c =
     let row : c.log_row-row.result ≡ row_of log_name c.args.logs.now.items c.args.name.now = c.log_row-row.ensures.row ∙ ap (λ (l : List StoredLog). row_of log_name l c.args.name.now) c.deref.ensures.value in
     let absent : row_of log_name c.args.logs.now.items c.args.name.now ≡ length c.args.logs.now.items = omega (arith, row) in
-    row ∙ absent ∙ sym (ap (λ (l : List StoredLog). row_of log_name l c.args.name.now) c.in_ok-push.ensures.items ∙ row_behind log_name c.args.logs.now.items _ c.args.name.now absent (c.in_ok-its.ensures.same ∙ c.as_bytes.ensures.value))
+    row ∙ absent ∙ sym (ap (λ (l : List StoredLog). row_of log_name l c.args.name.now) c.in_ok-push.ensures.items ∙ row_behind log_name c.args.logs.now.items _ c.args.name.now absent c.in_ok-its.ensures.same)

@@ -14,4 +14,4 @@ pub returns-in_ok-push-clause-at : goal.returns-in_ok-push-clause-at
 returns-in_ok-push-clause-at c =
     let row : c.map_row-row.result ≡ row_of map_name c.args.maps.now.items c.args.name.now = c.map_row-row.ensures.row ∙ ap (λ (l : List StoredMap). row_of map_name l c.args.name.now) c.deref.ensures.value in
     let absent : row_of map_name c.args.maps.now.items c.args.name.now ≡ length c.args.maps.now.items = omega (arith, row) in
-    row ∙ absent ∙ sym (ap (λ (l : List StoredMap). row_of map_name l c.args.name.now) c.in_ok-push.ensures.items ∙ row_behind map_name c.args.maps.now.items _ c.args.name.now absent (c.in_ok-its.ensures.same ∙ c.as_bytes.ensures.value))
+    row ∙ absent ∙ sym (ap (λ (l : List StoredMap). row_of map_name l c.args.name.now) c.in_ok-push.ensures.items ∙ row_behind map_name c.args.maps.now.items _ c.args.name.now absent c.in_ok-its.ensures.same)

@@ -1,0 +1,48 @@
+use super::MemoryVolume;
+use codec_base::Bytes;
+use std::test::Fail;
+use volume_base::{MetaMap, Volume, VolumeError};
+
+#[test]
+fn positions_reach_the_end_of_a_u64(rt: HostRuntime) -> Result<(), Fail> {
+    let alloc = rt.alloc();
+    let mut vol = MemoryVolume::new(alloc);
+    let last = u64::MAX - 1;
+    vol.put_log("a", last, &[Bytes::from_slice(alloc, b"x")?])?;
+    assert_eq!(rt; vol.log_bounds("a")?, (last, u64::MAX));
+    assert_eq!(rt; vol.log_read("a", last)?.as_slice(), b"x".as_slice());
+    let past = vol.log_read("a", u64::MAX).err();
+    assert_eq!(rt; past, Some(VolumeError::ItemOutOfRange(u64::MAX)));
+    let before = vol.log_read("a", last - 1).err();
+    assert_eq!(rt; before, Some(VolumeError::ItemPruned(last - 1)));
+    vol.log_clear("a", u64::MAX)?;
+    assert_eq!(rt; vol.log_bounds("a")?, (u64::MAX, u64::MAX));
+    vol.log_remove("a")?;
+    assert_eq!(rt; vol.log_bounds("a")?, (0, 0));
+    Ok(())
+}
+
+#[test]
+fn calls_fail_where_they_are_set_to(rt: HostRuntime) -> Result<(), Fail> {
+    let alloc = rt.alloc();
+    let mut vol = MemoryVolume::new(alloc);
+    let mut map = MetaMap::new(alloc);
+    map.put(
+        Bytes::from_slice(alloc, b"key")?,
+        Bytes::from_slice(alloc, b"value")?,
+    )?;
+    vol.put_map("m", &map)?;
+    for call in [2, 4, 0] {
+        vol.fail_call(call)?;
+    }
+    for fails in [false, true, false, true, false] {
+        let answer = vol.map_get("m");
+        assert_eq!(rt; answer.is_err(), fails);
+    }
+    vol.fail_call(1)?;
+    assert_eq!(rt; vol.map_remove("m").err(), Some(VolumeError::Failed));
+    assert!(rt; vol.map_get("m")?.get(b"key").is_some());
+    vol.map_replace("m", &MetaMap::new(alloc))?;
+    assert!(rt; vol.map_get("m")?.get(b"key").is_none());
+    Ok(())
+}
