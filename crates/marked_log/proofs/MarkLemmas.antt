@@ -1,0 +1,53 @@
+-- A log and a map over an append, a sync and a replacement.
+use Rattle.std.proofs.Common.{◌≡◌, inl, inr, ℕ, List, length, take, sym, ◌∙◌, ap, subst, arith}
+use Rattle.std.proofs.lemmas.List.{take_all, append-nil}
+use Rattle.volume_base.specs.Log.{Log, appended, Grows, Stays, BecomesOneOf}
+use Rattle.volume_base.specs.Moments.{PairHas, PairKeeps}
+use Rattle.volume_base.specs.Volume.{State, Map, LogMoves, MapMoves, OnlyLeft}
+use Rattle.volume_base.proofs.MomentLemmas.{pair_moves_log, pair_moves_map, pair_has_after, pair_keeps_joins}
+use Rattle.marked_log.specs.MarkedLog.{IsUnmarked, IsMarkedAfter}
+
+-- the log grows, and the map stays
+pub record IsGrowing (contents : Log) (items : List (List ℕ)) (unmarked : Map) (log : Log) (m : Map) : Type 0 where
+  pub some : (count : ℕ) × (log ≡ appended contents (take count items))
+  pub map_is : m ≡ unmarked
+
+items_are : (log : Log) (one two : List (List ℕ)) → one ≡ two → appended log one ≡ appended log two
+items_are log one two same = ap (appended log) same
+
+nothing_more : (log : Log) → log ≡ appended log (take 0 log.items)
+nothing_more log = ap (λ (l : List (List ℕ)). let made : Log = record { start = log.start; items = l } in made) (sym (append-nil log.items))
+
+grown_is : (contents : Log) (items : List (List ℕ)) (log : Log) → Grows contents items contents log → (count : ℕ) × (log ≡ appended contents (take count items))
+grown_is contents items log (inl same) = (0, same ∙ nothing_more contents)
+grown_is contents items log (inr (start, count, le, was, is)) = (count, is)
+
+module _ (one two : List ℕ) (contents : Log) (items : List (List ℕ)) (unmarked mark : Map) (s0 s1 : State)
+    (append : LogMoves one (Grows contents items) s0 s1) (has : PairHas s0 one two (IsUnmarked contents unmarked)) where
+  growing : PairKeeps one two (IsGrowing contents items unmarked) s0 s1
+  growing = pair_moves_log one two (Grows contents items) (IsUnmarked contents unmarked) (IsGrowing contents items unmarked) s0 s1 append has
+      (λ old new m was goes. record { some = grown_is contents items new (subst (λ (l : Log). Grows contents items l new) was.log_is goes); map_is = was.map_is })
+
+  weaker : (a b : State) → PairKeeps one two (IsGrowing contents items unmarked) a b → PairKeeps one two (IsMarkedAfter contents items unmarked) a b
+  weaker a b keeps = record { past = keeps.past; during = λ t log m lo hi left_log left_map. let is = keeps.during t log m lo hi left_log left_map in record { some = is.some; marked = inl is.map_is } }
+
+  pub after_append : PairKeeps one two (IsMarkedAfter contents items unmarked) s0 s1
+  after_append = weaker s0 s1 growing
+
+  module _ (s2 : State) (sync : LogMoves one Stays s1 s2) where
+    synced : PairKeeps one two (IsGrowing contents items unmarked) s0 s2
+    synced = pair_keeps_joins one two (IsGrowing contents items unmarked) s0 s1 s2 growing
+        (pair_moves_log one two Stays (IsGrowing contents items unmarked) (IsGrowing contents items unmarked) s1 s2 sync (pair_has_after one two (IsGrowing contents items unmarked) s0 s1 growing)
+        (λ old new m is same. subst (λ (l : Log). IsGrowing contents items unmarked l m) (sym same) is))
+
+    pub after_sync : PairKeeps one two (IsMarkedAfter contents items unmarked) s0 s2
+    after_sync = weaker s0 s2 synced
+
+    module _ (s3 : State) (durable : OnlyLeft (s2.log_left s2.clock one) (s2.log one)) (whole : s2.log one ≡ appended contents items) (replace : MapMoves two (BecomesOneOf mark) s2 s3) where
+      has_all : PairHas s2 one two (IsUnmarked (appended contents items) unmarked)
+      has_all log m left_log left_map = record { log_is = durable log left_log ∙ whole; map_is = (pair_has_after one two (IsGrowing contents items unmarked) s0 s2 synced log m left_log left_map).map_is }
+
+      pub after_mark : PairKeeps one two (IsMarkedAfter contents items unmarked) s0 s3
+      after_mark = pair_keeps_joins one two (IsMarkedAfter contents items unmarked) s0 s2 s3 after_sync
+          (pair_moves_map one two (BecomesOneOf mark) (IsUnmarked (appended contents items) unmarked) (IsMarkedAfter contents items unmarked) s2 s3 replace has_all
+          (λ log old new was goes. record { some = (length items, was.log_is ∙ ap (appended contents) (sym (take_all (length items) items (omega arith)))); marked = inr was.log_is }))

@@ -1,0 +1,2 @@
+pub mod MarkedLog
+pub mod Silent
