@@ -1,15 +1,14 @@
 -- Batches applied to trees.
-use Rattle.std.proofs.Common.{◌≡◌, ◌⊎◌, inl, inr, ℕ, ◌+◌, ◌-◌, ◌≤◌, ◌<◌, ◌++◌, List, length, drop, refl, sym, ◌∙◌, ap, subst, arith}
+use Rattle.std.proofs.Common.{◌≡◌, inl, inr, ℕ, ◌+◌, ◌-◌, ◌≤◌, ◌++◌, List, length, drop, refl, sym, ◌∙◌, ap, subst, arith}
 use Rattle.tree_shape.specs.Hashing.{Hashing}
 use Rattle.tree_shape.specs.Shape.{Shape, made, IsLawful}
 use Rattle.tree_shape.specs.Kept.{KeepsPeaks}
 use Rattle.tree_core.specs.declared.error.Error.{Error}
-use Rattle.tree_core.specs.declared.error.Error.TheVariants.{StaleBatch, AncestorDropped}
 use Rattle.tree_core.specs.Pruned.{made_from, peaks_at}
 use Rattle.tree_core.specs.Links.{HasMark, joined_nodes}
 use Rattle.tree_core.specs.Tree.{Tree, node_at, IsOf, IsGrown}
 use Rattle.tree_core.specs.Batches.{Sealed, IsSoundSealed, IsSealedOf}
-use Rattle.tree_core.specs.Applied.{Fits, BeganAt, Refused, WhyNot, IsLonger}
+use Rattle.tree_core.specs.Applied.{Fits, Refused, WhyNot, IsLonger}
 use Rattle.tree_core.proofs.LinkLemmas.{linked_from, joined_length, batch_applied, ends_with}
 
 -- the leaves before a mark that fits are no more than the batch's, and the nodes behind it are those of the later leaves

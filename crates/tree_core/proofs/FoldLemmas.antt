@@ -1,17 +1,16 @@
 -- Peaks read one by one, and folded.
-use Rattle.std.proofs.Common.{◌≡◌, ℕ, zero, suc, ◌+◌, ◌-◌, ◌^◌, ◌<◌, ◌≤◌, List, [], ◌∷◌, ◌++◌, length, map, take, drop, get_or, Some, Option, refl, sym, ◌∙◌, ap, subst, arith, inl, inr, drop-cons, add-one}
-use Rattle.std.specs.Prelude.{IsSome}
+use Rattle.std.proofs.Common.{◌≡◌, ℕ, zero, suc, ◌+◌, ◌-◌, ◌^◌, ◌<◌, ◌≤◌, List, [], ◌∷◌, length, take, drop, get_or, Some, Option, refl, sym, ◌∙◌, ap, arith, inl, inr, drop-cons}
 use Rattle.std.proofs.lemmas.Option.{same_Some}
 use Rattle.tree_shape.specs.Hashing.{Hashing, fold_input}
-use Rattle.tree_shape.specs.Shape.{Shape, made, PeaksStand, IsLawful}
+use Rattle.tree_shape.specs.Shape.{Shape, made, IsLawful}
 use Rattle.tree_shape.specs.Kept.{PeakIn, PeakOf}
 use Rattle.tree_shape.specs.Pins.{base}
 use Rattle.tree_shape.specs.declared.bagging.Bagging.{Bagging}
 use Rattle.tree_shape.specs.declared.bagging.Bagging.TheVariants.{ForwardFold, BackwardFold}
-use Rattle.tree_shape.specs.Root.{fold_forward, fold_backward, bagged, folded_bytes}
+use Rattle.tree_shape.specs.Root.{fold_forward, fold_backward, folded_bytes}
 use Rattle.tree_shape.proofs.NodeLemmas.{low_height}
 use Rattle.tree_shape.proofs.PinLemmas.{base-le, base-next, base-end}
-use Rattle.tree_core.specs.Reading.{TellsPeaks, ArePeaks}
+use Rattle.tree_core.specs.Reading.{ArePeaks}
 
 pub in_peaks : (e : ℕ) (hs : List ℕ) (i : ℕ) → i < length hs → PeakIn e hs (base e hs (suc i)) (get_or hs i 0)
 in_peaks e [] i lt = absurd (omega arith)

@@ -1,15 +1,15 @@
 -- Nodes read from the peaks of a mark, or from what was made since.
-use Rattle.std.proofs.Common.{◌≡◌, ℕ, zero, suc, ◌+◌, ◌-◌, ◌*◌, ◌^◌, ◌<◌, ◌≤◌, ◌⊎◌, inl, inr, Bool, true, false, cond, List, [], ◌∷◌, ◌++◌, length, map, take, drop, get_or, Some, None, Option, refl, sym, ◌∙◌, ap, subst, arith, add-one}
+use Rattle.std.proofs.Common.{◌≡◌, ℕ, zero, suc, ◌+◌, ◌-◌, ◌^◌, ◌<◌, ◌≤◌, ◌⊎◌, inl, inr, true, false, List, [], ◌∷◌, length, map, take, drop, get_or, Some, refl, sym, ◌∙◌, ap, arith}
 use Rattle.std.specs.Prelude.{◌==◌, ◌&&◌, slice_get, IsSome, nat_le}
 use Rattle.std.specs.Option.{option_map}
 use Rattle.std.proofs.lemmas.Bool.Decides.{eqb_tells, leb_tells}
-use Rattle.std.proofs.lemmas.Option.{slice_get_within, slice_get-map, slice_get_past}
+use Rattle.std.proofs.lemmas.Option.{slice_get-map}
 use Rattle.tree_shape.specs.Hashing.{Hashing}
 use Rattle.tree_shape.specs.Shape.{Shape, made, IsLawful}
-use Rattle.tree_shape.specs.Kept.{PeakIn, PeakOf, AtHand}
+use Rattle.tree_shape.specs.Kept.{PeakIn, AtHand}
 use Rattle.tree_shape.specs.Slow.{node, node_of, peak_digests}
 use Rattle.tree_core.proofs.MemLemmas.{get-take}
-use Rattle.tree_core.specs.Pruned.{made_from, peaks_at, peak_found, held_at}
+use Rattle.tree_core.specs.Pruned.{peaks_at, peak_found, held_at}
 use Rattle.tree_core.proofs.Later.{leaf_position}
 
 -- one peak further

@@ -1,18 +1,17 @@
 -- What is made after a mark is told by the mark and the later leaves.
-use Rattle.std.proofs.Common.{◌≡◌, ℕ, zero, suc, ◌+◌, ◌-◌, ◌*◌, ◌^◌, ◌<◌, ◌≤◌, ◌⊎◌, inl, inr, List, [], ◌∷◌, ◌++◌, length, map, take, drop, get_or, Some, None, Option, refl, sym, ◌∙◌, ap, subst, arith, add-one, append_assoc, length-append}
+use Rattle.std.proofs.Common.{◌≡◌, ℕ, zero, suc, ◌+◌, ◌-◌, ◌^◌, ◌<◌, ◌≤◌, ◌⊎◌, inl, inr, List, [], ◌∷◌, ◌++◌, length, map, Some, Option, refl, sym, ◌∙◌, ap, subst, arith, append_assoc, length-append}
 use Rattle.std.specs.Prelude.{slice_get}
-use Rattle.std.specs.Option.{option_map}
 use Rattle.std.proofs.lemmas.List.{map-append, length-map}
-use Rattle.std.proofs.lemmas.Option.{some_pair_parts, slice_get_within, slice_get-map}
+use Rattle.std.proofs.lemmas.Option.{some_pair_parts}
 use Rattle.std.proofs.lemmas.Bool.Decides.{eqb_tells}
 use Rattle.tree_shape.specs.Hashing.{Hashing, node_input}
-use Rattle.tree_shape.specs.Shape.{Shape, made, Stands, ChildrenStand, IsWellMade, PeaksStand, IsLawful}
+use Rattle.tree_shape.specs.Shape.{Shape, made, Stands, ChildrenStand, PeaksStand, IsLawful}
 use Rattle.tree_shape.specs.Places.{get-append, get-behind}
 use Rattle.tree_shape.specs.MmrPlaces.{append_nil}
 use Rattle.tree_shape.specs.Kept.{PeakIn, PeakOf, AtHand, KeepsPeaks}
 use Rattle.tree_shape.specs.Slow.{leaf_at, node, node_of, nodes, peak_digests}
 use Rattle.tree_core.proofs.MemLemmas.{node-append, map-nodes-append}
-use Rattle.tree_core.specs.Pruned.{made_from, peaks_at, nodes_from, IsTreeOf, IsPruned}
+use Rattle.tree_core.specs.Pruned.{made_from, peaks_at, nodes_from, IsTreeOf}
 
 pub get_past : {X : Type 0} (xs ys : List X) (i : ℕ) → slice_get (xs ++ ys) (length xs + i) ≡ slice_get ys i
 get_past [] ys i = let e : 0 + i ≡ i = omega arith in rw e refl

@@ -4,10 +4,10 @@ use Rattle.std.specs.Cmp.Lexicographic.{pointwise}
 use Rattle.std.specs.Prelude.{nat_eq}
 use Rattle.std.proofs.lemmas.Bool.Decides.{Decides-eqb}
 use Rattle.std.proofs.lemmas.Slice.Eq.{slice_eq-Decides}
-use Rattle.std.proofs.Common.{◌≡◌, Bool, true, false, ℕ, zero, suc, ◌+◌, ◌-◌, ◌^◌, ◌<◌, ◌≤◌, List, [], ◌∷◌, ◌++◌, length, map, take, drop, get_or, Some, None, Option, refl, sym, ◌∙◌, ap, subst, arith, length-append, length-drop, append_assoc}
-use Rattle.std.specs.Prelude.{slice_get, IsSomeAnd}
+use Rattle.std.proofs.Common.{◌≡◌, Bool, true, false, ℕ, zero, suc, ◌+◌, ◌-◌, ◌^◌, ◌<◌, ◌≤◌, List, [], ◌∷◌, ◌++◌, length, map, take, drop, get_or, Some, Option, refl, sym, ◌∙◌, ap, subst, arith, length-append, length-drop, append_assoc}
+use Rattle.std.specs.Prelude.{slice_get}
 use Rattle.std.proofs.lemmas.List.{map-append, length-map}
-use Rattle.std.proofs.lemmas.Option.{same_Some, slice_get-get_or, get_or_from_slice_get, slice_get-map}
+use Rattle.std.proofs.lemmas.Option.{same_Some, slice_get-map}
 use Rattle.std.specs.Option.{option_map}
 use Rattle.tree_shape.specs.Hashing.{Hashing}
 use Rattle.tree_shape.specs.Shape.{Shape, made, PeaksStand, IsLawful}
@@ -16,7 +16,7 @@ use Rattle.tree_shape.specs.Slow.{leaf_at, node_of, peak_digests}
 use Rattle.tree_core.proofs.MemLemmas.{take-next, node-append, map-nodes-append}
 use Rattle.tree_core.specs.Pruned.{made_from, nodes_from, peaks_at, IsTreeOf, Extends, Continues}
 use Rattle.tree_core.specs.Links.{Link, IsLinked, IsLinkedOf, joined_nodes, HasMark, IsBatchOf, first_leaves}
-use Rattle.tree_core.proofs.Later.{stands_since, get_past, made_from-split, nodes_same, peaks_after, peaks_at-append, tree_grown}
+use Rattle.tree_core.proofs.Later.{stands_since, get_past, get_front, made_from-split, nodes_same, peaks_at-append, tree_grown}
 
 pub linked_from : {D : Type 0} (s : Shape) (n : ℕ) (gs : List (Link D)) (m i c : ℕ) (ps : List D) → IsLinked s n gs m → HasMark gs i c ps → IsLinked s c (drop i gs) m
 linked_from s n [] m i c ps l k = absurd k
@@ -306,3 +306,16 @@ none_made s b = refl
 
 pub one_link : {D X : Type 0} (f : X → Link D) (ys xs : List X) (x : X) → ys ≡ xs ++ (x ∷ []) → xs ≡ [] → map f ys ≡ f x ∷ []
 one_link f ys xs x e z = ap (map f) (e ∙ ap (λ zs. zs ++ (x ∷ [])) z)
+
+pub node_here : {D X : Type 0} (f : X → Link D) (xs : List X) (i left : ℕ) (x : X) (nodes : List D) (d : D) → slice_get xs i ≡ Some x → nodes ≡ (f x).nodes → left < length nodes → slice_get nodes left ≡ Some d
+    → slice_get (joined_nodes (drop i (map f xs))) left ≡ Some d
+node_here f xs i left x nodes d ex en lt e =
+    let l : left < length (f x).nodes = rw (← en) lt in
+    ap (λ ns. slice_get ns left) (joined_step f xs i x ex) ∙ get_front (f x).nodes (joined_nodes (drop (suc i) (map f xs))) left l ∙ ap (λ ns. slice_get ns left) (sym en) ∙ e
+
+pub node_past : {D X : Type 0} (f : X → Link D) (xs : List X) (i left : ℕ) (x : X) (nodes : List D) → slice_get xs i ≡ Some x → nodes ≡ (f x).nodes → length nodes ≤ left
+    → slice_get (joined_nodes (drop (suc i) (map f xs))) (left - length nodes) ≡ slice_get (joined_nodes (drop i (map f xs))) left
+node_past f xs i left x nodes ex en le =
+    let l : length nodes ≡ length (f x).nodes = ap length en in
+    let e : length (f x).nodes + (left - length nodes) ≡ left = omega arith in
+    sym (get_past (f x).nodes (joined_nodes (drop (suc i) (map f xs))) (left - length nodes)) ∙ ap (slice_get ((f x).nodes ++ joined_nodes (drop (suc i) (map f xs)))) e ∙ ap (λ ns. slice_get ns left) (sym (joined_step f xs i x ex))

@@ -1,17 +1,16 @@
 -- The nodes of a tree one after another.
-use Rattle.std.proofs.Common.{◌≡◌, ℕ, zero, suc, ◌+◌, ◌-◌, ◌*◌, ◌^◌, ◌<◌, ◌≤◌, ◌⊎◌, inl, inr, List, [], ◌∷◌, ◌++◌, length, map, take, get_or, Some, None, Option, refl, sym, ◌∙◌, ap, subst, arith, add-one, length-append}
+use Rattle.std.proofs.Common.{◌≡◌, ℕ, zero, suc, ◌+◌, ◌-◌, ◌*◌, ◌^◌, ◌<◌, ◌≤◌, List, [], ◌∷◌, ◌++◌, length, map, take, get_or, Some, None, refl, sym, ◌∙◌, ap, arith, add-one, length-append}
 use Rattle.std.specs.Prelude.{slice_get}
 use Rattle.std.specs.Option.{option_map}
 use Rattle.std.proofs.Math.Nat.{pow-suc}
 use Rattle.std.proofs.Math.Seq.{take-append_seam, get_or-append_seam}
 use Rattle.std.proofs.lemmas.List.{length-map}
 use Rattle.tree_shape.specs.Places.{get-behind}
-use Rattle.std.proofs.lemmas.List.{map-append, length-take-le, get_or_append_left}
-use Rattle.std.proofs.lemmas.Nat.{pow_pos}
-use Rattle.std.proofs.lemmas.Option.{slice_get_read, slice_get-map, slice_get_within, slice_get-get_or, same_Some}
+use Rattle.std.proofs.lemmas.List.{map-append, get_or_append_left}
+use Rattle.std.proofs.lemmas.Option.{slice_get_read, slice_get-map, slice_get_within, same_Some}
 use Rattle.tree_shape.specs.Hashing.{Hashing, node_input}
-use Rattle.tree_shape.specs.Shape.{Shape, made, Stands, ChildrenStand, IsWellMade, PeaksStand, IsLawful}
-use Rattle.tree_shape.specs.Slow.{leaf_at, node, node_of, nodes}
+use Rattle.tree_shape.specs.Shape.{Shape, made, Stands, ChildrenStand, IsWellMade, IsLawful}
+use Rattle.tree_shape.specs.Slow.{node, node_of, nodes}
 use Rattle.tree_shape.proofs.NodeLemmas.{node-from_halves}
 
 -- the node that is made as the i-th behind leaf n

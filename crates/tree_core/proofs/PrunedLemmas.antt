@@ -1,14 +1,14 @@
 -- Which nodes a pruned tree has.
-use Rattle.std.proofs.Common.{◌≡◌, ℕ, zero, suc, ◌+◌, ◌-◌, ◌*◌, ◌^◌, ◌<◌, ◌≤◌, ◌⊎◌, inl, inr, Bool, true, false, cond, List, [], ◌∷◌, ◌++◌, length, map, take, drop, get_or, Some, None, Option, refl, sym, ◌∙◌, ap, subst, arith, add-one, drop-cons}
-use Rattle.std.specs.Prelude.{◌==◌, ◌||◌, slice_get, IsSome, nat_le}
+use Rattle.std.proofs.Common.{◌≡◌, ℕ, ◌+◌, ◌-◌, ◌^◌, ◌≤◌, inl, inr, Bool, true, false, cond, List, [], ◌∷◌, length, Some, None, Option, refl, sym, ◌∙◌, ap, subst, arith}
+use Rattle.std.specs.Prelude.{◌||◌, slice_get, IsSome, nat_le}
 use Rattle.std.specs.Option.{option_map}
 use Rattle.std.proofs.lemmas.Bool.Decides.{eqb_tells, leb_tells}
 use Rattle.std.proofs.lemmas.Option.{slice_get_within, slice_get-map, slice_get_past, same_Some}
 use Rattle.tree_shape.specs.Hashing.{Hashing}
 use Rattle.tree_shape.specs.Shape.{Shape, made, Stands, PeaksStand, IsLawful}
-use Rattle.tree_shape.specs.Kept.{PeakIn, PeakOf, AtHand, KeepsPeaks}
-use Rattle.tree_shape.specs.Slow.{node, node_of, nodes, peak_digests}
-use Rattle.tree_core.specs.Pruned.{made_from, peaks_at, IsTreeOf, IsPruned, is_peak_at, keeps, pruned, Extends}
+use Rattle.tree_shape.specs.Kept.{PeakIn, PeakOf, KeepsPeaks}
+use Rattle.tree_shape.specs.Slow.{node, node_of, nodes}
+use Rattle.tree_core.specs.Pruned.{made_from, IsTreeOf, IsPruned, is_peak_at, keeps, pruned, Extends}
 use Rattle.tree_core.proofs.Held.{get_is_some}
 use Rattle.tree_core.proofs.Later.{leaf_position, made_le, at_hand_back, length-split}
 

@@ -1,17 +1,17 @@
 -- The nodes that appends make after a mark, one after another.
-use Rattle.std.proofs.Common.{◌≡◌, ℕ, zero, suc, ◌+◌, ◌-◌, ◌*◌, ◌^◌, ◌<◌, ◌≤◌, ◌⊎◌, inl, inr, Bool, true, false, cond, List, [], ◌∷◌, ◌++◌, length, map, take, drop, get_or, Some, None, Option, refl, sym, ◌∙◌, ap, subst, arith, add-one, length-append, drop-cons}
+use Rattle.std.proofs.Common.{◌≡◌, ℕ, zero, suc, ◌+◌, ◌-◌, ◌^◌, ◌<◌, ◌≤◌, inl, inr, List, [], ◌∷◌, ◌++◌, length, map, take, drop, get_or, Some, refl, sym, ◌∙◌, ap, subst, arith, add-one, length-append, drop-cons}
 use Rattle.std.specs.Prelude.{slice_get, IsSome}
-use Rattle.std.proofs.lemmas.List.{map-append, length-map}
+use Rattle.std.proofs.lemmas.List.{map-append}
 use Rattle.std.proofs.lemmas.Option.{slice_get_within, same_Some, get_or_from_slice_get}
 use Rattle.std.proofs.Math.Seq.{take-length, take-append_seam}
 use Rattle.tree_shape.specs.Places.{get-behind}
 use Rattle.tree_shape.specs.Hashing.{Hashing, node_input}
-use Rattle.tree_shape.specs.Shape.{Shape, made, Stands, ChildrenStand, IsWellMade, PeaksStand, IsLawful}
+use Rattle.tree_shape.specs.Shape.{Shape, made, Stands, ChildrenStand, PeaksStand, IsLawful}
 use Rattle.tree_shape.specs.Kept.{PeakIn, PeakOf, AtHand, KeepsPeaks}
-use Rattle.tree_shape.specs.Slow.{leaf_at, node, node_of, peak_digests}
-use Rattle.tree_core.proofs.MemLemmas.{take-next, node-append}
+use Rattle.tree_shape.specs.Slow.{node, node_of}
+use Rattle.tree_core.proofs.MemLemmas.{take-next}
 use Rattle.tree_shape.proofs.NodeLemmas.{node-from_halves}
-use Rattle.tree_core.specs.Pruned.{made_from, nodes_from, peaks_at, peak_found, held_at}
+use Rattle.tree_core.specs.Pruned.{made_from, nodes_from, peaks_at, held_at}
 use Rattle.tree_core.proofs.Later.{get_past, stands_since, since_stands, at_hand_back, length-split}
 use Rattle.tree_core.proofs.Held.{is_held, held_right}
 

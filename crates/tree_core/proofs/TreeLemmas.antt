@@ -1,20 +1,19 @@
 -- Trees in memory.
-use Rattle.std.proofs.Common.{◌≡◌, ℕ, zero, suc, ◌+◌, ◌-◌, ◌^◌, ◌<◌, ◌≤◌, Bool, true, false, List, [], ◌∷◌, ◌++◌, length, map, reverse, get_or, Some, None, Option, refl, sym, ◌∙◌, ap, subst, arith}
+use Rattle.std.proofs.Common.{◌≡◌, ℕ, suc, ◌+◌, ◌-◌, List, length, map, reverse, get_or, Some, None, Option, refl, sym, ◌∙◌, ap, subst, arith}
 use Rattle.std.specs.Prelude.{IsSome}
 use Rattle.std.proofs.lemmas.List.{length-map, length-reverse, get_or-map, get_or-reverse}
-use Rattle.std.proofs.lemmas.Option.{slice_get_within}
 use Rattle.tree_shape.specs.Hashing.{Hashing}
-use Rattle.tree_shape.specs.Shape.{Shape, made, PeaksStand, peaks, peaks_down, IsLawful}
+use Rattle.tree_shape.specs.Shape.{Shape, made, peaks, peaks_down, IsLawful}
 use Rattle.tree_shape.specs.Kept.{PeakOf, KeepsPeaks}
 use Rattle.tree_shape.specs.Pins.{base}
 use Rattle.tree_shape.specs.Slow.{node, node_of}
 use Rattle.tree_shape.specs.Root.{root, root_over}
 use Rattle.tree_shape.proofs.PinLemmas.{length-peaks_down, peaks_down-at}
-use Rattle.tree_core.specs.Pruned.{IsTreeOf, IsPruned, peaks_at, nodes_from, held_at}
+use Rattle.tree_core.specs.Pruned.{peaks_at, nodes_from, held_at}
 use Rattle.tree_core.specs.Links.{Link}
 use Rattle.tree_core.specs.Batches.{IsSoundSegment}
 use Rattle.tree_core.proofs.Since.{peak_is_held, peak_node}
-use Rattle.tree_core.specs.Reading.{TellsPeaks, ArePeaks}
+use Rattle.tree_core.specs.Reading.{ArePeaks}
 use Rattle.tree_core.specs.Tree.{Tree, node_at, IsSound, IsOf}
 use Rattle.tree_core.proofs.FoldLemmas.{in_peaks}
 use Rattle.tree_core.proofs.PrunedLemmas.{peak_stands, pruned_peak, tree_node}

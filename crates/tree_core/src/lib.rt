@@ -19,3 +19,6 @@ pub use tree_shape::{
     Sha256Hasher, Standard, slow_node, slow_peaks, slow_root,
 };
 pub use unsealed::UnmerkleizedBatch;
+
+#[cfg(test)]
+mod tests;

@@ -1,5 +1,5 @@
 use crate::mark::Mark;
-use crate::segment::{Segment, nodes_from_place, place_of, share_from};
+use crate::segment::{Segment, node_in, nodes_from_place, place_of, share_from};
 use crate::{Error, UnmerkleizedBatch};
 use std::alloc::{AllocError, Global};
 use std::marker::Model;
@@ -34,7 +34,7 @@ impl<F: Family, D: Digest> MerkleizedBatch<F, D> {
     ghost use Rattle.tree_shape.specs.Shape.{made};
     ghost use Rattle.tree_shape.specs.Root.{root};
     ghost use Rattle.tree_core.specs.Links.{Link, IsLinked, HasMark, joined_nodes};
-    ghost use Rattle.tree_core.specs.Batches.{Sealed, IsSoundSealed, IsSealedOf, IsUnsealedOf, IsChildOf};
+    ghost use Rattle.tree_core.specs.Batches.{Sealed, IsSoundSealed, IsSealedOf, IsUnsealedOf, IsChildOf, sealed_node};
     ghost use Rattle.tree_core.specs.Applied.{WhyNot};
 
     pub(crate) fn seal(
@@ -78,6 +78,17 @@ impl<F: Family, D: Digest> MerkleizedBatch<F, D> {
         ensures { result ≡ length (made F.shape self.now.leaves) }
     {
         Position::new(F::size(self.leaves))
+    }
+
+    /// The node at a position, of those that this batch and its kept ancestors made.
+    pub fn get_node(&self, pos: Position<F>) -> Option<D>
+        ensures { result ≡ sealed_node F.shape self.now pos }
+    {
+        let first = F::size(self.first);
+        if pos.as_u64() < first {
+            return None;
+        }
+        node_in(&self.segments, pos.as_u64() - first)
     }
 
     /// The root of the tree with this batch. It takes no memory.

@@ -1,5 +1,5 @@
 //! What one batch of a chain added.
-ghost use Rattle.std.specs.Prelude.{◌≡◌, ℕ, ◌+◌, ◌-◌, ◌≤◌, ◌<◌, ◌^◌, ◌↔◌, List, [], ◌∷◌, ◌++◌, length, map, drop, OnOk, IfOk, IfSome, IsTrue, Some, None};
+ghost use Rattle.std.specs.Prelude.{◌≡◌, ℕ, ◌+◌, ◌-◌, ◌≤◌, ◌<◌, ◌^◌, ◌↔◌, List, [], ◌∷◌, ◌++◌, length, map, drop, slice_get, OnOk, IfOk, IfSome, IsTrue, Some, None};
 ghost use Rattle.tree_shape.specs.Hashing.{Hashing};
 ghost use Rattle.tree_shape.specs.Root.{root};
 ghost use Rattle.tree_core.specs.Pruned.{made_from, nodes_from, peaks_at, held_at};
@@ -165,4 +165,19 @@ pub(crate) fn push_own<F: Family, D: Digest>(
 {
     segments.push(own)?;
     Ok(())
+}
+
+/// The node of the segments at this place, where they are read one after another.
+pub(crate) fn node_in<F: Family, D: Digest>(segments: &[Rc<Segment<F, D>>], index: u64) -> Option<D>
+    ensures { result ≡ slice_get (joined_nodes (map (λ g. g.value) segments.now)) index }
+{
+    let mut left = index;
+    for i in 0..segments.len() {
+        let nodes = segments[i].nodes();
+        if left < nodes.len() as u64 {
+            return Some(nodes[left as usize]);
+        }
+        left -= nodes.len() as u64;
+    }
+    None
 }

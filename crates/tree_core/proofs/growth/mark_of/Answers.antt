@@ -1,7 +1,7 @@
-use Rattle.std.proofs.Common.{◌≡◌, ℕ, ◌≤◌, ◌<◌, ◌+◌, ◌-◌, ◌^◌, length, get_or, drop, ◌∷◌, ◌++◌, refl, sym, ◌∙◌, ap, arith, append_assoc, length-append}
+use Rattle.std.proofs.Common.{◌≡◌, ◌<◌, ◌+◌, ◌-◌, ◌^◌, length, get_or, ◌++◌, sym, ◌∙◌, ap, arith, append_assoc, length-append}
 use Rattle.std.proofs.lemmas.Option.{same_Some}
 use Rattle.tree_shape.specs.Shape.{made}
-use Rattle.tree_shape.specs.Slow.{node, peak_digests}
+use Rattle.tree_shape.specs.Slow.{node}
 use Rattle.tree_shape.proofs.NodeLemmas.{next_peak, next_digest, peak_room}
 use Rattle.tree_core.proofs.Since.{in_here, in_later}
 use Rattle.tree_core.proofs.growth.mark_of.Goals as goal

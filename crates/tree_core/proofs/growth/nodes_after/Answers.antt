@@ -1,7 +1,5 @@
-use Rattle.std.proofs.Common.{◌≡◌, ◌+◌, ◌<◌, List, [], ◌∷◌, ◌++◌, length, refl, sym, ◌∙◌, ap, arith, length-append, Some}
+use Rattle.std.proofs.Common.{[], length, refl, ◌∙◌, ap}
 use Rattle.std.proofs.lemmas.Option.{slice_get_read}
-use Rattle.tree_shape.specs.Shape.{made}
-use Rattle.tree_core.specs.Pruned.{made_from}
 use Rattle.tree_core.proofs.Since.{nothing_since, leaf_since}
 use Rattle.tree_core.proofs.growth.nodes_after.Goals as goal
 

@@ -1,4 +1,4 @@
-use Rattle.std.proofs.Common.{◌≡◌, ◌+◌, List, length}
+use Rattle.std.proofs.Common.{◌≡◌, List, length}
 use Rattle.tree_core.specs.Pruned.{made_from, peaks_at, nodes_from, Continues}
 use Rattle.tree_core.proofs.growth.nodes_after.Given as goal
 

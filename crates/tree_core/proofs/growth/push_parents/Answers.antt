@@ -1,8 +1,5 @@
-use Rattle.std.proofs.Common.{◌≡◌, ℕ, zero, ◌+◌, ◌-◌, ◌≤◌, ◌<◌, ◌^◌, List, [], ◌∷◌, ◌++◌, length, map, take, refl, sym, ◌∙◌, ap, subst, arith, length-append, None, Some}
-use Rattle.std.specs.Prelude.{slice_get}
-use Rattle.tree_shape.specs.Shape.{made}
+use Rattle.std.proofs.Common.{◌≡◌, ℕ, ◌+◌, ◌-◌, ◌≤◌, ◌^◌, length, sym, ◌∙◌, ap, arith, length-append}
 use Rattle.tree_core.proofs.MemLemmas.{none_left, some_left}
-use Rattle.tree_core.specs.Pruned.{made_from}
 use Rattle.tree_core.proofs.Since.{children_since, within_since, child_held, next_since, all_since, length-made_from_suc}
 use Rattle.tree_core.proofs.growth.push_parents.Goals as goal
 

@@ -1,4 +1,4 @@
-use Rattle.std.proofs.Common.{◌≡◌, ◌<◌, length, sym, ◌∙◌, ap, arith}
+use Rattle.std.proofs.Common.{sym, ◌∙◌, arith}
 use Rattle.tree_core.proofs.FoldLemmas.{forward_bytes, backward_bytes, joined_bytes, mixed_bytes}
 use Rattle.tree_core.proofs.peaks.fold_all.Goals as goal
 

@@ -1,4 +1,4 @@
-use Rattle.std.proofs.Common.{◌≡◌, ℕ, suc, ◌+◌, ◌-◌, ◌^◌, ◌<◌, ◌≤◌, List, ◌∷◌, length, get_or, take, drop, refl, sym, ◌∙◌, ap, arith}
+use Rattle.std.proofs.Common.{◌≡◌, suc, ◌+◌, ◌-◌, ◌<◌, ◌∷◌, length, take, sym, ◌∙◌, ap, arith}
 use Rattle.tree_shape.specs.Root.{fold_forward}
 use Rattle.tree_shape.specs.Pins.{base}
 use Rattle.tree_core.proofs.FoldLemmas.{steps_up, oldest_at, read_is, first_step}

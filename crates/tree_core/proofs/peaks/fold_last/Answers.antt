@@ -1,5 +1,4 @@
-use Rattle.std.proofs.Common.{◌≡◌, ℕ, suc, ◌+◌, ◌-◌, ◌^◌, ◌<◌, ◌≤◌, List, ◌∷◌, length, get_or, take, drop, refl, sym, ◌∙◌, ap, arith}
-use Rattle.tree_shape.specs.Root.{fold_backward}
+use Rattle.std.proofs.Common.{◌≡◌, suc, ◌+◌, ◌-◌, ◌^◌, ◌<◌, ◌≤◌, length, drop, refl, sym, ◌∙◌, ap, arith}
 use Rattle.tree_shape.specs.Pins.{base}
 use Rattle.tree_core.proofs.FoldLemmas.{steps_down, read_is, last_step, last_one}
 use Rattle.tree_core.proofs.peaks.fold_last.Goals as goal

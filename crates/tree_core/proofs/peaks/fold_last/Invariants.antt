@@ -1,4 +1,4 @@
-use Rattle.std.proofs.Common.{◌≡◌, ◌-◌, ◌≤◌, List, ◌∷◌, take, drop, length}
+use Rattle.std.proofs.Common.{◌≡◌, ◌-◌, List, ◌∷◌, drop, length}
 use Rattle.tree_shape.specs.Root.{fold_backward}
 use Rattle.tree_shape.specs.Pins.{base}
 use Rattle.tree_core.specs.Reading.{ArePeaks}

@@ -1,7 +1,7 @@
-use Rattle.std.proofs.Common.{◌≡◌, ◌<◌, length, refl, sym, ◌∙◌, ap}
+use Rattle.std.proofs.Common.{length, refl, ◌∙◌, ap}
 use Rattle.std.proofs.lemmas.Option.{slice_get_read}
 use Rattle.tree_core.specs.Links.{Link}
-use Rattle.tree_core.proofs.LinkLemmas.{first_here, first_past}
+use Rattle.tree_core.proofs.LinkLemmas.{first_here}
 use Rattle.tree_core.proofs.segment.first_of.Goals as goal
 
 pub returns-then-place-segments : goal.returns-then-place-segments

@@ -1,6 +1,5 @@
-use Rattle.std.proofs.Common.{◌≡◌, ℕ, ◌<◌, ◌++◌, length, refl, sym, ◌∙◌, ap, arith, add-one, append_assoc}
+use Rattle.std.proofs.Common.{◌++◌, length, refl, sym, ◌∙◌, ap, add-one, append_assoc}
 use Rattle.std.proofs.lemmas.Option.{slice_get_read}
-use Rattle.tree_core.specs.Links.{joined_nodes}
 use Rattle.tree_core.proofs.LinkLemmas.{joined_step, joined_end}
 use Rattle.tree_core.proofs.segment.nodes_from_place.Goals as goal
 

@@ -1,5 +1,5 @@
 use Rattle.std.proofs.Common.{◌≡◌, ◌++◌, map, drop}
-use Rattle.tree_core.specs.Links.{Link, joined_nodes}
+use Rattle.tree_core.specs.Links.{joined_nodes}
 use Rattle.tree_core.proofs.segment.nodes_from_place.Given as goal
 
 abbrev pub invariant-loop-i : goal.invariant-loop-i

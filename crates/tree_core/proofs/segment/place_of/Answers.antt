@@ -1,9 +1,8 @@
-use Rattle.std.proofs.Common.{◌≡◌, ℕ, ◌<◌, length, refl, sym, ◌∙◌, ap, subst, arith, inl, inr, map, false, true}
+use Rattle.std.proofs.Common.{ℕ, length, refl, subst, arith, inl, inr, map, false, true}
 use Rattle.std.specs.Prelude.{IsTrue}
 use Rattle.std.proofs.lemmas.Bool.Decides.{eqb_tells}
 use Rattle.std.proofs.lemmas.Option.{slice_get_read}
-use Rattle.std.proofs.lemmas.List.{length-map}
-use Rattle.tree_core.specs.Links.{Link, HasMark}
+use Rattle.tree_core.specs.Links.{HasMark}
 use Rattle.tree_core.proofs.LinkLemmas.{mark_at, mark_within_map}
 use Rattle.tree_core.proofs.segment.place_of.Goals as goal
 

@@ -1,5 +1,5 @@
-use Rattle.std.proofs.Common.{◌≡◌, ℕ, ◌<◌, map}
-use Rattle.tree_core.specs.Links.{Link, HasMark}
+use Rattle.std.proofs.Common.{ℕ, ◌<◌, map}
+use Rattle.tree_core.specs.Links.{HasMark}
 use Rattle.tree_core.proofs.segment.place_of.Given as goal
 
 abbrev pub invariant-loop-i : goal.invariant-loop-i

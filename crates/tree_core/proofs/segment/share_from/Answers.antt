@@ -1,4 +1,4 @@
-use Rattle.std.proofs.Common.{◌≡◌, ℕ, ◌<◌, length, refl, sym, ◌∙◌, ap, arith, add-one}
+use Rattle.std.proofs.Common.{length, refl, add-one}
 use Rattle.std.proofs.lemmas.Option.{slice_get_read}
 use Rattle.tree_core.proofs.LinkLemmas.{share_next, share_end}
 use Rattle.tree_core.proofs.segment.share_from.Goals as goal

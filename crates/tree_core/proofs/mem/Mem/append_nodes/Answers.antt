@@ -1,7 +1,6 @@
-use Rattle.std.proofs.Common.{◌≡◌, ℕ, ◌+◌, ◌*◌, ◌<◌, ◌≤◌, length, ◌∙◌, sym, ap, arith}
+use Rattle.std.proofs.Common.{◌≡◌, ◌+◌, length, ◌∙◌, sym, ap, arith}
 use Rattle.std.specs.BTreeMap.{get}
 use Rattle.std.specs.Ordering.{nat_cmp}
-use Rattle.tree_shape.specs.Shape.{made}
 use Rattle.tree_core.specs.Pruned.{made_from}
 use Rattle.tree_core.specs.Tree.{Tree}
 use Rattle.tree_core.proofs.Later.{length-split}

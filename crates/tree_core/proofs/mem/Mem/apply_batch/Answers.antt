@@ -1,4 +1,4 @@
-use Rattle.std.proofs.Common.{◌≡◌, ℕ, ◌+◌, ◌-◌, ◌≤◌, length, refl, sym, ◌∙◌, ap, subst, arith}
+use Rattle.std.proofs.Common.{◌≡◌, ℕ, ◌-◌, length, refl, sym, ◌∙◌, ap, subst, arith}
 use Rattle.tree_core.specs.Pruned.{made_from}
 use Rattle.tree_core.specs.Tree.{IsGrown}
 use Rattle.tree_core.proofs.ApplyLemmas.{fitting, longer, applied, refused_from}

@@ -1,9 +1,9 @@
-use Rattle.std.proofs.Common.{rules, ◌≡◌, ℕ, ◌≤◌, ◌<◌, Option, refl, sym, ap, ◌∙◌, subst, arith}
+use Rattle.std.proofs.Common.{rules, ◌≤◌, refl, sym, ap, ◌∙◌, subst, arith}
 use Rattle.std.specs.BTreeMap.{get}
 use Rattle.std.specs.Ordering.{nat_cmp}
 use Rattle.std.proofs.lemmas.Map.Made.{filter_same_pairs}
-use Rattle.tree_core.specs.Pruned.{keeps, pruned, IsPruned}
-use Rattle.tree_core.specs.Tree.{Tree, node_at, IsOf, IsPrunedTo}
+use Rattle.tree_core.specs.Pruned.{keeps, pruned}
+use Rattle.tree_core.specs.Tree.{Tree, IsOf, IsPrunedTo}
 use Rattle.tree_core.proofs.MapLemmas.{get_filtered}
 use Rattle.tree_core.proofs.PrunedLemmas.{pruned_again, pruned_tree}
 use Rattle.tree_core.proofs.mem.Mem.prune.Goals as goal

@@ -1,6 +1,6 @@
-use Rattle.std.proofs.Common.{◌≡◌, ℕ, List, [], ◌∷◌, ◌++◌, length, map, refl, sym, ◌∙◌, ap, subst}
+use Rattle.std.proofs.Common.{◌≡◌, length, sym, ◌∙◌, ap, subst}
 use Rattle.tree_core.specs.Pruned.{peaks_at}
-use Rattle.tree_core.specs.Links.{Link, IsBatchOf}
+use Rattle.tree_core.specs.Links.{Link}
 use Rattle.tree_core.specs.Tree.{Tree}
 use Rattle.tree_core.specs.Batches.{Sealed, IsSealedOf}
 use Rattle.tree_core.proofs.LinkLemmas.{one_batch, none_made, one_link, batch_like}

@@ -1,6 +1,5 @@
-use Rattle.std.proofs.Common.{◌≡◌, ℕ, ◌+◌, length, map, refl, sym, ◌∙◌, ap, subst}
+use Rattle.std.proofs.Common.{sym, ◌∙◌, ap, subst}
 use Rattle.tree_core.specs.Pruned.{peaks_at}
-use Rattle.tree_core.specs.Links.{Link, IsLinked}
 use Rattle.tree_core.specs.Batches.{Sealed, Unsealed, IsSealedOf, IsUnsealedOf}
 use Rattle.tree_core.proofs.LinkLemmas.{link_of, batch_like}
 use Rattle.tree_core.proofs.sealed.MerkleizedBatch.new_batch.Goals as goal

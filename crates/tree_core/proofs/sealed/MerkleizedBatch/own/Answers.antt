@@ -1,6 +1,5 @@
-use Rattle.std.proofs.Common.{◌≡◌, ℕ, suc, ◌+◌, ◌-◌, ◌<◌, length, refl, ◌∙◌, ap, arith}
+use Rattle.std.proofs.Common.{◌≡◌, suc, ◌+◌, ◌-◌, ◌<◌, length, refl, ◌∙◌, ap, arith}
 use Rattle.std.proofs.lemmas.Option.{slice_get_read}
-use Rattle.std.proofs.lemmas.List.{length-map}
 use Rattle.tree_core.specs.Links.{Link}
 use Rattle.tree_core.specs.Batches.{Sealed}
 use Rattle.tree_core.proofs.LinkLemmas.{last_link_map, some_map}

@@ -1,4 +1,4 @@
-use Rattle.std.proofs.Common.{◌≤◌, arith}
+use Rattle.std.proofs.Common.{arith}
 use Rattle.tree_core.proofs.LinkLemmas.{joined_length}
 use Rattle.tree_core.proofs.sealed.MerkleizedBatch.refusal.Goals as goal
 

@@ -1,4 +1,4 @@
-use Rattle.std.proofs.Common.{◌≡◌, ℕ, ◌+◌, ◌≤◌, length, sym, ◌∙◌, ap, subst}
+use Rattle.std.proofs.Common.{◌∙◌}
 use Rattle.tree_core.proofs.LinkLemmas.{link_of, ends_with}
 use Rattle.tree_core.proofs.sealed.MerkleizedBatch.root.Goals as goal
 

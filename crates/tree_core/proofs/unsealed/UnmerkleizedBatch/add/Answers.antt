@@ -1,4 +1,4 @@
-use Rattle.std.proofs.Common.{◌≡◌, length, [], ◌∷◌, refl, subst, ◌∙◌, ap, sym}
+use Rattle.std.proofs.Common.{◌≡◌, length, [], ◌∷◌, subst, ◌∙◌, ap, sym}
 use Rattle.std.specs.Prelude.{OnOk}
 use Rattle.tree_shape.specs.Hashing.{leaf_input}
 use Rattle.tree_shape.specs.Shape.{made}

@@ -1,7 +1,7 @@
-use Rattle.std.proofs.Common.{◌≡◌, ℕ, ◌+◌, ◌-◌, ◌≤◌, ◌++◌, ◌∷◌, [], List, length, map, refl, sym, ◌∙◌, ap, subst, arith, length-append, ◌<◌}
+use Rattle.std.proofs.Common.{◌≡◌, ◌+◌, ◌-◌, ◌++◌, length, sym, ◌∙◌, ap, subst, arith, length-append}
 use Rattle.std.proofs.lemmas.List.{length-map}
 use Rattle.tree_core.specs.Pruned.{made_from, nodes_from, peaks_at, Continues}
-use Rattle.tree_core.specs.Links.{Link, IsLinked, IsBatchOf}
+use Rattle.tree_core.specs.Links.{Link}
 use Rattle.tree_core.specs.Batches.{Sealed, Unsealed, IsUnsealedOf, IsSealedOf}
 use Rattle.tree_core.proofs.LinkLemmas.{linked_push_map, batch_push_map, continues, ends_with, peaks_longer, linked_drop_at, batch_drop}
 use Rattle.tree_core.proofs.unsealed.UnmerkleizedBatch.merkleize.Goals as goal

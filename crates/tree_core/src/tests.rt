@@ -1,0 +1,120 @@
+use super::*;
+use std::test::Fail;
+
+const ELEMENTS: [&[u8]; 7] = [
+    &[0, 0, 0],
+    &[1, 1, 0x61],
+    &[1, 1, 0x62],
+    &[0, 0, 0],
+    &[1, 1, 0xff],
+    &[1, 2, 3, 4],
+    &[0],
+];
+
+/// The roots of the first 0 to 7 elements, none inactive, folded from the left.
+const ROOTS: [&str; 8] = [
+    "45f3cfb357f285c8d854597a1d23a2341dee97573b541d46bc211c40f33526eb",
+    "6e44d9af463dbbdb8e26fef511895e0a348e2bd099ab0f45425db61c3bd543cc",
+    "825eb4d29e51dbef2e57858149555ca8cb95a862784aafcaaec2261a9f6d4f81",
+    "55b35c492d8760ae5241af14763eb77c0db11bf43b09aeaa25fdd68f56dd4e02",
+    "fb4f8178d68d9e1a3f68875e1f2f94fe29bba20b21ae969906f72e70ec26b646",
+    "744acfcb6388f3812ca73d741e07bd3ec6e48b93c3fef9690ab2b7cb8c501be4",
+    "c4d58e0d42a7adf2fde2469830768aa030c9c7d197ee62eeffc427312be464a5",
+    "fac3389290187b36995c32bfb69a3f5f784640a6581c691d67ed7e718ec56ac3",
+];
+
+#[test]
+fn appended_leaves_give_the_roots_of_the_examples(rt: HostRuntime) -> Result<(), Fail> {
+    let alloc = rt.alloc();
+    let hasher = Standard::<Sha256Hasher>::new(Bagging::ForwardFold);
+    let mut tree = Mem::<Mmr, Sha256Digest>::new(alloc)?;
+    for i in 0..7 {
+        let root = tree.root(&hasher, 0)?;
+        assert_eq!(rt; hex::encode(alloc, root.as_slice())?.as_str(), ROOTS[i]);
+        let mut batch = tree.new_batch()?;
+        batch.add(&hasher, ELEMENTS[i])?;
+        assert_eq!(rt; batch.leaves().as_u64(), i as u64 + 1);
+        let sealed = batch.merkleize(&hasher, 0)?;
+        let root = sealed.root(&hasher, 0)?;
+        assert_eq!(rt; hex::encode(alloc, root.as_slice())?.as_str(), ROOTS[i + 1]);
+        tree.apply_batch(&sealed)?;
+        assert_eq!(rt; tree.leaves().as_u64(), i as u64 + 1);
+    }
+    let before = tree.root(&hasher, 0)?;
+    tree.prune(Location::new(5))?;
+    assert!(rt; tree.get_node(Position::new(1)).is_none());
+    assert!(rt; tree.get_node(Position::new(6)).is_some());
+    assert!(rt; tree.root(&hasher, 0)? == before);
+    assert!(rt; tree.prune(Location::new(8)) == Err(Error::LeafOutOfBounds(Location::new(8))));
+    tree.prune_all();
+    assert!(rt; tree.root(&hasher, 0)? == before);
+    assert_eq!(rt; tree.size().as_u64(), 11);
+    assert_eq!(rt; tree.peak_count(), 3);
+    Ok(())
+}
+
+#[test]
+fn batches_apply_once_in_any_order_that_fits(rt: HostRuntime) -> Result<(), Fail> {
+    let alloc = rt.alloc();
+    let hasher = Standard::<Sha256Hasher>::new(Bagging::BackwardFold);
+    let mut tree = Mem::<Mmb, Sha256Digest>::new(alloc)?;
+    let mut batch = tree.to_batch()?.new_batch()?;
+    for element in ELEMENTS {
+        batch.add(&hasher, element)?;
+    }
+    let reached = batch.segments();
+    let first = batch.merkleize(&hasher, reached)?;
+    let mut batch = first.new_batch()?;
+    batch.add_leaf_digest(hasher.leaf_digest(Position::<Mmb>::new(12), &[1]))?;
+    let second = batch.merkleize(&hasher, 0)?;
+    let mut batch = first.new_batch()?;
+    let reached = batch.segments();
+    batch.add_leaf_digests(&[hasher.leaf_digest(Position::<Mmb>::new(12), &[2])])?;
+    let third = batch.merkleize(&hasher, reached)?;
+    assert!(rt;
+        tree.apply_batch(&second)
+            == Err(Error::AncestorDropped {
+                expected: first.size(),
+                actual: Position::new(0),
+            })
+    );
+    tree.apply_batch(&first)?;
+    assert!(rt; tree.root(&hasher, 0)? == first.root(&hasher, 0)?);
+    tree.apply_batch(&third)?;
+    assert_eq!(rt; tree.leaves().as_u64(), third.leaves().as_u64());
+    assert!(rt; tree.root(&hasher, 0)? == third.root(&hasher, 0)?);
+    assert!(rt; tree.get_node(Position::new(3)) == third.get_node(Position::new(3)));
+    assert!(rt; tree.apply_batch(&second) == Err(Error::StaleBatch));
+    assert_eq!(rt;
+        TreeData::Boundary.text(),
+        "invalid Merkle pruning boundary"
+    );
+    Ok(())
+}
+
+/// Leaves, nodes, positions of the peaks from the left, and peaks that end at or below leaf 8, of the belt.
+const BELT: [(u64, u64, &[u64], u64); 3] = [
+    (3, 4, &[2, 3], 2),
+    (5, 8, &[7, 6], 2),
+    (11, 19, &[18, 16, 17], 1),
+];
+
+#[test]
+fn the_belt_has_its_shape(rt: HostRuntime) {
+    for (leaves, nodes, pins, inactive) in BELT {
+        assert!(rt; leaves <= 11);
+        let location = Location::<Mmb>::new(leaves);
+        assert_eq!(rt; Mmb::location_to_position(location).as_u64(), nodes);
+        let mut count = 0;
+        for pin in Mmb::nodes_to_pin(location) {
+            assert!(rt; count < pins.len());
+            assert_eq!(rt; pin.as_u64(), pins[count]);
+            count += 1;
+        }
+        assert_eq!(rt; count, pins.len());
+        assert!(rt; Mmb::leaves_at(Position::new(nodes)) == Some(location));
+        assert!(rt; Mmb::leaves_at(Position::new(2)).is_none());
+        assert_eq!(rt; Mmb::to_nearest_size(Position::new(nodes)).as_u64(), nodes);
+        assert_eq!(rt; Mmb::inactive_peaks(location, Location::new(8)), inactive);
+    }
+}
