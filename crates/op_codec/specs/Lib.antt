@@ -1,0 +1,11 @@
+pub mod Commits
+pub mod Keyless
+pub mod Immutable
+pub mod Target
+pub mod Request
+pub mod Text
+pub mod KeylessText
+pub mod ImmutableText
+pub mod Same
+pub mod Meanings
+pub mod ImmutableMeanings

@@ -1,0 +1,31 @@
+ghost use Rattle.std.specs.Prelude.{◌≡◌, ℕ, List};
+
+use codec_base::{Bytes, Duplicate, EncodeSize, Read, U64, Write};
+
+/// What can be a key.
+pub trait Key: Ord + Write + EncodeSize + Read + Duplicate + Drop {
+    /// The raw bytes.
+    ghost raw: { Self → List ℕ };
+
+    /// The raw bytes: the spelling, without the length in front where the key is a byte list. It takes no memory.
+    fn raw(&self) -> &[u8]
+        ensures { result.now ≡ raw self.now };
+}
+
+impl Key for U64 {
+    ghost use Rattle.codec_base.specs.Laws.{eight_bytes};
+
+    ghost raw = { eight_bytes };
+
+    fn raw(&self) -> &[u8] {
+        self.as_slice()
+    }
+}
+
+impl Key for Bytes {
+    ghost raw = { λ bytes. bytes };
+
+    fn raw(&self) -> &[u8] {
+        self.as_slice()
+    }
+}

@@ -1,0 +1,22 @@
+ghost use Rattle.std.specs.Prelude.{◌≡◌};
+ghost use Rattle.std.specs.Bool.{Decides};
+
+use codec_base::{Bytes, U64};
+
+/// What is compared so that equal values are one.
+pub trait Same: PartialEq {
+    /// The comparison tells whether two values are one.
+    ghost decides: { (a b : Self) → Decides (Self.eq a b) (a ≡ b) };
+}
+
+impl Same for Bytes {
+    ghost use Rattle.op_codec.specs.Same.{bytes_decide};
+
+    ghost decides = { bytes_decide };
+}
+
+impl Same for U64 {
+    ghost use Rattle.op_codec.specs.Same.{number_decide};
+
+    ghost decides = { number_decide };
+}

@@ -1,0 +1,208 @@
+//! Rows from outside, and each call that takes memory once.
+use crate::{
+    CompactTarget, EngineError, FixedEncoding, Key, OperationTrait, Target, VariableEncoding,
+    advance_laws, immutable, keyless,
+};
+use codec_base::{
+    Bytes, CodecError, Duplicate, EncodeSize, FixedSize, InvalidAt, LengthCfg, Read, U64, Write,
+    decode, encode,
+};
+use std::process::Abort;
+use std::test::Fail;
+use tree_shape::{Location, Mmr, Sha256Digest};
+
+type Words = keyless::Operation<Mmr, VariableEncoding<Bytes>>;
+
+type Numbers = keyless::Operation<Mmr, FixedEncoding<U64>>;
+
+type KeyedWords = immutable::Operation<Mmr, Bytes, VariableEncoding<Bytes>>;
+
+type KeyedNumbers = immutable::Operation<Mmr, U64, FixedEncoding<U64>>;
+
+/// Encodes a copy of a value, compares, and decodes it again.
+fn goes_both_ways<T: Write + EncodeSize + Read + Duplicate + PartialEq + Drop>(
+    rt: &(impl Abort + AllocGlobal),
+    value: &T,
+    cfg: &T::Cfg,
+    want: &[u8],
+) -> Result<(), CodecError> {
+    let copy = value.duplicate()?;
+    let bytes = encode(rt.alloc(), &copy)?;
+    assert!(rt; bytes.as_slice() == want);
+    assert!(rt; copy.encode_size() == bytes.len());
+    let back = decode::<T>(rt.alloc(), want, cfg)?;
+    assert!(rt; back == *value);
+    Ok(())
+}
+
+#[test]
+fn keyless_operations_go_both_ways(rt: HostRuntime) -> Result<(), Fail> {
+    let cfg = LengthCfg { max: 4 };
+    let word = Bytes::from_slice(rt.alloc(), b"ab")?;
+    let append: Words = keyless::Operation::Append(word.duplicate()?);
+    goes_both_ways(&rt, &append, &cfg, &[1, 2, 0x61, 0x62])?;
+    let commit: Words = keyless::Operation::Commit(Some(word), Location::new(7));
+    goes_both_ways(&rt, &commit, &cfg, &[0, 1, 2, 0x61, 0x62, 7])?;
+    let number: Numbers = keyless::Operation::Append(U64::new(258));
+    goes_both_ways(
+        &rt,
+        &number,
+        &(),
+        &[1, 0, 0, 0, 0, 0, 0, 1, 2, 0, 0, 0, 0, 0, 0, 0, 0, 0],
+    )?;
+    let none: Numbers = keyless::Operation::Commit(None, Location::new(3));
+    goes_both_ways(
+        &rt,
+        &none,
+        &(),
+        &[0, 0, 0, 0, 0, 0, 0, 0, 0, 0, 0, 0, 0, 0, 0, 0, 0, 3],
+    )?;
+    assert!(rt; Numbers::size() == 18);
+    Ok(())
+}
+
+#[test]
+fn immutable_operations_go_both_ways(rt: HostRuntime) -> Result<(), Fail> {
+    let cfg = (LengthCfg { max: 4 }, LengthCfg { max: 4 });
+    let key = Bytes::from_slice(rt.alloc(), b"k")?;
+    let word = Bytes::from_slice(rt.alloc(), b"ab")?;
+    assert!(rt; key.raw() == b"k".as_slice());
+    let set: KeyedWords = immutable::Operation::Set(key, word);
+    goes_both_ways(&rt, &set, &cfg, &[0, 1, 0x6b, 2, 0x61, 0x62])?;
+    let commit: KeyedWords = immutable::Operation::Commit(None, Location::new(7));
+    goes_both_ways(&rt, &commit, &cfg, &[1, 0, 7])?;
+    let none = ((), ());
+    let number: KeyedNumbers = immutable::Operation::Set(U64::new(1), U64::new(2));
+    goes_both_ways(
+        &rt,
+        &number,
+        &none,
+        &[0, 0, 0, 0, 0, 0, 0, 0, 1, 0, 0, 0, 0, 0, 0, 0, 2, 0],
+    )?;
+    assert!(rt; number.is_update());
+    let floor: KeyedNumbers = immutable::Operation::Commit(Some(U64::new(5)), Location::new(3));
+    goes_both_ways(
+        &rt,
+        &floor,
+        &none,
+        &[1, 1, 0, 0, 0, 0, 0, 0, 0, 5, 0, 0, 0, 0, 0, 0, 0, 3],
+    )?;
+    assert!(rt; KeyedNumbers::size() == 18);
+    Ok(())
+}
+
+#[test]
+fn fixed_encodings_are_refused_by_their_first_fault(rt: HostRuntime) {
+    let none = ((), ());
+    let mut tagged = [0u8; 18];
+    tagged[0] = 0xff;
+    let tag = decode::<KeyedNumbers>(rt.alloc(), &tagged, &none);
+    assert!(rt; tag == Err(CodecError::InvalidEnum(255)));
+    let short = decode::<KeyedNumbers>(rt.alloc(), &[0], &none);
+    assert!(rt; short == Err(CodecError::EndOfBuffer));
+    let mut padded = [0u8; 18];
+    padded[2] = 1;
+    let padding = decode::<Numbers>(rt.alloc(), &padded, &());
+    assert!(rt; padding == Err(CodecError::Invalid(InvalidAt::Padding)));
+    let mut flagged = [0u8; 18];
+    flagged[1] = 2;
+    let flag = decode::<Numbers>(rt.alloc(), &flagged, &());
+    assert!(rt; flag == Err(CodecError::Invalid(InvalidAt::Option)));
+}
+
+#[test]
+fn variable_encodings_are_refused_by_their_first_fault(rt: HostRuntime) {
+    let cfg = LengthCfg { max: 4 };
+    let refused: [(&[u8], CodecError); 5] = [
+        (
+            &[
+                0, 0, 0xff, 0xff, 0xff, 0xff, 0xff, 0xff, 0xff, 0xff, 0xff, 1,
+            ],
+            CodecError::Invalid(InvalidAt::Location),
+        ),
+        (&[0, 0, 0x80, 0], CodecError::Invalid(InvalidAt::Varint)),
+        (&[1], CodecError::EndOfBuffer),
+        (
+            &[1, 1, 0x61, 0x61],
+            CodecError::Invalid(InvalidAt::ExtraData),
+        ),
+        (&[2], CodecError::InvalidEnum(2)),
+    ];
+    for (bytes, want) in refused {
+        let refusal = decode::<Words>(rt.alloc(), bytes, &cfg);
+        assert!(rt; refusal == Err(want));
+    }
+}
+
+#[test]
+fn operations_have_texts(rt: HostRuntime) -> Result<(), Fail> {
+    let append: Numbers = keyless::Operation::Append(U64::new(12345));
+    assert!(rt; append.text(rt.alloc())?.as_str() == "[append value:0000000000003039]");
+    let commit: Numbers = keyless::Operation::Commit(Some(U64::new(42)), Location::new(7));
+    assert!(rt; commit.text(rt.alloc())?.as_str() == "[commit 000000000000002a floor:7]");
+    let none: KeyedNumbers = immutable::Operation::Commit(None, Location::new(3));
+    assert!(rt; none.text(rt.alloc())?.as_str() == "[commit floor:3]");
+    let set: KeyedNumbers = immutable::Operation::Set(U64::new(1234), U64::new(56789));
+    assert!(rt; set.text(rt.alloc())?.as_str() == "[key:00000000000004d2 value:000000000000ddd5]");
+    Ok(())
+}
+
+#[test]
+fn targets_advance(rt: HostRuntime) -> Result<(), Fail> {
+    let root = decode::<Sha256Digest>(rt.alloc(), &[7; 32], &())?;
+    let from = Target::<Mmr, Sha256Digest>::new(root, Location::new(10), Location::new(100));
+    let rows = [
+        (10, 101, true),
+        (50, 200, true),
+        (10, 100, false),
+        (10, 50, false),
+        (5, 200, false),
+    ];
+    for (start, end, want) in rows {
+        let target = Target {
+            root,
+            start: Location::new(start),
+            end: Location::new(end),
+        };
+        assert!(rt; target.advances(&from) == want);
+    }
+    advance_laws::<Mmr, Sha256Digest>();
+    let bytes = encode(rt.alloc(), &from)?;
+    assert!(rt; bytes.len() == 34);
+    assert!(rt; from.encode_size() == 34);
+    assert!(rt; decode::<Target<Mmr, Sha256Digest>>(rt.alloc(), bytes.as_slice(), &())? == from);
+    Ok(())
+}
+
+#[test]
+fn compact_targets_are_the_last_operation(rt: HostRuntime) -> Result<(), Fail> {
+    let root = decode::<Sha256Digest>(rt.alloc(), &[7; 32], &())?;
+    for (size, start) in [(100, 99), (1, 0)] {
+        let compact = CompactTarget::<Mmr, Sha256Digest> {
+            root,
+            size: Location::new(size),
+        };
+        let bytes = encode(rt.alloc(), &compact)?;
+        assert!(rt;
+            decode::<CompactTarget<Mmr, Sha256Digest>>(rt.alloc(), bytes.as_slice(), &())?
+                == compact
+        );
+        let target = Target::try_from(&compact);
+        let want = Target {
+            root,
+            start: Location::new(start),
+            end: Location::new(size),
+        };
+        assert!(rt; target == Ok(want));
+    }
+    let empty = CompactTarget::<Mmr, Sha256Digest> {
+        root,
+        size: Location::new(0),
+    };
+    let want = EngineError::InvalidTarget {
+        lower_bound_pos: Location::new(0),
+        upper_bound_pos: Location::new(0),
+    };
+    assert!(rt; Target::try_from(&empty) == Err(want));
+    Ok(())
+}
