@@ -4,7 +4,7 @@ ghost use Rattle.chain_core.specs.Commitments.{effective_boundary};
 use crate::{Commitment, Compatible, Error};
 use codec_base::ListOf;
 use std::alloc::Global;
-use tree_shape::{Digest, Location};
+use tree_core::{Digest, Location};
 
 /// The states of a sealed batch: before its own operations, where its chain began, and after them.
 #[derive(Drop)]

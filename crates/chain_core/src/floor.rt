@@ -1,7 +1,7 @@
 ghost use Rattle.std.specs.Prelude.{◌≡◌, ◌↔◌, ◌≤◌, ◌<◌, IsOk, IsErrOf};
 
 use crate::Error;
-use tree_shape::Location;
+use tree_core::Location;
 
 /// The floor of a batch that is sealed stands between the floor built on, `start`, and the location of its commit.
 pub fn validate_merkleize_floor<F>(

@@ -4,7 +4,7 @@ use crate::{
 };
 use codec_base::ListOf;
 use std::test::Fail;
-use tree_shape::{Hasher, Location, Mmr, Sha256Digest, Sha256Hasher};
+use tree_core::{Hasher, Location, Mmr, Sha256Digest, Sha256Hasher};
 use volume_base::JournalError;
 
 /// The state of this size whose root is that of one byte.
