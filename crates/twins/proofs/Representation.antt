@@ -20,7 +20,7 @@ use Rattle.twins.specs.declared.command.Answer.TheVariants as answer
 use Rattle.twins.specs.declared.command.Refusal.TheVariants.{StaleBatch, LocationOverflow}
 use Rattle.twins.specs.Step.{append_to, seal, apply, plain_commit, root_of_list}
 use Rattle.std.proofs.lemmas.Option.{slice_get_read, get_or_from_slice_get}
-use Rattle.twins.specs.SameOperations.{meaning, same_operation, operation_decide}
+use Rattle.twins.specs.Operation.{meaning, same_operation, operation_decide}
 use Rattle.twins.specs.StateOf.{batch_of, state_from, BatchKept}
 
 pub batch_at-from : (ops : List Operation) (bs : List Batch) (b : ℕ) → batch_at (state_from ops bs) b ≡ batch_of ops (get_or bs b Gone)

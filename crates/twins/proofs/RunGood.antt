@@ -6,13 +6,14 @@ use Rattle.log_model.specs.Batches.{Batch, Unsealed, Sealed, Gone, begun_on, siz
 use Rattle.log_model.specs.Machine.{State, max_leaves, batch_at, with_batch, stands_at}
 use Rattle.log_model.specs.Good.{IsGoodBatch}
 use Rattle.log_model.specs.GoodLaws.{good_appended, good_sealed, good_with, good_begun, good_applied, good_opened, floor-sealed}
-use Rattle.twins.specs.SameOperations.{meaning}
+use Rattle.twins.specs.Operation.{meaning}
 use Rattle.twins.specs.declared.operation.Operation.{Operation}
 use Rattle.twins.specs.declared.operation.Operation.TheVariants.{Append}
 use Rattle.twins.specs.declared.command.Command.{Command}
 use Rattle.twins.specs.declared.command.Command.TheVariants as command
 use Rattle.twins.specs.Step.{Outcome, step, append_to, seal, apply, plain_commit}
 use Rattle.twins.specs.Trace.{state_after, fresh_state}
+use Rattle.twins.proofs.RunLaws.{either}
 use Rattle.twins.specs.Good.{IsGoodState, HasNoFloor, IsGoodRun, StepsStayGood, RunsAreGood}
 
 abbrev Allowed : ℕ → List ℕ → Type 0
@@ -20,10 +21,6 @@ Allowed limit v = length v ≤ limit
 
 abbrev GoodBatch : ℕ → Batch Operation → Type 0
 GoodBatch limit x = IsGoodBatch meaning (Allowed limit) plain_commit x
-
-either : (P : Outcome → Type 0) (b : Bool) (x y : Outcome) → (b ≡ true → P x) → (b ≡ false → P y) → P (cond b x y)
-either P true x y p q = p refl
-either P false x y p q = q refl
 
 not_lt : (m n : ℕ) → nat_lt m n ≡ false → n ≤ m
 not_lt m n e = grind (arith, nat_tests)

@@ -4,7 +4,7 @@ use Rattle.std.specs.Prelude.{nat_lt, nat_le, slice_get, unwrap_or}
 use Rattle.std.specs.List.Sorted.{IsNonDecreasingBy}
 use Rattle.log_model.specs.Batches.{Batch, Unsealed, Sealed, Gone, size_of, effective_boundary}
 use Rattle.log_model.specs.Machine.{State, max_leaves, batch_at, with_batch, stands_at}
-use Rattle.twins.specs.SameOperations.{meaning}
+use Rattle.twins.specs.Operation.{meaning}
 use Rattle.twins.specs.declared.operation.Operation.{Operation}
 use Rattle.twins.specs.declared.command.Command.{Command}
 use Rattle.twins.specs.declared.command.Command.TheVariants as command
@@ -17,7 +17,7 @@ use Rattle.twins.specs.Laws.{SizesNeverFall, TellsList, RepliesTellLists, RunsCo
 use Rattle.twins.proofs.Representation.{shorter}
 
 -- what holds of both choices holds of the one that a test makes
-either : (P : Outcome → Type 0) (b : Bool) (x y : Outcome) → (b ≡ true → P x) → (b ≡ false → P y) → P (cond b x y)
+pub either : (P : Outcome → Type 0) (b : Bool) (x y : Outcome) → (b ≡ true → P x) → (b ≡ false → P y) → P (cond b x y)
 either P true x y p q = p refl
 either P false x y p q = q refl
 

@@ -4,7 +4,7 @@ pub mod Lines
 pub mod Grammar
 pub mod Bad
 pub mod Encoding
-pub mod SameOperations
+pub mod Operation
 pub mod Step
 pub mod Trace
 pub mod StateOf

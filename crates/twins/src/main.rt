@@ -13,8 +13,6 @@ mod parse;
 mod piece;
 mod report;
 mod run;
-#[cfg(test)]
-mod run_tests;
 mod text;
 
 use command::Status;

@@ -39,7 +39,7 @@ impl Logged for Operation {
     type Value = Bytes;
 
     ghost use Rattle.std.specs.Prelude.{refl};
-    ghost use Rattle.twins.specs.SameOperations.{meaning, operation_decide};
+    ghost use Rattle.twins.specs.Operation.{meaning, operation_decide};
 
     ghost meaning = { meaning };
 

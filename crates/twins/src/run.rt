@@ -119,3 +119,6 @@ pub fn run_twins<V: Volume>(
         }),
     }
 }
+
+#[cfg(test)]
+mod tests;
