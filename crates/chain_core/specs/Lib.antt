@@ -2,3 +2,4 @@ pub mod Commitments
 pub mod Errors
 pub mod Kept
 pub mod Slots
+pub mod Texts

@@ -17,6 +17,7 @@ pub struct Compatible<'a, T> {
 }
 
 impl<F, D: Digest> Commitment<F, D> {
+    /// The state of this size and root.
     pub fn new(size: Location<F>, root: D) -> Self
         ensures size { result.size ≡ size }
         ensures root { result.root ≡ root }

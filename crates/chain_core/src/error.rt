@@ -1,4 +1,5 @@
 ghost use Rattle.std.specs.Prelude.{◌≡◌};
+ghost use Rattle.chain_core.specs.Texts.{fault_text};
 ghost use Rattle.chain_core.specs.declared.error.Error.TheVariants.{Memory};
 
 use std::alloc::{AllocError, AllocFailed};
@@ -19,7 +20,11 @@ pub enum DataFault {
 }
 
 impl DataFault {
-    pub fn text(&self) -> &'static str {
+    /// What is wrong, in words.
+    #[tactic(auto, unfolding(crate::specs::Texts::fault_text))]
+    pub fn text(&self) -> &'static str
+        ensures { result.now ≡ fault_text self.now }
+    {
         match self {
             DataFault::CommitOperation => "invalid commit operation",
             DataFault::NotACommit => "last operation was not a commit",

@@ -26,6 +26,7 @@ impl Model for BatchId {
 }
 
 impl BatchId {
+    /// The number under which the pool keeps the batch.
     pub fn number(&self) -> u64
         ensures { result ≡ self.now }
     {
@@ -130,6 +131,7 @@ impl<T: Drop> Pool<T> {
         }
     }
 
+    /// Whether the batch was neither released nor ended.
     pub fn is_alive(&self, id: BatchId) -> bool
         ensures { IsTrue result ↔ IsAlive self.now id }
     {

@@ -9,6 +9,4 @@ pub mod Loop
 pub mod Reads
 pub mod Combine
 pub mod Causes
-pub mod Writing
-pub mod Failing
-pub mod Streams
+pub mod Texts

@@ -37,6 +37,14 @@ impl Bytes {
         Ok(Bytes { items })
     }
 
+    /// The list of these bytes. It takes no memory, and keeps their allocator.
+    pub fn from_vec(items: Vec<u8>) -> Self
+        ensures { result ≡ items.items }
+    {
+        Bytes { items }
+    }
+
+    /// The bytes, as a slice.
     pub fn as_slice(&self) -> &[u8]
         ensures { result.now ≡ self.now }
     {
@@ -44,7 +52,7 @@ impl Bytes {
     }
 
     /// Where it takes its memory.
-    pub(crate) fn allocator(&self) -> Global {
+    pub fn allocator(&self) -> Global {
         *self.items.allocator()
     }
 

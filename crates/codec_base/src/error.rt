@@ -1,5 +1,6 @@
 ghost use Rattle.std.specs.Prelude.{◌≡◌};
 ghost use Rattle.codec_base.specs.declared.error.CodecError.TheVariants.{Memory};
+ghost use Rattle.codec_base.specs.Texts.{place_text, fault_text};
 
 use std::alloc::{AllocError, AllocFailed};
 
@@ -33,7 +34,11 @@ pub enum CodecError {
 
 impl InvalidAt {
     /// Where it was found, and what is wrong there.
-    pub fn texts(self) -> (&'static str, &'static str) {
+    #[tactic(auto, unfolding(crate::specs::Texts::place_text, crate::specs::Texts::fault_text))]
+    pub fn texts(self) -> (&'static str, &'static str)
+        ensures place { result.0.now ≡ place_text self }
+        ensures fault { result.1.now ≡ fault_text self }
+    {
         match self {
             InvalidAt::Varint => ("Varint", "Varint"),
             InvalidAt::Option => ("Option", "Option"),

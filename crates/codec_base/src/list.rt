@@ -40,6 +40,7 @@ impl<T: Drop> ListOf<T> {
         self.items
     }
 
+    /// The items, as a slice.
     pub fn as_slice(&self) -> &[T]
         ensures { result.now ≡ self.now }
     {

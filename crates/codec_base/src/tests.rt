@@ -1,9 +1,8 @@
 //! Examples from outside, and each call that takes memory once.
 use crate::{
     Bytes, CodecError, Cursor, Duplicate, EncodeSize, FixedSize, InvalidAt, LengthCfg, ListCfg,
-    ListOf, MemorySink, MemorySource, Read, ReadAllError, Sink, Source, U64, Write, decode, encode,
-    read_all, read_varint, read_zeros, spelling_laws, varint_size, width_law, write_all,
-    write_varint, write_zeros,
+    ListOf, Read, U64, Write, decode, encode, read_varint, read_zeros, spelling_laws, varint_size,
+    width_law, write_varint, write_zeros,
 };
 use std::process::Abort;
 use std::test::Fail;
@@ -145,45 +144,4 @@ fn what_is_invalid_has_two_texts(rt: HostRuntime) {
         assert!(rt; at.texts().0 == place);
         assert!(rt; at.texts().1 == fault);
     }
-}
-
-#[test]
-fn a_source_fails_where_it_was_set_to(rt: HostRuntime) -> Result<(), Fail> {
-    let text = Bytes::from_slice(rt.alloc(), b"hello")?;
-    let mut source = MemorySource::new(text.duplicate()?);
-    source.fail_call(2)?;
-    let mut piece = [0u8; 2];
-    assert!(rt; source.read(&mut piece) == Ok(2));
-    assert!(rt; source.read(&mut piece).is_err());
-    let rest = read_all(rt.alloc(), &mut source, 3)?;
-    assert!(rt; rest.as_slice() == b"llo".as_slice());
-    let mut longer = MemorySource::new(text.duplicate()?);
-    assert!(rt;
-        matches!(
-            &read_all(rt.alloc(), &mut longer, 4),
-            Err(ReadAllError::TooLong)
-        )
-    );
-    let mut failing = MemorySource::new(text);
-    failing.fail_call(2)?;
-    assert!(rt;
-        matches!(
-            &read_all(rt.alloc(), &mut failing, 5),
-            Err(ReadAllError::Failed)
-        )
-    );
-    Ok(())
-}
-
-#[test]
-fn a_sink_takes_what_fits(rt: HostRuntime) -> Result<(), Fail> {
-    let mut sink = MemorySink::new(rt.alloc(), 4)?;
-    sink.fail_call(2)?;
-    assert!(rt; sink.write(b"ab") == Ok(2));
-    assert!(rt; sink.flush().is_err());
-    assert!(rt; write_all(&mut sink, b"cde").is_err());
-    assert!(rt; sink.written() == b"abcd".as_slice());
-    assert!(rt; write_all(&mut sink, b"").is_ok());
-    assert!(rt; sink.flush().is_ok());
-    Ok(())
 }

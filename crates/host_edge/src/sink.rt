@@ -1,7 +1,7 @@
 ghost use Rattle.std.specs.Prelude.{◌≡◌, ◌≤◌};
 ghost use Rattle.codec_base.specs.Causes.{Rose};
 
-use codec_base::{Sink, WriteFailed};
+use stream_base::{Sink, WriteFailed};
 use std::io::{self, ErrorKind};
 
 /// A sink over a std writer. It tells the bytes that the writer tells, which the standard streams, files and sockets don't.

@@ -1,6 +1,6 @@
 ghost use Rattle.std.specs.Prelude.{◌≡◌};
 
-use codec_base::{ReadFailed, Source};
+use stream_base::{ReadFailed, Source};
 use std::io::{self, ErrorKind};
 
 /// A source over a std reader. It tells the bytes that the reader tells, which the standard streams, files and sockets don't.

@@ -1,5 +1,5 @@
 use crate::{StdSink, StdSource};
-use codec_base::{ReadAllError, Sink, read_all, write_all};
+use stream_base::{ReadAllError, Sink, read_all, write_all};
 use std::io::{self, ErrorKind};
 use std::test::Fail;
 

@@ -1,6 +1,6 @@
 -- A call of a volume in memory that was done: it began, and then it was put behind the record.
 use Rattle.std.proofs.Common.{◌≡◌, ◌+◌, List, [], ◌∷◌, ◌++◌, length, Ok, sym, ◌∙◌, ap, subst, arith, length-append}
-use Rattle.codec_base.specs.Failing.{Failing, IsSteady}
+use Rattle.stream_base.specs.Failing.{Failing, IsSteady}
 use Rattle.volume_base.specs.Volume.{StaysSteady, Writes, WriteAnswers}
 use Rattle.volume_base.specs.declared.error.VolumeError.{VolumeError}
 use Rattle.volume_base.specs.declared.error.VolumeError.TheVariants.{Failed}

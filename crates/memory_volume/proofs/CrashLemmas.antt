@@ -4,7 +4,7 @@ use Rattle.std.proofs.lemmas.List.{drop_more, take_all}
 use Rattle.std.proofs.lemmas.Slice.Eq.{bytes_eq-Decides}
 use Rattle.std.specs.Str.{bytes_eq}
 use Rattle.volume_base.specs.Log.{Log, no_log}
-use Rattle.codec_base.specs.Failing.{Failing}
+use Rattle.stream_base.specs.Failing.{Failing}
 use Rattle.volume_base.specs.Moments.{LeftAt, present}
 use Rattle.memory_volume.specs.Choices.{chosen_log, IsChosen}
 use Rattle.memory_volume.specs.Memory.{memory_state}

@@ -8,7 +8,7 @@ use Rattle.volume_base.specs.Log.{Log, end_of, Grows, Shrinks, Advances, Stays, 
 use Rattle.volume_base.specs.Volume.{Map, Follows, PastStays, LogMoves, MapMoves, OnlyLog, OnlyMap, OnlyLeft}
 use Rattle.volume_base.proofs.MomentLemmas.{same_at, log_moves_idle, map_moves_idle}
 use Rattle.volume_base.proofs.StepLemmas.{grows_same, shrinks_same}
-use Rattle.codec_base.specs.Failing.{Failing}
+use Rattle.stream_base.specs.Failing.{Failing}
 use Rattle.memory_volume.specs.Versions.{Versions, only, IsImage}
 use Rattle.memory_volume.specs.VersionLaws.{greatest_of_ge, present_is_image}
 use Rattle.memory_volume.specs.Record.{after, changed, versions_of, map_of, next_versions}

@@ -1,7 +1,7 @@
 -- What a volume in memory stands for.
 use Rattle.std.specs.Prelude.{◌≡◌, ℕ, List, length, take}
 use Rattle.volume_base.specs.Volume.{State}
-use Rattle.codec_base.specs.Failing.{Failing, IsSteady}
+use Rattle.stream_base.specs.Failing.{Failing, IsSteady}
 use Rattle.memory_volume.specs.Versions.{IsImage}
 use Rattle.memory_volume.specs.Record.{versions_of, map_of}
 use Rattle.memory_volume.specs.declared.entry.Entry.{Entry}

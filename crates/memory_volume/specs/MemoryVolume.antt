@@ -3,7 +3,7 @@ use Rattle.std.specs.Prelude.{◌≡◌, List, [], ◌∷◌, ◌++◌, Result, 
 use Rattle.volume_base.specs.Volume.{State}
 use Rattle.volume_base.specs.declared.error.VolumeError.{VolumeError}
 use Rattle.volume_base.specs.declared.error.VolumeError.TheVariants.{Failed}
-use Rattle.codec_base.specs.Failing.{Failing, after_call}
+use Rattle.stream_base.specs.Failing.{Failing, after_call}
 use Rattle.memory_volume.specs.Memory.{memory_state}
 use Rattle.memory_volume.specs.declared.entry.Entry.{Entry}
 use Rattle.memory_volume.specs.declared.memory.MemoryVolume.{MemoryVolume}

@@ -3,7 +3,7 @@ use Rattle.std.specs.Prelude.{◌≡◌, ◌↔◌, ◌≤◌, Result, Contains,
 use Rattle.codec_base.specs.Causes.{Rose}
 use Rattle.volume_base.specs.declared.error.VolumeError.{VolumeError}
 use Rattle.volume_base.specs.declared.error.VolumeError.TheVariants.{Failed}
-use Rattle.codec_base.specs.Failing.{Failing, IsSteady, after_call}
+use Rattle.stream_base.specs.Failing.{Failing, IsSteady, after_call}
 
 -- It fails exactly where it was set to, with this one error, and is counted.
 pub record Starts {T : Type 0} (old new : Failing) (result : Result T VolumeError) : Type 0 where

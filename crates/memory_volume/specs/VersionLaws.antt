@@ -4,7 +4,7 @@ use Rattle.std.proofs.Common.{refl, inl, sym, ◌∙◌, ap, subst, arith}
 use Rattle.std.proofs.lemmas.List.{take_all}
 use Rattle.volume_base.specs.Log.{Log, end_of}
 use Rattle.volume_base.specs.Moments.{LeftAt, present}
-use Rattle.codec_base.specs.Failing.{Failing}
+use Rattle.stream_base.specs.Failing.{Failing}
 use Rattle.memory_volume.specs.Memory.{memory_state}
 use Rattle.memory_volume.specs.Versions.{Versions, least_of, greatest_of, part_of, IsImage}
 use Rattle.memory_volume.specs.Record.{versions_of, map_of}

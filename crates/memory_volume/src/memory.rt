@@ -23,7 +23,8 @@ use crate::replay::{Replayed, replay, replay_row};
 use crate::shared::shared_items;
 use crate::stored::{StoredLog, StoredMap};
 use crate::table::{bounds_of, map_in, read_item};
-use codec_base::{Bytes, FailingCalls, ListOf};
+use codec_base::{Bytes, ListOf};
+use stream_base::FailingCalls;
 use std::alloc::Global;
 use volume_base::{MetaMap, Volume, VolumeError};
 

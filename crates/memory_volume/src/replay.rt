@@ -95,12 +95,14 @@ impl Version {
         })
     }
 
+    /// The position of the first item.
     pub fn start(&self) -> u64
         ensures { result ≡ self.now.start }
     {
         self.start
     }
 
+    /// The position behind the last item.
     pub fn end(&self) -> u64
         requires { end_of self.now < 2 ^ 64 }
         ensures { result ≡ end_of self.now }
@@ -108,6 +110,7 @@ impl Version {
         self.start + self.items.len() as u64
     }
 
+    /// The items, oldest first.
     pub fn items(&self) -> &[Shared<Bytes>]
         ensures { result.now ≡ self.now.items }
     {

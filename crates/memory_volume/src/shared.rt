@@ -19,6 +19,7 @@ impl<T> Model for Shared<T> {
 }
 
 impl<T: Drop> Shared<T> {
+    /// A value with one owner.
     pub fn new(alloc: Global, value: T) -> Result<Self, AllocError>
         ensures { IfOk result (λ made. made ≡ value) }
     {
@@ -34,6 +35,7 @@ impl<T: Drop> Shared<T> {
         Ok(Shared { owned })
     }
 
+    /// The value that the owners share.
     pub fn get(&self) -> &T
         ensures { result.now ≡ self.now }
     {

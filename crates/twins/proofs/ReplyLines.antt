@@ -3,7 +3,7 @@ use Rattle.std.proofs.Common.{◌≡◌, ℕ, suc, ◌+◌, ◌<◌, ◌≤◌, 
 use Rattle.std.specs.List.{flat_map}
 use Rattle.std.proofs.lemmas.List.{take-append-drop, take_all, take_more, append-nil}
 use Rattle.std.proofs.lemmas.List.Concat.{flat_map-append}
-use Rattle.codec_base.specs.Writing.{Writes, WritesFront, text_then}
+use Rattle.stream_base.specs.Writing.{Writes, WritesFront, text_then}
 use Rattle.twins.specs.declared.command.Reply.{Reply}
 use Rattle.twins.specs.Pending.{IsSent, puts_front_first, puts_front_then, sent_then, puts_end}
 use Rattle.twins.specs.Text.{reply_text, text_of}

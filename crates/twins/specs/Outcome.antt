@@ -2,7 +2,7 @@
 use Rattle.std.specs.Prelude.{◌⊎◌, ℕ, ◌<◌, ◌≤◌, List, length, Option, IfSome}
 use Rattle.std.specs.Io.KnownBytes.{Appends, IsAtEnd}
 use Rattle.codec_base.specs.Causes.{Rose}
-use Rattle.codec_base.specs.Writing.{WritesFront}
+use Rattle.stream_base.specs.Writing.{WritesFront}
 use Rattle.twins.specs.declared.command.Command.{Command}
 use Rattle.twins.specs.declared.command.Reply.{Reply}
 use Rattle.twins.specs.declared.command.Fault.{Fault}

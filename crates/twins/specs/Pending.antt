@@ -4,7 +4,7 @@ use Rattle.std.proofs.Common.{sym, ◌∙◌, ap, subst, append_assoc}
 use Rattle.std.proofs.lemmas.Result.{MatchResult-from_err, MatchResult-weaker}
 use Rattle.std.proofs.lemmas.List.{append-nil}
 use Rattle.std.specs.Io.KnownBytes.{Appends}
-use Rattle.codec_base.specs.Writing.{Writes, WritesFront, Appends-then, front_then, front_first, text_then}
+use Rattle.stream_base.specs.Writing.{Writes, WritesFront, Appends-then, front_then, front_first, text_then}
 
 -- of the waiting bytes and the text behind them a front was sent, and the rest waits
 pub record IsSent (old : Option (List ℕ)) (waiting : List ℕ) (new : Option (List ℕ)) (left : List ℕ) (text : List ℕ) : Type 0 where

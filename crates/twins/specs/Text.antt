@@ -1,7 +1,7 @@
 -- The text of replies.
 use Rattle.std.specs.Prelude.{ℕ, List, codes, decimal}
 use Rattle.std.specs.List.{flat_map}
-use Rattle.codec_base.specs.Writing.{text_then}
+use Rattle.stream_base.specs.Writing.{text_then}
 use Rattle.hex.specs.Hex.{encode_lower}
 use Rattle.tree_shape.specs.declared.sha256.Sha256Digest.{Sha256Digest}
 use Rattle.tree_shape.specs.Sha256Codec.{bytes_of}

@@ -53,6 +53,7 @@ impl<'a> Lines<'a> {
     ghost use Rattle.std.specs.Prelude.{◌≡◌, ◌∷◌, [], length, MatchOption};
     ghost use Rattle.twins.specs.Lines.{lines_of};
 
+    /// The lines of a text.
     pub fn new(text: &'a [u8]) -> Self
         ensures { result ≡ lines_of text.now }
     {
@@ -100,6 +101,7 @@ impl<'a> Words<'a> {
     ghost use Rattle.std.specs.Prelude.{◌≡◌, ◌∷◌, [], ◌↔◌, IsTrue, MatchOption};
     ghost use Rattle.twins.specs.Lines.{words_of};
 
+    /// The words of a line.
     pub fn new(line: &'a [u8]) -> Self
         ensures { result ≡ words_of line.now }
     {

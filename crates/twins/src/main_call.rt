@@ -1,7 +1,7 @@
 ghost use Rattle.std.specs.Prelude.{◌≡◌, ◌⊎◌, ◌↔◌, ℕ, ◌-◌, ◌^◌, ◌<◌, length, IfSome, IfOk, IfErr, OnOk};
 ghost use Rattle.std.specs.Io.KnownBytes.{Keeps};
 ghost use Rattle.codec_base.specs.Causes.{HasCause, Rose};
-ghost use Rattle.codec_base.specs.Writing.{Writes};
+ghost use Rattle.stream_base.specs.Writing.{Writes};
 ghost use Rattle.volume_base.specs.Volume.{SameContents, PastStays};
 ghost use Rattle.twins.specs.Config.{standard_config};
 ghost use Rattle.twins.specs.Lines.{lines_of};
@@ -15,8 +15,8 @@ use crate::config::TwinConfig;
 use crate::parse::{LineError, parse_commands};
 use crate::run::run_twins;
 use crate::text::write_replies;
-use codec_base::{ReadAllError, Sink, Source, WriteFailed, read_all};
 use std::alloc::Global;
+use stream_base::{ReadAllError, Sink, Source, WriteFailed, read_all};
 use volume_base::Volume;
 
 /// The longest input.

@@ -72,7 +72,7 @@ fn bytes_of(alloc: Global, word: &[u8]) -> Result<Option<Bytes>, CodecError>
         return Ok(None);
     }
     match hex::decode(alloc, word) {
-        Ok(bytes) => Ok(Some(Bytes::from_slice(alloc, &bytes)?)),
+        Ok(bytes) => Ok(Some(Bytes::from_vec(bytes))),
         Err(e) => match e {
             FromHexError::OutOfMemory => Err(CodecError::Memory),
             _ => Ok(None),

@@ -1,10 +1,10 @@
 ghost use Rattle.std.specs.Prelude.{◌≡◌, ◌+◌, ◌≤◌, [], ◌++◌, length, OnOk};
 ghost use Rattle.codec_base.specs.Causes.{HasCause};
-ghost use Rattle.codec_base.specs.Writing.{Writes};
+ghost use Rattle.stream_base.specs.Writing.{Writes};
 ghost use Rattle.twins.specs.Pending.{Puts};
 
-use codec_base::{Sink, WriteFailed, write_all};
 use std::marker::Model;
+use stream_base::{Sink, WriteFailed, write_all};
 
 const ROOM: usize = 8192;
 

@@ -107,10 +107,19 @@ pub fn run_twins<V: Volume>(
     ensures faults { (V.state volume.old).faults ≤ (V.state volume.new).faults }
     ensures steady { (V.state volume.old).steady → StaysSteady (V.state volume.old) (V.state volume.new) }
 {
-    let mut replies = ListOf::new(alloc);
     if let Err(fault) = check_fresh(config, volume) {
+        let replies = ListOf::new(alloc);
         return Err(Stopped { fault, replies });
     }
+    // Room for all replies is taken once.
+    let Ok(room) = Vec::with_capacity(alloc, commands.len() + 1) else {
+        let replies = ListOf::new(alloc);
+        return Err(Stopped {
+            fault: Fault::Memory,
+            replies,
+        });
+    };
+    let mut replies = ListOf::from_vec(room);
     match answer_all(alloc, config.value_limit(), commands, &mut replies) {
         Ok(()) => Ok(replies),
         Err(_) => Err(Stopped {

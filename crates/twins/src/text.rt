@@ -1,12 +1,12 @@
 ghost use Rattle.std.specs.Prelude.{◌≡◌, ◌∷◌, [], codes, decimal};
 ghost use Rattle.codec_base.specs.Causes.{HasCause};
-ghost use Rattle.codec_base.specs.Writing.{Writes, text_then};
+ghost use Rattle.stream_base.specs.Writing.{Writes, text_then};
 ghost use Rattle.twins.specs.Pending.{Puts};
 ghost use Rattle.twins.specs.Text.{numbered, titled, refusal_text, answer_text, roots_text, reply_text, text_of};
 
 use crate::command::{Answer, Refusal, Replies, Reply};
 use crate::piece::Piece;
-use codec_base::{Sink, WriteFailed};
+use stream_base::{Sink, WriteFailed};
 use tree_shape::{Digest, Sha256Digest};
 
 /// Puts a number, in decimal.

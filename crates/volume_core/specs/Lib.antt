@@ -1,11 +1,11 @@
 pub use Rattle.codec_base.specs.Causes
 pub use Rattle.codec_base.specs.Codec
 pub use Rattle.codec_base.specs.Combine
-pub use Rattle.codec_base.specs.Failing
+pub use Rattle.stream_base.specs.Failing
 pub use Rattle.codec_base.specs.Parts
-pub use Rattle.codec_base.specs.Streams
+pub use Rattle.stream_base.specs.Streams
 pub use Rattle.codec_base.specs.Varint
-pub use Rattle.codec_base.specs.Writing
+pub use Rattle.stream_base.specs.Writing
 pub use Rattle.codec_base.specs.declared.error.CodecError as CodecErrors
 pub use Rattle.memory_volume.specs.Choice
 pub use Rattle.memory_volume.specs.Choices

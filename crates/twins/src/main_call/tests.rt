@@ -1,9 +1,10 @@
 use super::twins_main;
 use crate::command::Status;
-use codec_base::{Bytes, MemorySink, MemorySource, ReadFailed, Source};
+use codec_base::Bytes;
 use memory_volume::MemoryVolume;
 use std::alloc::Global;
 use std::test::Fail;
+use stream_base::{MemorySink, MemorySource, ReadFailed, Source};
 
 const OPENED: &[u8] =
     b"opened start=0 size=1 full=6e44d9af463dbbdb8e26fef511895e0a348e2bd099ab0f45425db61c3bd543cc compact=6e44d9af463dbbdb8e26fef511895e0a348e2bd099ab0f45425db61c3bd543cc\n";

@@ -4,10 +4,10 @@ use crate::config::TwinConfig;
 use crate::parse::parse_commands;
 use crate::run::run_twins;
 use crate::text::write_replies;
-use codec_base::MemorySink;
 use memory_volume::MemoryVolume;
 use std::process::Abort;
 use std::test::Fail;
+use stream_base::MemorySink;
 
 // The roots of the lists that the runs below come to.
 const COMMIT: &str = "6e44d9af463dbbdb8e26fef511895e0a348e2bd099ab0f45425db61c3bd543cc";

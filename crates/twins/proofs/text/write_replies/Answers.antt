@@ -1,5 +1,5 @@
 use Rattle.std.proofs.Common.{arith}
-use Rattle.codec_base.specs.Writing.{writes_err}
+use Rattle.stream_base.specs.Writing.{writes_err}
 use Rattle.twins.proofs.ReplyLines.{lines_front, lines_more, lines_end}
 use Rattle.twins.proofs.text.write_replies.Goals as goal
 
