@@ -1,8 +1,8 @@
 ghost use Rattle.std.specs.Prelude.{◌≡◌, ◌≤◌};
 ghost use Rattle.codec_base.specs.Causes.{Rose};
 
-use stream_base::{Sink, WriteFailed};
 use std::io::{self, ErrorKind};
+use stream_base::{Sink, WriteFailed};
 
 /// A sink over a std writer. It tells the bytes that the writer tells, which the standard streams, files and sockets don't.
 /// A call that a signal interrupts is made again, and a writer that takes nothing of a piece that isn't empty has failed.

@@ -1,7 +1,7 @@
 ghost use Rattle.std.specs.Prelude.{◌≡◌};
 
-use stream_base::{ReadFailed, Source};
 use std::io::{self, ErrorKind};
+use stream_base::{ReadFailed, Source};
 
 /// A source over a std reader. It tells the bytes that the reader tells, which the standard streams, files and sockets don't.
 /// A read that a signal interrupts is made again.

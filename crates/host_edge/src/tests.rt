@@ -1,7 +1,7 @@
 use crate::{StdSink, StdSource};
-use stream_base::{ReadAllError, Sink, read_all, write_all};
 use std::io::{self, ErrorKind};
 use std::test::Fail;
+use stream_base::{ReadAllError, Sink, read_all, write_all};
 
 /// A reader that is interrupted before its second piece, and fails after it where it is told to.
 #[derive(Drop)]

@@ -24,8 +24,8 @@ use crate::shared::shared_items;
 use crate::stored::{StoredLog, StoredMap};
 use crate::table::{bounds_of, map_in, read_item};
 use codec_base::{Bytes, ListOf};
-use stream_base::FailingCalls;
 use std::alloc::Global;
+use stream_base::FailingCalls;
 use volume_base::{MetaMap, Volume, VolumeError};
 
 /// A volume in memory. It keeps a record of the calls that wrote or synced.
