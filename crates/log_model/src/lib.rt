@@ -6,3 +6,6 @@ mod root;
 
 pub use logged::Logged;
 pub use root::{floor_of_operations, root_of_operations};
+
+#[cfg(test)]
+mod tests;
