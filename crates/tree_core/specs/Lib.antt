@@ -6,6 +6,7 @@ pub use Rattle.tree_shape.specs.Slow
 pub use Rattle.tree_shape.specs.Root
 pub use Rattle.tree_shape.specs.Mmr
 pub use Rattle.tree_shape.specs.Mmb
+pub use Rattle.tree_shape.specs.Table
 pub mod Errors
 pub mod Pruned
 pub mod Links

@@ -1,4 +1,4 @@
-ghost use Rattle.std.specs.Prelude.{◌≡◌};
+ghost use Rattle.std.specs.Prelude.{◌≡◌, codes};
 ghost use Rattle.tree_core.specs.Errors.{from_journal};
 ghost use Rattle.tree_core.specs.declared.error.Error.TheVariants.{Memory};
 
@@ -15,7 +15,10 @@ pub enum TreeData {
 
 impl TreeData {
     /// What went wrong, in words.
-    pub fn text(&self) -> &'static str {
+    pub fn text(&self) -> &'static str
+        ensures boundary { self.now ≡ TreeData.Boundary → result.now ≡ codes "invalid Merkle pruning boundary" }
+        ensures digest { self.now ≡ TreeData.Digest → result.now ≡ codes "could not read digest at requested pos" }
+    {
         match self {
             TreeData::Boundary => "invalid Merkle pruning boundary",
             TreeData::Digest => "could not read digest at requested pos",

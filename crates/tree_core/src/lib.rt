@@ -16,7 +16,7 @@ pub use mem::Mem;
 pub use sealed::MerkleizedBatch;
 pub use tree_shape::{
     Bagging, Digest, Family, Hasher, Location, MAX_LEAVES, Mmb, Mmr, Pins, Position, Sha256Digest,
-    Sha256Hasher, Standard, slow_node, slow_peaks, slow_root,
+    Sha256Hasher, Standard, slow_node, slow_peaks, slow_root, table_laws,
 };
 pub use unsealed::UnmerkleizedBatch;
 

@@ -37,6 +37,7 @@ impl<F: Family, D: Digest> MerkleizedBatch<F, D> {
     ghost use Rattle.tree_core.specs.Batches.{Sealed, IsSoundSealed, IsSealedOf, IsUnsealedOf, IsChildOf, sealed_node};
     ghost use Rattle.tree_core.specs.Applied.{WhyNot};
 
+    /// The batch of these segments, whose leaves follow one another from `first` to `leaves`.
     pub(crate) fn seal(
         alloc: Global,
         boundary: Rc<Mark<F, D>>,

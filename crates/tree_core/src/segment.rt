@@ -39,6 +39,7 @@ impl<F: Family, D: Digest> Peaks<F, D> for Segment<F, D> {
 }
 
 impl<F: Family, D: Digest> Segment<F, D> {
+    /// The segment that goes on from a mark with these nodes of `later` leaves.
     pub(crate) fn new(before: Mark<F, D>, later: u64, nodes: Vec<D>) -> Self
         requires few { before.leaves + later ≤ 2 ^ 62 }
         requires counted { length nodes.items ≡ length (made_from F.shape before.leaves later) }
@@ -58,6 +59,7 @@ impl<F: Family, D: Digest> Segment<F, D> {
         self.before.leaves
     }
 
+    /// Its nodes, in the order of making.
     pub(crate) fn nodes(&self) -> &[D]
         ensures { result.now ≡ self.now.nodes }
     {

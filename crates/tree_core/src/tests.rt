@@ -101,6 +101,7 @@ const BELT: [(u64, u64, &[u64], u64); 3] = [
 
 #[test]
 fn the_belt_has_its_shape(rt: HostRuntime) {
+    table_laws();
     for (leaves, nodes, pins, inactive) in BELT {
         assert!(rt; leaves <= 11);
         let location = Location::<Mmb>::new(leaves);

@@ -36,6 +36,7 @@ impl<F: Family, D: Digest> UnmerkleizedBatch<F, D> {
     ghost use Rattle.tree_core.specs.Links.{Link, IsLinked};
     ghost use Rattle.tree_core.specs.Batches.{Unsealed, IsUnsealedOf, IsSealedOf, IsSealedFrom, leaf_count, with_digests};
 
+    /// An empty batch that stands on a mark, behind these segments.
     pub(crate) fn begin(
         alloc: Global,
         boundary: Rc<Mark<F, D>>,

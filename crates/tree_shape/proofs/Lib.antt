@@ -4,3 +4,4 @@ pub mod Merge
 pub mod NodeLemmas
 pub mod PinLemmas
 pub mod SizeLemmas
+pub mod TableLemmas

@@ -14,3 +14,4 @@ pub mod MmrKept
 pub mod MmbKept
 pub mod Slow
 pub mod Root
+pub mod Table

@@ -16,6 +16,7 @@ mod sha256;
 mod sizes;
 mod slow;
 mod standard;
+mod table;
 mod valid;
 mod widths;
 
@@ -31,6 +32,7 @@ pub use root::{root_digest, root_of_peaks};
 pub use sha256::{Sha256Digest, Sha256Hasher};
 pub use slow::{slow_node, slow_peaks, slow_root};
 pub use standard::{Standard, begin, update_number};
+pub use table::table_laws;
 pub use widths::{half_width, width};
 
 #[cfg(test)]

@@ -25,6 +25,7 @@ impl<F: Family> Pins<F> {
     ghost use Rattle.std.specs.Prelude.{◌≡◌, ◌≤◌, ◌^◌};
     ghost use Rattle.tree_shape.specs.Pins.{pins};
 
+    /// All the peaks of a number of leaves.
     pub(crate) fn new(leaves: u64) -> Self
         requires { leaves ≤ 2 ^ 62 }
         ensures { result ≡ pins F.shape leaves }

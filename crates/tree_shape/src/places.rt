@@ -23,6 +23,7 @@ impl<F> Model for Location<F> {
 }
 
 impl<F> Location<F> {
+    /// The location of this number.
     pub fn new(value: u64) -> Self
         ensures { result ≡ value }
     {
@@ -32,6 +33,7 @@ impl<F> Location<F> {
         }
     }
 
+    /// Its number.
     pub fn as_u64(&self) -> u64
         ensures { result ≡ self.now }
     {
@@ -128,6 +130,7 @@ impl<F> Model for Position<F> {
 }
 
 impl<F> Position<F> {
+    /// The position of this number.
     pub fn new(value: u64) -> Self
         ensures { result ≡ value }
     {
@@ -137,6 +140,7 @@ impl<F> Position<F> {
         }
     }
 
+    /// Its number.
     pub fn as_u64(&self) -> u64
         ensures { result ≡ self.now }
     {
