@@ -8,3 +8,4 @@ pub mod LinkLemmas
 pub mod FoldLemmas
 pub mod TreeLemmas
 pub mod ApplyLemmas
+pub mod StoreLemmas

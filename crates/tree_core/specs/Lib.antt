@@ -14,3 +14,4 @@ pub mod Reading
 pub mod Tree
 pub mod Batches
 pub mod Applied
+pub mod Stores

@@ -9,11 +9,13 @@ mod mem;
 mod peaks;
 mod sealed;
 mod segment;
+mod stores;
 mod unsealed;
 
 pub use error::{Error, TreeData};
 pub use mem::Mem;
 pub use sealed::MerkleizedBatch;
+pub use stores::{Readable, Storage};
 pub use tree_shape::{
     Bagging, Digest, Family, Hasher, Location, MAX_LEAVES, Mmb, Mmr, Pins, Position, Sha256Digest,
     Sha256Hasher, Standard, slow_node, slow_peaks, slow_root, table_laws,

@@ -3,12 +3,13 @@ use crate::kept::{insert_all, is_kept};
 use crate::mark::Mark;
 use crate::peaks::{Peaks, root_from};
 use crate::segment::{Segment, push_own};
-use crate::{Error, MerkleizedBatch, UnmerkleizedBatch};
+use crate::{Error, MerkleizedBatch, Readable, Storage, UnmerkleizedBatch};
 use std::alloc::{AllocError, Global};
 use std::collections::BTreeMap;
 use std::marker::{Model, PhantomData};
 use std::rc::Rc;
 use tree_shape::{Digest, Family, Hasher, Location, MAX_LEAVES, Position, Standard};
+use volume_base::Volume;
 
 /// A tree in memory, pruned at a boundary: its kept nodes by position.
 #[derive(Drop)]
@@ -70,7 +71,8 @@ impl<F: Family, D: Digest> Mem<F, D> {
 
     /// The number of nodes, whatever was pruned.
     pub fn size(&self) -> Position<F>
-        ensures { result ≡ length (made F.shape self.now.leaves) }
+        ensures size { result ≡ length (made F.shape self.now.leaves) }
+        ensures few { self.now.leaves ≤ 2 ^ 62 }
     {
         Position::new(F::size(self.leaves))
     }
@@ -215,5 +217,82 @@ impl<F: Family, D: Digest> Mem<F, D> {
             }
             None => Err(batch.refusal(&mark)),
         }
+    }
+}
+
+impl<F: Family, D: Digest> Readable for Mem<F, D> {
+    ghost use Rattle.std.specs.Prelude.{◌≡◌};
+    ghost use Rattle.tree_core.specs.Tree.{node_at};
+
+    type Family = F;
+
+    type Digest = D;
+
+    ghost leaves = { λ t. t.leaves };
+
+    ghost told = { λ t p. node_at t p };
+
+    fn size(&self) -> Position<F> {
+        Mem::size(self)
+    }
+
+    fn get_node(&self, pos: Position<F>) -> Option<D>
+        ensures { result ≡ node_at self.now pos }
+    {
+        Mem::get_node(self, pos)
+    }
+}
+
+impl<F: Family, D: Digest> Storage<F> for Mem<F, D> {
+    ghost use Rattle.std.specs.Prelude.{◌≡◌, ◌<◌, length, map, Some, All, AllPairs, IfOk, IfErr};
+    ghost use Rattle.tree_shape.specs.Shape.{made};
+    ghost use Rattle.volume_base.specs.Volume.{Reads};
+    ghost use Rattle.tree_core.specs.Stores.{IsReadFault, IsReadRefusal, IsOutside, IsOutsideOr};
+    ghost use Rattle.tree_core.specs.Tree.{node_at};
+
+    type Digest = D;
+
+    ghost leaves = { λ t. t.leaves };
+
+    ghost held = { λ t c. Unit {0} };
+
+    ghost told = { λ t c p. node_at t p };
+
+    fn size(&self) -> Position<F> {
+        Mem::size(self)
+    }
+
+    fn get_node<V: Volume>(
+        &self,
+        _vol: &mut V,
+        position: Position<F>,
+    ) -> Result<Option<D>, Error<F>>
+        ensures node { IfOk result (λ node. V.tells → Unit {0} → node ≡ node_at self.now position) }
+        ensures fault { position < length (made F.shape self.now.leaves) → IfErr result IsReadFault }
+        ensures outside { position < length (made F.shape self.now.leaves) → V.tells → Unit {0} → IfErr result IsOutside }
+        ensures reads { Reads V.tells Error.Volume (V.state _vol.old) (V.state _vol.new) result }
+    {
+        Ok(Mem::get_node(self, position))
+    }
+
+    fn get_nodes<V: Volume>(
+        &self,
+        _vol: &mut V,
+        positions: &[Position<F>],
+    ) -> Result<Vec<D>, Error<F>>
+        ensures nodes { IfOk result (λ nodes. V.tells → Unit {0} → map Some nodes.items ≡ map (node_at self.now) positions.now) }
+        ensures fault { All (λ p. p < length (made F.shape self.now.leaves)) positions.now → IfErr result IsReadRefusal }
+        ensures outside { All (λ p. p < length (made F.shape self.now.leaves)) positions.now → V.tells → Unit {0} → IfErr result (IsOutsideOr (node_at self.now) positions.now) }
+        ensures reads { Reads V.tells Error.Volume (V.state _vol.old) (V.state _vol.new) result }
+    {
+        let mut nodes = Vec::new(self.alloc);
+        for i in 0..positions.len() {
+            let position = positions[i].as_u64();
+            match self.nodes.get(&position) {
+                Some(digest) => nodes.push(*digest)?,
+                None => return Err(Error::ElementPruned(Position::new(position))),
+            }
+        }
+        Ok(nodes)
     }
 }

@@ -1,0 +1,33 @@
+-- What stores of nodes answer.
+use Rattle.std.specs.Prelude.{◌≡◌, ℕ, ◌<◌, List, Option, Some, None, IsSome, slice_get}
+use Rattle.tree_core.specs.declared.error.Error.{Error}
+use Rattle.tree_core.specs.declared.error.Error.TheVariants.{Volume, Memory, Journal, ElementPruned}
+
+-- a read was refused for want of memory, or by the volume, or by the journal below
+abbrev pub IsReadFault : {F : Type 0} → Error F → Type 0
+IsReadFault Volume = Unit {0}
+IsReadFault Memory = Unit {0}
+IsReadFault (Journal error) = Unit {0}
+IsReadFault _ = ⊥
+
+-- for want of memory, or by the volume
+abbrev pub IsOutside : {F : Type 0} → Error F → Type 0
+IsOutside Volume = Unit {0}
+IsOutside Memory = Unit {0}
+IsOutside _ = ⊥
+
+-- of these positions p is the first at which no node is told
+pub record IsFirstAbsent {D : Type 0} (told : ℕ → Option D) (ps : List ℕ) (p : ℕ) : Type 0 where
+  pub index : ℕ
+  pub here : slice_get ps index ≡ Some p
+  pub absent : told p ≡ None
+  pub before : (j q : ℕ) → j < index → slice_get ps j ≡ Some q → IsSome (told q)
+
+-- a read of several was refused: as one is, or the first position without a node is named
+abbrev pub IsReadRefusal : {F : Type 0} → Error F → Type 0
+IsReadRefusal (ElementPruned p) = Unit {0}
+IsReadRefusal error = IsReadFault error
+
+abbrev pub IsOutsideOr : {F D : Type 0} → (ℕ → Option D) → List ℕ → Error F → Type 0
+IsOutsideOr told ps (ElementPruned p) = IsFirstAbsent told ps p
+IsOutsideOr told ps error = IsOutside error
