@@ -1,0 +1,3 @@
+mod Exact
+mod KeylessExact
+mod ImmutableExact

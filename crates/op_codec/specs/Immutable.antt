@@ -1,12 +1,13 @@
 -- What an immutable operation means, and its two encodings.
-use Rattle.std.proofs.Common.{◌≡◌, ℕ, ◌+◌, ◌-◌, max, List, ◌++◌, length, Option, Some, None, Bool, true, false, refl, arith, inl, inr, ◌⊎◌}
+use Rattle.std.proofs.Common.{◌≡◌, ℕ, ◌+◌, ◌-◌, ◌≤◌, max, List, ◌++◌, length, Option, Some, None, Bool, true, false, refl, arith, inl, inr, ◌⊎◌}
 use Rattle.std.proofs.lemmas.List.{length-append}
 use Rattle.codec_base.specs.declared.error.CodecError.TheVariants.{InvalidEnum}
 use Rattle.codec_base.specs.Codec.{Reading, IsLawful, held}
+use Rattle.codec_base.specs.Parts.{admits_optional}
 use Rattle.codec_base.specs.Combine.{pair_spelling, pair_admits, pair_at, pair_lawful, choice_spelling, choice_admits, choice_at, choice_lawful, zeros, length-zeros, sized_at, sized_lawful}
 use Rattle.op_codec.specs.declared.immutable.Operation.{Operation}
 use Rattle.op_codec.specs.declared.immutable.Operation.TheVariants.{Set, Commit}
-use Rattle.op_codec.specs.Commits.{Commits, variable_commit, admits_commit, variable_commit_at, variable_commit_lawful, padded, padded_at, padded_lawful, fixed_commit, admits_fixed_commit, fixed_commit_at, fixed_commit_lawful, fixed_commit_length}
+use Rattle.op_codec.specs.Commits.{Commits, max_leaves, variable_commit, admits_commit, variable_commit_at, variable_commit_lawful, padded, padded_at, padded_lawful, fixed_commit, admits_fixed_commit, fixed_commit_at, fixed_commit_lawful, fixed_commit_length}
 
 -- a key and its value, or a commit's metadata and floor
 abbrev pub Parts : Type 0 → Type 0 → Type 0
@@ -47,6 +48,11 @@ module _ {F K V D A C : Type 0} where
   abbrev pub commits : Operation F K V D A C → Bool
   commits (Set k x) = false
   commits (Commit m floor) = true
+
+  -- its key and its value are allowed; of a commit, its metadata, and its floor is a number of leaves of a tree
+  abbrev pub IsAllowed : (K → Type 0) → (A → Type 0) → Operation F K V D A C → Type 0
+  IsAllowed key value (Set k x) = key k × value x
+  IsAllowed key value (Commit m floor) = admits_optional value m × (floor ≤ max_leaves)
 
 pub parts_of_parts : (F K V D A C : Type 0) (p : Parts K A) → parts (of_parts {F = F} {V = V} {D = D} {C = C} p) ≡ p
 parts_of_parts F K V D A C (inl p) = refl

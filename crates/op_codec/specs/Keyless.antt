@@ -1,12 +1,13 @@
 -- What a keyless operation means, and its two encodings.
-use Rattle.std.proofs.Common.{◌≡◌, ℕ, ◌+◌, List, ◌++◌, length, Option, Some, None, Bool, true, false, refl, arith, inl, inr, ◌⊎◌}
+use Rattle.std.proofs.Common.{◌≡◌, ℕ, ◌+◌, ◌≤◌, List, ◌++◌, length, Option, Some, None, Bool, true, false, refl, arith, inl, inr, ◌⊎◌}
 use Rattle.std.proofs.lemmas.List.{length-append}
 use Rattle.codec_base.specs.declared.error.CodecError.TheVariants.{InvalidEnum}
 use Rattle.codec_base.specs.Codec.{Reading, IsLawful, held}
+use Rattle.codec_base.specs.Parts.{admits_optional}
 use Rattle.codec_base.specs.Combine.{choice_spelling, choice_admits, choice_at, choice_lawful, zeros, length-zeros, sized_at, sized_lawful}
 use Rattle.op_codec.specs.declared.keyless.Operation.{Operation}
 use Rattle.op_codec.specs.declared.keyless.Operation.TheVariants.{Append, Commit}
-use Rattle.op_codec.specs.Commits.{Commits, variable_commit, admits_commit, variable_commit_at, variable_commit_lawful, padded, padded_at, padded_lawful, fixed_commit, admits_fixed_commit, fixed_commit_at, fixed_commit_lawful, fixed_commit_length}
+use Rattle.op_codec.specs.Commits.{Commits, max_leaves, variable_commit, admits_commit, variable_commit_at, variable_commit_lawful, padded, padded_at, padded_lawful, fixed_commit, admits_fixed_commit, fixed_commit_at, fixed_commit_lawful, fixed_commit_length}
 
 -- a commit's metadata and floor, or an append's value
 abbrev pub Parts : Type 0 → Type 0
@@ -38,6 +39,11 @@ module _ {F V A C : Type 0} where
   abbrev pub commits : Operation F V A C → Bool
   commits (Append x) = false
   commits (Commit m floor) = true
+
+  -- its value is allowed; of a commit, its metadata, and its floor is a number of leaves of a tree
+  abbrev pub IsAllowed : (A → Type 0) → Operation F V A C → Type 0
+  IsAllowed admits (Append x) = admits x
+  IsAllowed admits (Commit m floor) = admits_optional admits m × (floor ≤ max_leaves)
 
 pub parts_of_parts : (F V A C : Type 0) (p : Parts A) → parts (of_parts {F = F} {V = V} {C = C} p) ≡ p
 parts_of_parts F V A C (inl p) = refl

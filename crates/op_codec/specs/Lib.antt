@@ -3,6 +3,7 @@ pub mod Keyless
 pub mod Immutable
 pub mod Target
 pub mod Request
+pub mod Decoding
 pub mod Text
 pub mod KeylessText
 pub mod ImmutableText

@@ -1,5 +1,6 @@
 -- What a request asks for.
 use Rattle.std.specs.Prelude.{ℕ}
+use Rattle.std.specs.declared.num.NonZeroU64.{NonZeroU64}
 use Rattle.op_codec.specs.declared.request.Request.{Request}
 use Rattle.op_codec.specs.declared.request.Request.TheVariants.{Operations, Boundary}
 
@@ -13,3 +14,8 @@ module _ {F : Type 0} where
   abbrev pub start_of : Request F → ℕ
   start_of (Operations size start max_ops) = start
   start_of (Boundary size start max_ops) = start
+
+  -- the most operations
+  abbrev pub max_ops_of : Request F → NonZeroU64
+  max_ops_of (Operations size start max_ops) = max_ops
+  max_ops_of (Boundary size start max_ops) = max_ops

@@ -4,12 +4,14 @@ ghost use Rattle.codec_base.specs.Codec.{Reading, TakesAs, IsLawful, held};
 ghost use Rattle.op_codec.specs.Immutable.{Parts, parts, of_parts, of_parts_of, parts_of_parts, key_of, floor_of, sets, commits};
 
 mod fixed;
+mod laws;
 mod logged;
 mod text;
 mod variable;
 
 use crate::{Floored, Key, OperationTrait, ValueEncoding};
 use codec_base::{Bytes, CodecError, Cursor, Duplicate, EncodeSize, Read, Spelled, Write};
+pub use laws::{fixed_laws, variable_laws};
 use std::alloc::Global;
 use tree_shape::{Family, Location};
 

@@ -1,5 +1,5 @@
 ghost use Rattle.std.specs.Prelude.{◌≡◌};
-ghost use Rattle.op_codec.specs.Request.{size_of, start_of};
+ghost use Rattle.op_codec.specs.Request.{size_of, start_of, max_ops_of};
 
 use std::num::NonZeroU64;
 use tree_shape::Location;
@@ -45,7 +45,9 @@ impl<F> Request<F> {
     }
 
     /// The most operations that are asked for.
-    pub fn max_ops(&self) -> NonZeroU64 {
+    pub fn max_ops(&self) -> NonZeroU64
+        ensures { result ≡ max_ops_of self.now }
+    {
         match self {
             Request::Operations { max_ops, .. } | Request::Boundary { max_ops, .. } => *max_ops,
         }

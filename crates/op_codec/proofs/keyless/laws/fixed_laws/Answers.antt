@@ -1,0 +1,7 @@
+use Rattle.op_codec.proofs.KeylessExact.{fixed_exact}
+use Rattle.op_codec.proofs.keyless.laws.fixed_laws.Goals as goal
+
+pub returns : goal.returns
+returns g c =
+    fixed_exact _ _ _ _ g.V.Spelled.spelling (g.V.Read.admits c.args.cfg.now) (g.V.Read.reads c.args.cfg.now) (g.met.V.Read.lawful c.args.cfg.now)
+    g.V.FixedSize.width (g.met.V.FixedSize.one_width c.args.cfg.now)
