@@ -1,0 +1,47 @@
+-- Which errors a call answers.
+use Rattle.volume_base.specs.declared.error.JournalError.{JournalError}
+use Rattle.volume_base.specs.declared.error.JournalError.TheVariants.{ItemPruned, ItemOutOfRange, EmptyAppend, SizeOverflow, Corruption, Tree, Volume, Memory}
+
+-- a failure of the outside, or want of memory
+abbrev pub IsOfVolume : JournalError → Type 0
+IsOfVolume Volume = Unit {0}
+IsOfVolume Memory = Unit {0}
+IsOfVolume (ItemPruned p) = ⊥
+IsOfVolume (ItemOutOfRange p) = ⊥
+IsOfVolume EmptyAppend = ⊥
+IsOfVolume SizeOverflow = ⊥
+IsOfVolume (Corruption p) = ⊥
+IsOfVolume (Tree cause) = ⊥
+
+-- besides, that the end would pass the greatest
+abbrev pub IsOfOneAppend : JournalError → Type 0
+IsOfOneAppend SizeOverflow = Unit {0}
+IsOfOneAppend Volume = Unit {0}
+IsOfOneAppend Memory = Unit {0}
+IsOfOneAppend (ItemPruned p) = ⊥
+IsOfOneAppend (ItemOutOfRange p) = ⊥
+IsOfOneAppend EmptyAppend = ⊥
+IsOfOneAppend (Corruption p) = ⊥
+IsOfOneAppend (Tree cause) = ⊥
+
+-- besides, that there are no items
+abbrev pub IsOfAppend : JournalError → Type 0
+IsOfAppend EmptyAppend = Unit {0}
+IsOfAppend SizeOverflow = Unit {0}
+IsOfAppend Volume = Unit {0}
+IsOfAppend Memory = Unit {0}
+IsOfAppend (ItemPruned p) = ⊥
+IsOfAppend (ItemOutOfRange p) = ⊥
+IsOfAppend (Corruption p) = ⊥
+IsOfAppend (Tree cause) = ⊥
+
+-- what a read of an item answers
+abbrev pub IsOfRead : JournalError → Type 0
+IsOfRead (ItemPruned p) = Unit {0}
+IsOfRead (ItemOutOfRange p) = Unit {0}
+IsOfRead (Corruption p) = Unit {0}
+IsOfRead Volume = Unit {0}
+IsOfRead Memory = Unit {0}
+IsOfRead EmptyAppend = ⊥
+IsOfRead SizeOverflow = ⊥
+IsOfRead (Tree cause) = ⊥

@@ -1,0 +1,141 @@
+ghost use Rattle.std.specs.Prelude.{◌≡◌, ◌++◌, ℕ, List, map, string_bytes, IfOk, IsOkUnless};
+ghost use Rattle.std.specs.NonZero.{non_zero_u64_get};
+ghost use Rattle.journal_base.specs.View.{View};
+
+use crate::{Contiguous, Mutable};
+use codec_base::{
+    Bytes, CodecError, Duplicate, EncodeSize, FixedSize, Read, Write, decode, encode,
+};
+use std::alloc::Global;
+use std::marker::PhantomData;
+use std::num::NonZeroU64;
+use volume_base::{JournalError, Volume};
+
+/// Items of one size.
+pub struct Fixed;
+
+/// Items of any size.
+pub struct Variable;
+
+/// Which items a journal of a kind holds.
+pub trait Kind<T> {}
+
+impl<T: FixedSize> Kind<T> for Fixed {}
+
+impl<T> Kind<T> for Variable {}
+
+/// Where a journal lies, how many items its blobs have, and what its items may be.
+#[derive(Drop)]
+pub struct JournalConfig<C> {
+    pub name: String,
+    pub items_per_blob: NonZeroU64,
+    pub codec: C,
+}
+
+/// A journal: one log of a volume, whose bounds it knows.
+#[derive(Drop)]
+pub struct Journal<T: Read, K> {
+    name: String,
+    items_per_blob: NonZeroU64,
+    codec: T::Cfg,
+    start: u64,
+    end: u64,
+    failed: bool,
+    kind: PhantomData<K>,
+}
+
+/// A journal of items of one size.
+pub type FixedJournal<T> = Journal<T, Fixed>;
+
+/// A journal of items of any size.
+pub type VariableJournal<T> = Journal<T, Variable>;
+
+/// The spellings of items, in their order.
+fn encode_all<T: Write>(alloc: Global, items: &[T]) -> Result<Vec<Bytes>, JournalError>
+    ensures same { IfOk result (λ texts. texts.items ≡ map T.spelling items.now) }
+    ensures memory { IsOkUnless result JournalError.Memory }
+{
+    let mut texts = Vec::new(alloc);
+    for item in items {
+        texts.push(encode_one(alloc, item)?)?;
+    }
+    Ok(texts)
+}
+
+/// The spelling of an item.
+fn encode_one<T: Write>(alloc: Global, item: &T) -> Result<Bytes, JournalError>
+    ensures same { IfOk result (λ text. text ≡ T.spelling item.now) }
+    ensures memory { IsOkUnless result JournalError.Memory }
+{
+    match encode(alloc, item) {
+        Ok(text) => Ok(text),
+        Err(_) => Err(JournalError::Memory),
+    }
+}
+
+impl<T: Write + EncodeSize + Read + Duplicate + Drop, K: Kind<T>> Contiguous for Journal<T, K> {
+    type Item = T;
+
+    ghost view = { λ j. record { name = string_bytes j.name; blob = non_zero_u64_get j.items_per_blob; codec = j.codec; start = j.start; end = j.end; failed = j.failed } };
+
+    fn bounds(&self) -> (u64, u64) {
+        (self.start, self.end)
+    }
+
+    fn read<V: Volume>(&self, vol: &mut V, position: u64) -> Result<T, JournalError> {
+        let text = vol.log_read(self.name.as_str(), position)?;
+        match decode(*self.name.allocator(), text.as_slice(), &self.codec) {
+            Ok(item) => Ok(item),
+            Err(CodecError::Memory) => Err(JournalError::Memory),
+            Err(_) => Err(JournalError::Corruption(position)),
+        }
+    }
+}
+
+impl<T: Write + EncodeSize + Read + Duplicate + Drop, K: Kind<T>> Mutable for Journal<T, K> {
+    ghost one_log = { Unit {0} };
+
+    fn append<V: Volume>(self, vol: &mut V, item: &T) -> Result<(Self, u64), JournalError> {
+        let text = encode_one(*self.name.allocator(), item)?;
+        let name = self.name.as_str();
+        let (start, end) = vol.log_bounds(name)?;
+        if end == u64::MAX {
+            return Err(JournalError::SizeOverflow);
+        }
+        vol.log_append(name, &[text])?;
+        let journal = Journal {
+            start,
+            end: end + 1,
+            ..self
+        };
+        Ok((journal, end))
+    }
+
+    fn append_many<V: Volume>(self, vol: &mut V, items: &[T]) -> Result<(Self, u64), JournalError> {
+        if items.is_empty() {
+            return Err(JournalError::EmptyAppend);
+        }
+        let texts = encode_all(*self.name.allocator(), items)?;
+        let name = self.name.as_str();
+        let (start, end) = vol.log_bounds(name)?;
+        let count = texts.len() as u64;
+        if u64::MAX - end < count {
+            return Err(JournalError::SizeOverflow);
+        }
+        vol.log_append(name, &texts)?;
+        let journal = Journal {
+            start,
+            end: end + count,
+            ..self
+        };
+        Ok((journal, end + (count - 1)))
+    }
+
+    fn commit<V: Volume>(self, vol: &mut V) -> Result<Self, JournalError> {
+        if self.failed {
+            return Err(JournalError::Volume);
+        }
+        vol.log_sync(self.name.as_str())?;
+        Ok(self)
+    }
+}

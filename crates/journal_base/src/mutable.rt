@@ -1,0 +1,57 @@
+ghost use Rattle.std.specs.Prelude.{◌≡◌, ◌↔◌, ◌+◌, ◌-◌, ◌<◌, ◌≤◌, ◌^◌, ℕ, List, [], ◌∷◌, map, length, true, false, IfOk, IfErr, OnOk, IsErrOf};
+ghost use Rattle.journal_base.specs.Answers.{IsOfVolume, IsOfOneAppend, IsOfAppend};
+ghost use Rattle.journal_base.specs.View.{View, at_bounds, IsHeld};
+ghost use Rattle.volume_base.specs.Log.{end_of, appended, Grows, Stays};
+ghost use Rattle.volume_base.specs.Volume.{OnlyLog, OnlyLeft, LogMoves, Writes};
+ghost use Rattle.volume_base.specs.declared.error.JournalError.TheVariants.{EmptyAppend, SizeOverflow, Volume};
+
+use crate::Contiguous;
+use volume_base::{JournalError, Volume};
+
+/// A run of items that can be changed. What is said of one log alone has that as its premise.
+pub trait Mutable: Contiguous {
+    /// Whether it is one log alone.
+    ghost one_log: { Type 0 };
+
+    /// Adds an item behind the end, and answers its position.
+    fn append<V: Volume>(self, vol: &mut V, item: &Self::Item) -> Result<(Self, u64), JournalError>
+        ensures overflow { V.tells → IsErrOf result SizeOverflow → end_of ((V.state vol.old).log (Self.view self).name) ≡ 2 ^ 64 - 1 }
+        ensures fits { OnOk result (V.tells → end_of ((V.state vol.old).log (Self.view self).name) < 2 ^ 64 - 1) }
+        ensures position { IfOk result (λ made. V.tells → made.1 ≡ end_of ((V.state vol.old).log (Self.view self).name)) }
+        ensures made { IfOk result (λ made. Self.view made.0 ≡ at_bounds (Self.view self) (Self.view made.0).start (Self.view made.0).end) }
+        ensures held { IfOk result (λ made. V.tells → IsHeld (Self.view made.0) (V.state vol.new)) }
+        ensures appended { OnOk result (V.tells → (V.state vol.new).log (Self.view self).name ≡ appended ((V.state vol.old).log (Self.view self).name) (Self.Item.spelling item.now ∷ [])) }
+        ensures others { one_log → V.tells → OnlyLog (Self.view self).name (V.state vol.old) (V.state vol.new) }
+        ensures images { one_log → V.tells → LogMoves (Self.view self).name (Grows ((V.state vol.old).log (Self.view self).name) (Self.Item.spelling item.now ∷ [])) (V.state vol.old) (V.state vol.new) }
+        ensures errors { one_log → IfErr result IsOfOneAppend }
+        ensures writes { Writes V.tells Volume (V.state vol.old) (V.state vol.new) result };
+
+    /// Adds items behind the end, by one append, and answers the position of the last.
+    fn append_many<V: Volume>(
+        self,
+        vol: &mut V,
+        items: &[Self::Item],
+    ) -> Result<(Self, u64), JournalError>
+        ensures empty { IsErrOf result EmptyAppend ↔ (length items.now ≡ 0) }
+        ensures overflow { V.tells → IsErrOf result SizeOverflow → 2 ^ 64 - 1 < end_of ((V.state vol.old).log (Self.view self).name) + length items.now }
+        ensures fits { OnOk result (V.tells → end_of ((V.state vol.old).log (Self.view self).name) + length items.now ≤ 2 ^ 64 - 1) }
+        ensures position { IfOk result (λ made. V.tells → made.1 + 1 ≡ end_of ((V.state vol.old).log (Self.view self).name) + length items.now) }
+        ensures made { IfOk result (λ made. Self.view made.0 ≡ at_bounds (Self.view self) (Self.view made.0).start (Self.view made.0).end) }
+        ensures held { IfOk result (λ made. V.tells → IsHeld (Self.view made.0) (V.state vol.new)) }
+        ensures appended { OnOk result (V.tells → (V.state vol.new).log (Self.view self).name ≡ appended ((V.state vol.old).log (Self.view self).name) (map Self.Item.spelling items.now)) }
+        ensures others { one_log → V.tells → OnlyLog (Self.view self).name (V.state vol.old) (V.state vol.new) }
+        ensures images { one_log → V.tells → LogMoves (Self.view self).name (Grows ((V.state vol.old).log (Self.view self).name) (map Self.Item.spelling items.now)) (V.state vol.old) (V.state vol.new) }
+        ensures errors { one_log → IfErr result IsOfAppend }
+        ensures writes { Writes V.tells Volume (V.state vol.old) (V.state vol.new) result };
+
+    /// After it a crash leaves what the log holds.
+    fn commit<V: Volume>(self, vol: &mut V) -> Result<Self, JournalError>
+        ensures kept { (Self.view self).failed ≡ true → IsErrOf result Volume × (vol.new ≡ vol.old) }
+        ensures made { IfOk result (λ made. Self.view made ≡ Self.view self) }
+        ensures contents { V.tells → (V.state vol.new).log (Self.view self).name ≡ (V.state vol.old).log (Self.view self).name }
+        ensures durable { OnOk result (V.tells → OnlyLeft ((V.state vol.new).log_left (V.state vol.new).clock (Self.view self).name) ((V.state vol.new).log (Self.view self).name)) }
+        ensures others { one_log → V.tells → OnlyLog (Self.view self).name (V.state vol.old) (V.state vol.new) }
+        ensures images { one_log → V.tells → LogMoves (Self.view self).name Stays (V.state vol.old) (V.state vol.new) }
+        ensures errors { one_log → IfErr result IsOfVolume }
+        ensures writes { (Self.view self).failed ≡ false → Writes V.tells Volume (V.state vol.old) (V.state vol.new) result };
+}
