@@ -1,4 +1,5 @@
 pub mod Answers
+pub mod Blobs
 pub mod Items
 pub mod Tickets
 pub mod View

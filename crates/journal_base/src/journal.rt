@@ -1,15 +1,15 @@
-ghost use Rattle.std.specs.Prelude.{◌≡◌, ◌++◌, ℕ, List, map, string_bytes, IfOk, IsOkUnless};
+ghost use Rattle.std.specs.Prelude.{◌≡◌, ◌≤◌, map, string_bytes, IfOk, IsOkUnless};
 ghost use Rattle.std.specs.NonZero.{non_zero_u64_get};
-ghost use Rattle.journal_base.specs.View.{View};
+ghost use Rattle.journal_base.specs.Blobs.{blob_start};
 
-use crate::{Contiguous, Mutable};
+use crate::{Contiguous, Mutable, SyncTicket};
 use codec_base::{
     Bytes, CodecError, Duplicate, EncodeSize, FixedSize, Read, Write, decode, encode,
 };
 use std::alloc::Global;
 use std::marker::PhantomData;
 use std::num::NonZeroU64;
-use volume_base::{JournalError, Volume};
+use volume_base::{JournalError, Volume, VolumeError};
 
 /// Items of one size.
 pub struct Fixed;
@@ -71,6 +71,15 @@ fn encode_one<T: Write>(alloc: Global, item: &T) -> Result<Bytes, JournalError>
         Ok(text) => Ok(text),
         Err(_) => Err(JournalError::Memory),
     }
+}
+
+/// Where the blob of a position begins.
+fn start_of_blob(items_per_blob: NonZeroU64, position: u64) -> u64
+    ensures start { result ≡ blob_start (non_zero_u64_get items_per_blob) position }
+    ensures low { result ≤ position }
+{
+    let blob = items_per_blob.get();
+    position / blob * blob
 }
 
 impl<T: Write + EncodeSize + Read + Duplicate + Drop, K: Kind<T>> Contiguous for Journal<T, K> {
@@ -137,5 +146,52 @@ impl<T: Write + EncodeSize + Read + Duplicate + Drop, K: Kind<T>> Mutable for Jo
         }
         vol.log_sync(self.name.as_str())?;
         Ok(self)
+    }
+
+    fn sync<V: Volume>(self, vol: &mut V) -> Result<Self, JournalError> {
+        let journal = self.commit(vol)?;
+        Ok(journal)
+    }
+
+    fn start_sync<V: Volume>(self, vol: &mut V) -> Result<(Self, SyncTicket), JournalError> {
+        if self.failed {
+            return Err(JournalError::Volume);
+        }
+        match vol.log_sync(self.name.as_str()) {
+            Ok(()) => Ok((self, SyncTicket::Done)),
+            Err(VolumeError::Failed) => {
+                let journal = Journal {
+                    failed: true,
+                    ..self
+                };
+                Ok((journal, SyncTicket::Failed))
+            }
+            Err(error) => Err(JournalError::from(error)),
+        }
+    }
+
+    fn prune<V: Volume>(self, vol: &mut V, least: u64) -> Result<(Self, bool), JournalError> {
+        if self.failed {
+            return Err(JournalError::Volume);
+        }
+        let name = self.name.as_str();
+        let (start, end) = vol.log_bounds(name)?;
+        let to = start_of_blob(self.items_per_blob, least.min(end));
+        if to <= start {
+            let journal = Journal { start, end, ..self };
+            return Ok((journal, false));
+        }
+        vol.log_prune(name, to)?;
+        let journal = Journal {
+            start: to,
+            end,
+            ..self
+        };
+        Ok((journal, true))
+    }
+
+    fn destroy<V: Volume>(self, vol: &mut V) -> Result<(), JournalError> {
+        vol.log_remove(self.name.as_str())?;
+        Ok(())
     }
 }

@@ -1,11 +1,14 @@
-ghost use Rattle.std.specs.Prelude.{◌≡◌, ◌↔◌, ◌+◌, ◌-◌, ◌<◌, ◌≤◌, ◌^◌, ℕ, List, [], ◌∷◌, map, length, true, false, IfOk, IfErr, OnOk, IsErrOf};
+ghost use Rattle.std.specs.Prelude.{◌≡◌, ◌↔◌, ◌+◌, ◌-◌, ◌<◌, ◌≤◌, ◌^◌, ℕ, List, [], ◌∷◌, map, min, length, true, false, IsTrue, IfOk, IfErr, OnOk, IsErrOf};
+ghost use Rattle.codec_base.specs.Causes.{Rose};
+ghost use Rattle.journal_base.specs.Blobs.{blob_start};
+ghost use Rattle.journal_base.specs.Tickets.{is_failed};
 ghost use Rattle.journal_base.specs.Answers.{IsOfVolume, IsOfOneAppend, IsOfAppend};
-ghost use Rattle.journal_base.specs.View.{View, at_bounds, IsHeld};
-ghost use Rattle.volume_base.specs.Log.{end_of, appended, Grows, Stays};
+ghost use Rattle.journal_base.specs.View.{at_bounds, after_sync, IsHeld};
+ghost use Rattle.volume_base.specs.Log.{end_of, no_log, appended, pruned_to, Grows, Advances, Vanishes, Stays};
 ghost use Rattle.volume_base.specs.Volume.{OnlyLog, OnlyLeft, LogMoves, Writes};
 ghost use Rattle.volume_base.specs.declared.error.JournalError.TheVariants.{EmptyAppend, SizeOverflow, Volume};
 
-use crate::Contiguous;
+use crate::{Contiguous, SyncTicket};
 use volume_base::{JournalError, Volume};
 
 /// A run of items that can be changed. What is said of one log alone has that as its premise.
@@ -54,4 +57,48 @@ pub trait Mutable: Contiguous {
         ensures images { one_log → V.tells → LogMoves (Self.view self).name Stays (V.state vol.old) (V.state vol.new) }
         ensures errors { one_log → IfErr result IsOfVolume }
         ensures writes { (Self.view self).failed ≡ false → Writes V.tells Volume (V.state vol.old) (V.state vol.new) result };
+
+    /// As `commit`, and what else a journal keeps is durable too.
+    fn sync<V: Volume>(self, vol: &mut V) -> Result<Self, JournalError>
+        ensures kept { (Self.view self).failed ≡ true → IsErrOf result Volume × (vol.new ≡ vol.old) }
+        ensures made { IfOk result (λ made. Self.view made ≡ Self.view self) }
+        ensures contents { V.tells → (V.state vol.new).log (Self.view self).name ≡ (V.state vol.old).log (Self.view self).name }
+        ensures durable { OnOk result (V.tells → OnlyLeft ((V.state vol.new).log_left (V.state vol.new).clock (Self.view self).name) ((V.state vol.new).log (Self.view self).name)) }
+        ensures others { one_log → V.tells → OnlyLog (Self.view self).name (V.state vol.old) (V.state vol.new) }
+        ensures images { one_log → V.tells → LogMoves (Self.view self).name Stays (V.state vol.old) (V.state vol.new) }
+        ensures errors { one_log → IfErr result IsOfVolume }
+        ensures writes { (Self.view self).failed ≡ false → Writes V.tells Volume (V.state vol.old) (V.state vol.new) result };
+
+    /// As `sync`. It syncs within the call, and the ticket tells how. A journal beside a failed ticket keeps the failure.
+    fn start_sync<V: Volume>(self, vol: &mut V) -> Result<(Self, SyncTicket), JournalError>
+        ensures kept { (Self.view self).failed ≡ true → IsErrOf result Volume × (vol.new ≡ vol.old) }
+        ensures made { IfOk result (λ made. Self.view made.0 ≡ after_sync (Self.view self) (is_failed made.1)) }
+        ensures contents { V.tells → (V.state vol.new).log (Self.view self).name ≡ (V.state vol.old).log (Self.view self).name }
+        ensures durable { IfOk result (λ made. made.1 ≡ SyncTicket.Done → V.tells → OnlyLeft ((V.state vol.new).log_left (V.state vol.new).clock (Self.view self).name) ((V.state vol.new).log (Self.view self).name)) }
+        ensures failed { IfOk result (λ made. made.1 ≡ SyncTicket.Failed → Rose (V.state vol.old).faults (V.state vol.new).faults) }
+        ensures others { one_log → V.tells → OnlyLog (Self.view self).name (V.state vol.old) (V.state vol.new) }
+        ensures images { one_log → V.tells → LogMoves (Self.view self).name Stays (V.state vol.old) (V.state vol.new) }
+        ensures errors { one_log → IfErr result IsOfVolume }
+        ensures writes { (Self.view self).failed ≡ false → Writes V.tells Volume (V.state vol.old) (V.state vol.new) result };
+
+    /// Takes whole blobs below a position away, and answers whether the start has moved.
+    fn prune<V: Volume>(self, vol: &mut V, least: u64) -> Result<(Self, bool), JournalError>
+        ensures kept { (Self.view self).failed ≡ true → IsErrOf result Volume × (vol.new ≡ vol.old) }
+        ensures made { IfOk result (λ made. Self.view made.0 ≡ at_bounds (Self.view self) (Self.view made.0).start (Self.view made.0).end) }
+        ensures held { IfOk result (λ made. V.tells → IsHeld (Self.view made.0) (V.state vol.new)) }
+        ensures moved { IfOk result (λ made. one_log → V.tells → (IsTrue made.1 ↔ (((V.state vol.old).log (Self.view self).name).start < blob_start (Self.view self).blob (min least (end_of ((V.state vol.old).log (Self.view self).name)))))) }
+        ensures pruned { OnOk result (V.tells → (V.state vol.new).log (Self.view self).name ≡ pruned_to ((V.state vol.old).log (Self.view self).name) (blob_start (Self.view self).blob (min least (end_of ((V.state vol.old).log (Self.view self).name))))) }
+        ensures others { one_log → V.tells → OnlyLog (Self.view self).name (V.state vol.old) (V.state vol.new) }
+        ensures images { one_log → V.tells → LogMoves (Self.view self).name (Advances (blob_start (Self.view self).blob (min least (end_of ((V.state vol.old).log (Self.view self).name))))) (V.state vol.old) (V.state vol.new) }
+        ensures errors { one_log → IfErr result IsOfVolume }
+        ensures writes { one_log → (Self.view self).failed ≡ false → Writes V.tells Volume (V.state vol.old) (V.state vol.new) result };
+
+    /// Takes the log away.
+    fn destroy<V: Volume>(self, vol: &mut V) -> Result<(), JournalError>
+        ensures removed { OnOk result (V.tells → (V.state vol.new).log (Self.view self).name ≡ no_log) }
+        ensures durable { OnOk result (V.tells → OnlyLeft ((V.state vol.new).log_left (V.state vol.new).clock (Self.view self).name) no_log) }
+        ensures others { one_log → V.tells → OnlyLog (Self.view self).name (V.state vol.old) (V.state vol.new) }
+        ensures images { one_log → V.tells → LogMoves (Self.view self).name Vanishes (V.state vol.old) (V.state vol.new) }
+        ensures errors { one_log → IfErr result IsOfVolume }
+        ensures writes { one_log → Writes V.tells Volume (V.state vol.old) (V.state vol.new) result };
 }

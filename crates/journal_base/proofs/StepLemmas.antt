@@ -1,0 +1,13 @@
+-- More on steps: each leaves what was left.
+use Rattle.std.proofs.Common.{◌≡◌, ℕ, ◌-◌, ◌≤◌, max, drop, sym, ap, arith}
+use Rattle.volume_base.proofs.StepLemmas.{log_is}
+use Rattle.volume_base.specs.Log.{Log, pruned_to, Advances, Vanishes, BecomesOneOf}
+
+pub pruned_below : (log : Log) (to : ℕ) → to ≤ log.start → pruned_to log to ≡ log
+pruned_below log to le =
+    let starts : max log.start to ≡ log.start = omega (arith, le) in
+    let none : to - log.start ≡ 0 = omega (arith, le) in
+    log_is _ log starts (ap (λ (n : ℕ). drop n log.items) none)
+
+pub advances_same : (start : ℕ) (log : Log) → Advances start log log
+advances_same start log = (0, omega arith, omega arith, sym (pruned_below log 0 (omega arith)))
