@@ -1,7 +1,7 @@
 -- More on steps: each leaves what was left.
-use Rattle.std.proofs.Common.{◌≡◌, ℕ, ◌-◌, ◌≤◌, max, drop, sym, ap, arith}
+use Rattle.std.proofs.Common.{◌≡◌, inl, refl, ℕ, ◌-◌, ◌≤◌, max, drop, sym, ap, arith}
 use Rattle.volume_base.proofs.StepLemmas.{log_is}
-use Rattle.volume_base.specs.Log.{Log, pruned_to, Advances, Vanishes, BecomesOneOf}
+use Rattle.volume_base.specs.Log.{Log, pruned_to, Advances, BecomesOneOf}
 
 pub pruned_below : (log : Log) (to : ℕ) → to ≤ log.start → pruned_to log to ≡ log
 pruned_below log to le =
@@ -11,3 +11,6 @@ pruned_below log to le =
 
 pub advances_same : (start : ℕ) (log : Log) → Advances start log log
 advances_same start log = (0, omega arith, omega arith, sym (pruned_below log 0 (omega arith)))
+
+pub becomes_same : (made log : Log) → BecomesOneOf made log log
+becomes_same made log = inl refl

@@ -14,15 +14,15 @@ IsOfVolume (Corruption p) = ⊥
 IsOfVolume (Tree cause) = ⊥
 
 -- besides, that the end would pass the greatest
-abbrev pub IsOfOneAppend : JournalError → Type 0
-IsOfOneAppend SizeOverflow = Unit {0}
-IsOfOneAppend Volume = Unit {0}
-IsOfOneAppend Memory = Unit {0}
-IsOfOneAppend (ItemPruned p) = ⊥
-IsOfOneAppend (ItemOutOfRange p) = ⊥
-IsOfOneAppend EmptyAppend = ⊥
-IsOfOneAppend (Corruption p) = ⊥
-IsOfOneAppend (Tree cause) = ⊥
+abbrev pub IsOfSize : JournalError → Type 0
+IsOfSize SizeOverflow = Unit {0}
+IsOfSize Volume = Unit {0}
+IsOfSize Memory = Unit {0}
+IsOfSize (ItemPruned p) = ⊥
+IsOfSize (ItemOutOfRange p) = ⊥
+IsOfSize EmptyAppend = ⊥
+IsOfSize (Corruption p) = ⊥
+IsOfSize (Tree cause) = ⊥
 
 -- besides, that there are no items
 abbrev pub IsOfAppend : JournalError → Type 0
@@ -45,3 +45,14 @@ IsOfRead Memory = Unit {0}
 IsOfRead EmptyAppend = ⊥
 IsOfRead SizeOverflow = ⊥
 IsOfRead (Tree cause) = ⊥
+
+-- besides what is of the volume, that a size lies below the start
+abbrev pub IsOfStart : JournalError → Type 0
+IsOfStart (ItemPruned p) = Unit {0}
+IsOfStart Volume = Unit {0}
+IsOfStart Memory = Unit {0}
+IsOfStart (ItemOutOfRange p) = ⊥
+IsOfStart EmptyAppend = ⊥
+IsOfStart SizeOverflow = ⊥
+IsOfStart (Corruption p) = ⊥
+IsOfStart (Tree cause) = ⊥

@@ -1,5 +1,5 @@
 -- What a journal tells of itself.
-use Rattle.std.specs.Prelude.{◌≡◌, ℕ, Bool, List}
+use Rattle.std.specs.Prelude.{◌≡◌, ℕ, ◌≤◌, min, Bool, List, Option, Some, None}
 use Rattle.volume_base.specs.Log.{end_of}
 use Rattle.volume_base.specs.Volume.{State}
 
@@ -24,3 +24,14 @@ after_sync view failed = record { name = view.name; blob = view.blob; codec = vi
 pub record IsHeld {Codec : Type 0} (view : View Codec) (state : State) : Type 0 where
   pub start_is : view.start ≡ (state.log view.name).start
   pub end_is : view.end ≡ end_of (state.log view.name)
+
+-- The volume has the log with this start, and the view ends within it.
+pub record IsWithin {Codec : Type 0} (view : View Codec) (state : State) : Type 0 where
+  pub start_is : view.start ≡ (state.log view.name).start
+  pub low : view.start ≤ view.end
+  pub high : view.end ≤ end_of (state.log view.name)
+
+-- the end of a view of a log with this end, under a cap or none
+abbrev pub capped : Option ℕ → ℕ → ℕ
+capped None end = end
+capped (Some cap) end = min cap end

@@ -1,4 +1,4 @@
-ghost use Rattle.std.specs.Prelude.{◌≡◌, ◌≤◌, map, string_bytes, IfOk, IsOkUnless};
+ghost use Rattle.std.specs.Prelude.{◌≡◌, ◌≤◌, map, false, string_bytes, IfOk, IsOkUnless};
 ghost use Rattle.std.specs.NonZero.{non_zero_u64_get};
 ghost use Rattle.journal_base.specs.Blobs.{blob_start};
 
@@ -35,13 +35,30 @@ pub struct JournalConfig<C> {
 /// A journal: one log of a volume, whose bounds it knows.
 #[derive(Drop)]
 pub struct Journal<T: Read, K> {
-    name: String,
-    items_per_blob: NonZeroU64,
-    codec: T::Cfg,
-    start: u64,
-    end: u64,
-    failed: bool,
-    kind: PhantomData<K>,
+    pub(crate) name: String,
+    pub(crate) items_per_blob: NonZeroU64,
+    pub(crate) codec: T::Cfg,
+    pub(crate) start: u64,
+    pub(crate) end: u64,
+    pub(crate) failed: bool,
+    pub(crate) kind: PhantomData<K>,
+}
+
+impl<T: Read, K> Journal<T, K> {
+    /// The journal of a configuration at these bounds. It keeps no failure.
+    pub(crate) fn new(cfg: JournalConfig<T::Cfg>, start: u64, end: u64) -> Self
+        ensures { result ≡ record { name = cfg.name; items_per_blob = cfg.items_per_blob; codec = cfg.codec; start = start; end = end; failed = false; kind = result.kind } }
+    {
+        Journal {
+            name: cfg.name,
+            items_per_blob: cfg.items_per_blob,
+            codec: cfg.codec,
+            start,
+            end,
+            failed: false,
+            kind: PhantomData,
+        }
+    }
 }
 
 /// A journal of items of one size.

@@ -1,12 +1,16 @@
 //! Journals: logs of a volume that hold items, each with its one spelling.
 #![tactic(auto)]
 
+mod backing;
 mod contiguous;
 mod journal;
 mod mutable;
+mod recovery;
 mod ticket;
 
+pub use backing::{Backing, BackingRecovery, backing_laws};
 pub use contiguous::Contiguous;
 pub use journal::{Fixed, FixedJournal, Journal, JournalConfig, Kind, Variable, VariableJournal};
 pub use mutable::Mutable;
+pub use recovery::Recovery;
 pub use ticket::SyncTicket;

@@ -2,7 +2,7 @@ ghost use Rattle.std.specs.Prelude.{◌≡◌, ◌↔◌, ◌+◌, ◌-◌, ◌<
 ghost use Rattle.codec_base.specs.Causes.{Rose};
 ghost use Rattle.journal_base.specs.Blobs.{blob_start};
 ghost use Rattle.journal_base.specs.Tickets.{is_failed};
-ghost use Rattle.journal_base.specs.Answers.{IsOfVolume, IsOfOneAppend, IsOfAppend};
+ghost use Rattle.journal_base.specs.Answers.{IsOfVolume, IsOfSize, IsOfAppend};
 ghost use Rattle.journal_base.specs.View.{at_bounds, after_sync, IsHeld};
 ghost use Rattle.volume_base.specs.Log.{end_of, no_log, appended, pruned_to, Grows, Advances, Vanishes, Stays};
 ghost use Rattle.volume_base.specs.Volume.{OnlyLog, OnlyLeft, LogMoves, Writes};
@@ -26,7 +26,7 @@ pub trait Mutable: Contiguous {
         ensures appended { OnOk result (V.tells → (V.state vol.new).log (Self.view self).name ≡ appended ((V.state vol.old).log (Self.view self).name) (Self.Item.spelling item.now ∷ [])) }
         ensures others { one_log → V.tells → OnlyLog (Self.view self).name (V.state vol.old) (V.state vol.new) }
         ensures images { one_log → V.tells → LogMoves (Self.view self).name (Grows ((V.state vol.old).log (Self.view self).name) (Self.Item.spelling item.now ∷ [])) (V.state vol.old) (V.state vol.new) }
-        ensures errors { one_log → IfErr result IsOfOneAppend }
+        ensures errors { one_log → IfErr result IsOfSize }
         ensures writes { Writes V.tells Volume (V.state vol.old) (V.state vol.new) result };
 
     /// Adds items behind the end, by one append, and answers the position of the last.

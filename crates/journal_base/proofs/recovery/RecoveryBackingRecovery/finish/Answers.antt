@@ -1,0 +1,38 @@
+use Rattle.std.proofs.Common.{min, ◌∙◌, ap}
+use Rattle.volume_base.specs.Log.{end_of, cut_to}
+use Rattle.volume_base.proofs.MomentLemmas.{log_moves_idle, log_moves_after_idle, log_moves_then_stays}
+use Rattle.volume_base.proofs.StepLemmas.{shrinks_same, cut_to_lesser}
+use Rattle.journal_base.proofs.recovery.RecoveryBackingRecovery.finish.Goals as goal
+
+pub returns-in_err-start-clause-images : goal.returns-in_err-start-clause-images
+returns-in_err-start-clause-images g c told = log_moves_idle _ _ _ _ c.log_bounds.ensures.answers.clock (c.log_bounds.ensures.answers.past told) (shrinks_same _)
+
+pub returns-then-size-start-clause-images : goal.returns-then-size-start-clause-images
+returns-then-size-start-clause-images g c told = log_moves_idle _ _ _ _ c.log_bounds.ensures.answers.clock (c.log_bounds.ensures.answers.past told) (shrinks_same _)
+
+pub returns-in_err-cut_down-clause-images : goal.returns-in_err-cut_down-clause-images
+returns-in_err-cut_down-clause-images g c told =
+    let to_is = c.min-to.ensures ∙ ap (min c.args.size) (c.in_ok-start.ensures.end told ∙ ap (λ n. end_of ((g.V.Volume.state c.args.vol.now).log n)) c.as_str-name.ensures.value) in
+    let cut = rw (to_is, c.as_str-name.ensures.value) at (c.cut_down.ensures.images told) in
+    log_moves_after_idle _ _ _ _ _ c.log_bounds.ensures.answers.clock (c.log_bounds.ensures.answers.past told) (shrinks_same _) cut
+
+pub returns-in_err-log_sync-clause-images : goal.returns-in_err-log_sync-clause-images
+returns-in_err-log_sync-clause-images g c told =
+    let to_is = c.min-to.ensures ∙ ap (min c.args.size) (c.in_ok-start.ensures.end told ∙ ap (λ n. end_of ((g.V.Volume.state c.args.vol.now).log n)) c.as_str-name.ensures.value) in
+    let cut = rw (to_is, c.as_str-name.ensures.value) at (c.cut_down.ensures.images told) in
+    let synced = rw (c.as_str-name.ensures.value) at (c.log_sync.ensures.images told) in
+    log_moves_then_stays _ _ _ _ _ (log_moves_after_idle _ _ _ _ _ c.log_bounds.ensures.answers.clock (c.log_bounds.ensures.answers.past told) (shrinks_same _) cut) synced
+
+pub returns-clause-cut : goal.returns-clause-cut
+returns-clause-cut g c told =
+    let log_is = (c.log_bounds.ensures.answers.contents told).logs c.as_str-name.result.now in
+    let to_is = c.min-to.ensures ∙ ap (min c.args.size) (c.in_ok-start.ensures.end told) in
+    let cut = c.log_sync.ensures.contents told ∙ c.in_ok-cut_down.ensures.cut told ∙ ap (λ l. cut_to l c.min-to.result) log_is ∙ ap (cut_to ((g.V.Volume.state c.args.vol.now).log c.as_str-name.result.now)) to_is ∙ cut_to_lesser _ c.args.size in
+    rw c.as_str-name.ensures.value at cut
+
+pub returns-clause-images : goal.returns-clause-images
+returns-clause-images g c told =
+    let to_is = c.min-to.ensures ∙ ap (min c.args.size) (c.in_ok-start.ensures.end told ∙ ap (λ n. end_of ((g.V.Volume.state c.args.vol.now).log n)) c.as_str-name.ensures.value) in
+    let cut = rw (to_is, c.as_str-name.ensures.value) at (c.cut_down.ensures.images told) in
+    let synced = rw (c.as_str-name.ensures.value) at (c.log_sync.ensures.images told) in
+    log_moves_then_stays _ _ _ _ _ (log_moves_after_idle _ _ _ _ _ c.log_bounds.ensures.answers.clock (c.log_bounds.ensures.answers.past told) (shrinks_same _) cut) synced

@@ -1,0 +1,129 @@
+ghost use Rattle.std.specs.Prelude.{◌≡◌, ◌↔◌, ◌+◌, ◌-◌, ◌<◌, ◌≤◌, ◌^◌, ℕ, Some, min, IfOk, IfErr, OnOk, IsErrOf};
+ghost use Rattle.journal_base.specs.Answers.{IsOfVolume, IsOfSize, IsOfStart, IsOfRead};
+ghost use Rattle.journal_base.specs.Items.{IsCorrupt};
+ghost use Rattle.journal_base.specs.View.{View, at_bounds, capped, IsHeld, IsWithin};
+ghost use Rattle.volume_base.specs.Log.{IsItemAt, end_of, cleared_at, cut_to, Shrinks, BecomesOneOf};
+ghost use Rattle.volume_base.specs.Volume.{OnlyLog, OnlyLeft, LogMoves, Writes, Reads};
+ghost use Rattle.volume_base.specs.declared.error.JournalError.TheVariants.{ItemPruned, ItemOutOfRange, SizeOverflow, Corruption, Volume};
+
+use crate::Mutable;
+use codec_base::{Duplicate, EncodeSize, Read, Write};
+use volume_base::{JournalError, Volume};
+
+/// A log that is being opened, seen up to an end.
+pub trait BackingRecovery: Sized {
+    /// What the log holds.
+    type Item: Write + EncodeSize + Read + Duplicate + Drop;
+
+    /// What is opened.
+    type Journal;
+
+    /// What it tells of itself.
+    ghost view: { Self → View Self.Item.Cfg };
+
+    /// What the opened journal tells of itself.
+    ghost opened: { Self.Journal → View Self.Item.Cfg };
+
+    /// The start and the end of the view.
+    fn bounds(&self) -> (u64, u64)
+        ensures start { result.0 ≡ (view self.now).start }
+        ensures end { result.1 ≡ (view self.now).end };
+
+    /// The item at a position of the view.
+    fn read<V: Volume>(&self, vol: &mut V, position: u64) -> Result<Self::Item, JournalError>
+        ensures item { IfOk result (λ item. V.tells → IsItemAt ((V.state vol.old).log (view self.now).name) position (Self.Item.spelling item)) }
+        ensures admitted { IfOk result (λ item. Self.Item.admits (view self.now).codec item) }
+        ensures within { OnOk result (((view self.now).start ≤ position) × (position < (view self.now).end)) }
+        ensures pruned { V.tells → IsWithin (view self.now) (V.state vol.old) → (p : ℕ) → IsErrOf result (ItemPruned p) → (p ≡ position) × (position < (view self.now).start) }
+        ensures out_of_range { V.tells → IsWithin (view self.now) (V.state vol.old) → (p : ℕ) → IsErrOf result (ItemOutOfRange p) → (p ≡ position) × ((view self.now).end ≤ position) }
+        ensures corrupt { V.tells → (p : ℕ) → IsErrOf result (Corruption p) → (p ≡ position) × ((view self.now).start ≤ position) × (position < (view self.now).end) × IsCorrupt Self.Item.spelling (Self.Item.admits (view self.now).codec) ((V.state vol.old).log (view self.now).name) position }
+        ensures errors { IfErr result IsOfRead }
+        ensures answers { Reads V.tells Volume (V.state vol.old) (V.state vol.new) result }
+        ensures reads { (V.state vol.new).reads ≤ (V.state vol.old).reads + 1 };
+
+    /// Leaves an empty log at a position.
+    fn reset<V: Volume>(self, vol: &mut V, size: u64) -> Result<Self, JournalError>
+        ensures overflow { IsErrOf result SizeOverflow ↔ (size ≡ 2 ^ 64 - 1) }
+        ensures made { IfOk result (λ made. view made ≡ at_bounds (view self) size size) }
+        ensures cleared { OnOk result (V.tells → (V.state vol.new).log (view self).name ≡ cleared_at size) }
+        ensures durable { OnOk result (V.tells → OnlyLeft ((V.state vol.new).log_left (V.state vol.new).clock (view self).name) (cleared_at size)) }
+        ensures others { V.tells → OnlyLog (view self).name (V.state vol.old) (V.state vol.new) }
+        ensures images { V.tells → LogMoves (view self).name (BecomesOneOf (cleared_at size)) (V.state vol.old) (V.state vol.new) }
+        ensures errors { IfErr result IsOfSize }
+        ensures writes { Writes V.tells Volume (V.state vol.old) (V.state vol.new) result };
+
+    /// Cuts the log to the lesser of its end and a size, makes what is left durable, and opens it.
+    fn finish<V: Volume>(self, vol: &mut V, size: u64) -> Result<Self::Journal, JournalError>
+        ensures pruned { V.tells → (p : ℕ) → IsErrOf result (ItemPruned p) → (p ≡ size) × (size < ((V.state vol.old).log (view self).name).start) }
+        ensures reached { OnOk result (V.tells → ((V.state vol.old).log (view self).name).start ≤ size) }
+        ensures made { IfOk result (λ made. opened made ≡ at_bounds (view self) (opened made).start (opened made).end) }
+        ensures held { IfOk result (λ made. V.tells → IsHeld (opened made) (V.state vol.new)) }
+        ensures cut { OnOk result (V.tells → (V.state vol.new).log (view self).name ≡ cut_to ((V.state vol.old).log (view self).name) size) }
+        ensures durable { OnOk result (V.tells → OnlyLeft ((V.state vol.new).log_left (V.state vol.new).clock (view self).name) ((V.state vol.new).log (view self).name)) }
+        ensures others { V.tells → OnlyLog (view self).name (V.state vol.old) (V.state vol.new) }
+        ensures images { V.tells → LogMoves (view self).name (Shrinks (min size (end_of ((V.state vol.old).log (view self).name)))) (V.state vol.old) (V.state vol.new) }
+        ensures errors { IfErr result IsOfStart }
+        ensures writes { Writes V.tells Volume (V.state vol.old) (V.state vol.new) result };
+}
+
+/// A journal that is one log, and how it's opened.
+pub trait Backing: Mutable {
+    /// Where it lies.
+    type Config: Drop;
+
+    /// It, while it's being opened.
+    type Recovery: BackingRecovery<Item = Self::Item, Journal = Self>;
+
+    /// What a configuration tells of the journal.
+    ghost config: { Self.Config → View Self.Item.Cfg };
+
+    /// A view of the log that ends at the lesser of its end and a cap.
+    fn recover<V: Volume>(
+        vol: &mut V,
+        cfg: Self::Config,
+        max_size: Option<u64>,
+    ) -> Result<Self::Recovery, JournalError>
+        ensures pruned { V.tells → (p : ℕ) → IsErrOf result (ItemPruned p) → (max_size ≡ Some p) × (p < ((V.state vol.old).log (config cfg).name).start) }
+        ensures reached { OnOk result (V.tells → (cap : ℕ) → max_size ≡ Some cap → ((V.state vol.old).log (config cfg).name).start ≤ cap) }
+        ensures made { IfOk result (λ made. Self.Recovery.view made ≡ at_bounds (config cfg) (Self.Recovery.view made).start (Self.Recovery.view made).end) }
+        ensures start { IfOk result (λ made. V.tells → (Self.Recovery.view made).start ≡ ((V.state vol.old).log (config cfg).name).start) }
+        ensures end { IfOk result (λ made. V.tells → (Self.Recovery.view made).end ≡ capped max_size (end_of ((V.state vol.old).log (config cfg).name))) }
+        ensures errors { IfErr result IsOfStart }
+        ensures answers { Reads V.tells Volume (V.state vol.old) (V.state vol.new) result }
+        ensures reads { (V.state vol.new).reads ≡ (V.state vol.old).reads };
+
+    /// Leaves an empty log at a position.
+    fn clear<V: Volume>(
+        vol: &mut V,
+        cfg: Self::Config,
+        size: u64,
+    ) -> Result<Self::Recovery, JournalError>
+        ensures overflow { IsErrOf result SizeOverflow ↔ (size ≡ 2 ^ 64 - 1) }
+        ensures made { IfOk result (λ made. Self.Recovery.view made ≡ at_bounds (config cfg) size size) }
+        ensures cleared { OnOk result (V.tells → (V.state vol.new).log (config cfg).name ≡ cleared_at size) }
+        ensures durable { OnOk result (V.tells → OnlyLeft ((V.state vol.new).log_left (V.state vol.new).clock (config cfg).name) (cleared_at size)) }
+        ensures others { V.tells → OnlyLog (config cfg).name (V.state vol.old) (V.state vol.new) }
+        ensures images { V.tells → LogMoves (config cfg).name (BecomesOneOf (cleared_at size)) (V.state vol.old) (V.state vol.new) }
+        ensures errors { IfErr result IsOfSize }
+        ensures writes { Writes V.tells Volume (V.state vol.old) (V.state vol.new) result };
+
+    /// The start and the end of the log.
+    fn span<V: Volume>(vol: &mut V, cfg: &Self::Config) -> Result<(u64, u64), JournalError>
+        ensures start { IfOk result (λ bounds. V.tells → bounds.0 ≡ ((V.state vol.old).log (config cfg.now).name).start) }
+        ensures end { IfOk result (λ bounds. V.tells → bounds.1 ≡ end_of ((V.state vol.old).log (config cfg.now).name)) }
+        ensures errors { IfErr result IsOfVolume }
+        ensures answers { Reads V.tells Volume (V.state vol.old) (V.state vol.new) result }
+        ensures reads { (V.state vol.new).reads ≡ (V.state vol.old).reads };
+
+    /// It is one log alone.
+    ghost is_one_log: { Self.one_log };
+
+    /// What a recovery says of an opened journal is what the journal tells.
+    ghost opened_is: { (journal : Self) → Self.Recovery.opened journal ≡ Self.view journal };
+}
+
+/// The laws of journals that are one log, for callers that are generic over them.
+pub fn backing_laws<C: Backing>()
+    ensures one_log { C.one_log }
+    ensures opened { (journal : C) → C.Recovery.opened journal ≡ C.view journal }
+{}
