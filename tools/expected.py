@@ -199,6 +199,10 @@ RUNS = [
 ]
 
 
+# The lists of commits, each of the floor that its one byte is, whose roots the tests of `log_model` compare with.
+FLOORS = [[], [0], [7, 7, 3], [7, 7, 2], [1, 2, 3, 4, 5]]
+
+
 def example_roots():
     """Name and root of each example."""
     for leaves in range(len(ELEMENTS) + 1):
@@ -218,6 +222,8 @@ def known_digests():
         for first, height in peaks(leaves + 1):
             known.add(node(ELEMENTS, first, height).hex())
         known.add(node(ELEMENTS, leaves, 0).hex())
+    for floors in FLOORS:
+        known.add(list_root([bytes([floor]) for floor in floors], floors[-1] if floors else 0))
     for _, limit, lines in RUNS:
         known.update(re.findall(r"\b[0-9a-f]{64}\b", run(lines, limit)))
     return known
