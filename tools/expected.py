@@ -175,6 +175,8 @@ def run(lines, limit=VALUE_LIMIT):
     machine = Machine(limit)
     out = [machine.reply("opened start=0")]
     for line in lines:
+        if line == "" or line.startswith("#"):
+            continue
         try:
             answer = machine.step(line.split(" "))
         except Refused as refusal:

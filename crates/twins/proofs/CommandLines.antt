@@ -1,14 +1,15 @@
 -- Lines that say commands.
-use Rattle.std.proofs.Common.{◌≡◌, ℕ, suc, ◌+◌, List, [], ◌∷◌, ◌++◌, length, refl, sym, ◌∙◌, ap, subst, append_assoc}
+use Rattle.std.proofs.Common.{◌≡◌, ◌⊎◌, inl, inr, ℕ, ◌+◌, List, [], ◌∷◌, ◌++◌, length, refl, sym, ◌∙◌, ap, subst, append_assoc, arith}
+use Rattle.std.specs.List.{onto_first}
 use Rattle.std.proofs.lemmas.Fmt.{decimal_injective}
-use Rattle.std.proofs.lemmas.List.{append-nil}
+use Rattle.std.proofs.lemmas.List.{append-nil, length-append}
 use Rattle.twins.specs.declared.command.Command.{Command}
 use Rattle.twins.specs.declared.command.Command.TheVariants.{New, Append, Seal, Apply, Size}
 use Rattle.twins.specs.Lines.{words_of}
-use Rattle.twins.specs.Grammar.{IsNumberWord, IsBytesWord, WordsSay, Says, LinesSay}
+use Rattle.twins.specs.Grammar.{IsNumberWord, IsBytesWord, WordsSay, IsSkipped, Says, LinesSay}
 use Rattle.twins.specs.declared.parse.LineError.{LineError}
 use Rattle.twins.specs.declared.parse.LineError.TheVariants.{Bad, Memory}
-use Rattle.twins.specs.Bad.{IsFirstBad, IsCause, IsBadHere}
+use Rattle.twins.specs.Bad.{IsBad, IsFirstBad, IsCause, IsBadHere, Adds}
 use Rattle.twins.proofs.HexWords.{decodes}
 
 -- a word is one number
@@ -67,78 +68,129 @@ one_command words Size (Seal b) p q = absurd (let e = sym p ∙ q.1 in cc)
 one_command words Size (Apply b) p q = absurd (let e = sym p ∙ q.1 in cc)
 one_command words Size Size p q = refl
 
+-- the first byte of words, or 0
+abbrev head_byte : List (List ℕ) → ℕ
+head_byte [] = 0
+head_byte ([] ∷ words) = 0
+head_byte ((b ∷ word) ∷ words) = b
+
+head_hash : (words : List (List ℕ)) → head_byte (onto_first 35 words) ≡ 35
+head_hash [] = refl
+head_hash (word ∷ words) = refl
+
+other_head : (words others : List (List ℕ)) (n : ℕ) → onto_first 35 words ≡ others → head_byte others ≡ n → n ≡ 35
+other_head words others n e h = sym h ∙ sym (ap head_byte e) ∙ head_hash words
+
+-- words that begin with a number sign say no command
+hash_says_nothing : (words : List (List ℕ)) (c : Command) → WordsSay (onto_first 35 words) c → ⊥
+hash_says_nothing words New p = absurd (let e = other_head words _ 110 p refl in omega (arith, e))
+hash_says_nothing words (Append b v) p = absurd (let e = other_head words _ 97 p.2 refl in omega (arith, e))
+hash_says_nothing words (Seal b) p = absurd (let e = other_head words _ 115 p.1 refl in omega (arith, e))
+hash_says_nothing words (Apply b) p = absurd (let e = other_head words _ 97 p.1 refl in omega (arith, e))
+hash_says_nothing words Size p = absurd (let e = other_head words _ 115 p refl in omega (arith, e))
+
+-- the empty word is no command
+empty_says_nothing : (c : Command) → WordsSay ([] ∷ []) c → ⊥
+empty_says_nothing New p = cc
+empty_says_nothing (Append b v) p = let e = p.2 in cc
+empty_says_nothing (Seal b) p = let e = p.1 in cc
+empty_says_nothing (Apply b) p = let e = p.1 in cc
+empty_says_nothing Size p = cc
+
+-- a line that is skipped says no command
+skipped_says_nothing : (line : List ℕ) (c : Command) → IsSkipped line → Says line c → ⊥
+skipped_says_nothing [] c skipped said = empty_says_nothing c said
+skipped_says_nothing (b ∷ line) c skipped said = hash_says_nothing (words_of line) c (rw skipped at said)
+
 -- lines say one list of commands
 pub one_reading : (lines : List (List ℕ)) (a b : List Command) → LinesSay lines a → LinesSay lines b → a ≡ b
 one_reading [] [] [] p q = refl
 one_reading [] [] (d ∷ ds) p q = absurd q
 one_reading [] (c ∷ cs) ds p q = absurd p
-one_reading (line ∷ lines) [] ds p q = absurd p
-one_reading (line ∷ lines) (c ∷ cs) [] p q = absurd q
-one_reading (line ∷ lines) (c ∷ cs) (d ∷ ds) p q =
+one_reading (line ∷ lines) [] [] p q = refl
+one_reading (line ∷ lines) [] (d ∷ ds) p (inl q) = one_reading lines [] (d ∷ ds) p.1 q.1
+one_reading (line ∷ lines) [] (d ∷ ds) p (inr q) = absurd (skipped_says_nothing line d p.0 q.0)
+one_reading (line ∷ lines) (c ∷ cs) [] (inl p) q = one_reading lines (c ∷ cs) [] p.1 q.1
+one_reading (line ∷ lines) (c ∷ cs) [] (inr p) q = absurd (skipped_says_nothing line c q.0 p.0)
+one_reading (line ∷ lines) (c ∷ cs) (d ∷ ds) (inl p) (inl q) = one_reading lines (c ∷ cs) (d ∷ ds) p.1 q.1
+one_reading (line ∷ lines) (c ∷ cs) (d ∷ ds) (inl p) (inr q) = absurd (skipped_says_nothing line d p.0 q.0)
+one_reading (line ∷ lines) (c ∷ cs) (d ∷ ds) (inr p) (inl q) = absurd (skipped_says_nothing line c q.0 p.0)
+one_reading (line ∷ lines) (c ∷ cs) (d ∷ ds) (inr p) (inr q) =
     let first = one_command (words_of line) c d p.0 q.0 in
     let rest = one_reading lines cs ds p.1 q.1 in
     cc
 
-pub one_each : (lines : List (List ℕ)) (commands : List Command) → LinesSay lines commands → length lines ≡ length commands
-one_each [] [] p = refl
-one_each [] (c ∷ cs) p = absurd p
-one_each (line ∷ lines) [] p = absurd p
-one_each (line ∷ lines) (c ∷ cs) p = ap suc (one_each lines cs p.1)
+say_skip : (lines : List (List ℕ)) (commands : List Command) (line : List ℕ) → LinesSay lines commands → IsSkipped line → LinesSay (lines ++ (line ∷ [])) commands
+say_skip [] [] line p q = (q, tt)
+say_skip [] (d ∷ ds) line p q = absurd p
+say_skip (l ∷ lines) [] line p q = (p.0, say_skip lines [] line p.1 q)
+say_skip (l ∷ lines) (d ∷ ds) line (inl p) q = inl (p.0, say_skip lines (d ∷ ds) line p.1 q)
+say_skip (l ∷ lines) (d ∷ ds) line (inr p) q = inr (p.0, say_skip lines ds line p.1 q)
 
-pub say_push : (lines : List (List ℕ)) (commands : List Command) (line : List ℕ) (c : Command) → LinesSay lines commands → Says line c → LinesSay (lines ++ (line ∷ [])) (commands ++ (c ∷ []))
-say_push [] [] line c p q = (q, tt)
+say_push : (lines : List (List ℕ)) (commands : List Command) (line : List ℕ) (c : Command) → LinesSay lines commands → Says line c → LinesSay (lines ++ (line ∷ [])) (commands ++ (c ∷ []))
+say_push [] [] line c p q = inr (q, tt)
 say_push [] (d ∷ ds) line c p q = absurd p
-say_push (l ∷ lines) [] line c p q = absurd p
-say_push (l ∷ lines) (d ∷ ds) line c p q = (p.0, say_push lines ds line c p.1 q)
+say_push (l ∷ lines) [] line c p q = inl (p.0, say_push lines [] line c p.1 q)
+say_push (l ∷ lines) (d ∷ ds) line c (inl p) q = inl (p.0, say_push lines (d ∷ ds) line c p.1 q)
+say_push (l ∷ lines) (d ∷ ds) line c (inr p) q = inr (p.0, say_push lines ds line c p.1 q)
 
--- a line among lines that say commands says one
-says_one : (before : List (List ℕ)) (line : List ℕ) (after : List (List ℕ)) (commands : List Command) → LinesSay (before ++ (line ∷ after)) commands → (c : Command) × Says line c
-says_one [] line after [] p = absurd p
-says_one [] line after (c ∷ cs) p = (c, p.0)
-says_one (l ∷ before) line after [] p = absurd p
-says_one (l ∷ before) line after (c ∷ cs) p = says_one before line after cs p.1
+-- a line among lines that say commands isn't bad
+none_bad : (before : List (List ℕ)) (line : List ℕ) (after : List (List ℕ)) (commands : List Command) → LinesSay (before ++ (line ∷ after)) commands → IsBad line → ⊥
+none_bad [] line after [] p bad = bad.not_skipped p.0
+none_bad [] line after (c ∷ cs) (inl p) bad = bad.not_skipped p.0
+none_bad [] line after (c ∷ cs) (inr p) bad = bad.words c p.0
+none_bad (l ∷ before) line after [] p bad = none_bad before line after [] p.1 bad
+none_bad (l ∷ before) line after (c ∷ cs) (inl p) bad = none_bad before line after (c ∷ cs) p.1 bad
+none_bad (l ∷ before) line after (c ∷ cs) (inr p) bad = none_bad before line after cs p.1 bad
 
-bad_clash : (lines : List (List ℕ)) (n : ℕ) (commands : List Command) → IsFirstBad lines n → LinesSay lines commands → ⊥
-bad_clash lines n commands bad p =
-    let one = says_one bad.before bad.line bad.after commands (rw bad.parts at p) in
-    bad.bad one.0 one.1
+pub bad_clash : (lines : List (List ℕ)) (n : ℕ) (commands : List Command) → IsFirstBad lines n → LinesSay lines commands → ⊥
+bad_clash lines n commands bad p = none_bad bad.before bad.line bad.after commands (rw bad.parts at p) bad.bad
 
--- the lines say these commands so far, and those are left
-pub record IsReadSoFar (lines : List (List ℕ)) (commands : List Command) (left : List (List ℕ)) : Type 0 where
+-- this many lines say these commands so far, and those are left
+pub record IsReadSoFar (lines : List (List ℕ)) (commands : List Command) (number : ℕ) (left : List (List ℕ)) : Type 0 where
   pub before : List (List ℕ)
   pub parts : lines ≡ before ++ left
+  pub count : number ≡ length before
   pub said : LinesSay before commands
 
-pub read_none : (lines : List (List ℕ)) → IsReadSoFar lines [] lines
-read_none lines = record { before = []; parts = refl; said = tt }
+pub read_none : (lines : List (List ℕ)) → IsReadSoFar lines [] 0 lines
+read_none lines = record { before = []; parts = refl; count = refl; said = tt }
 
-pub read_more : (lines : List (List ℕ)) (commands : List Command) (line : List ℕ) (left : List (List ℕ)) (c : Command) → Says line c
-    → IsReadSoFar lines commands (line ∷ left) → IsReadSoFar lines (commands ++ (c ∷ [])) left
-read_more lines commands line left c q so_far = record {
+one_more : (before : List (List ℕ)) (line : List ℕ) (number : ℕ) → number ≡ length before → number + 1 ≡ length (before ++ (line ∷ []))
+one_more before line number e = ap (λ k. k + 1) e ∙ sym (length-append before (line ∷ []))
+
+said_more : (before : List (List ℕ)) (line : List ℕ) (commands more : List Command) → Adds line commands more → LinesSay before commands → LinesSay (before ++ (line ∷ [])) more
+said_more before line commands more (inl skipped) said = rw skipped.1 (say_skip before commands line said skipped.0)
+said_more before line commands more (inr adds) said = rw adds.2 (say_push before commands line adds.0 said adds.1)
+
+pub read_more : (lines : List (List ℕ)) (commands more : List Command) (number : ℕ) (line : List ℕ) (left : List (List ℕ)) → Adds line commands more
+    → IsReadSoFar lines commands number (line ∷ left) → IsReadSoFar lines more (number + 1) left
+read_more lines commands more number line left adds so_far = record {
   before = so_far.before ++ (line ∷ []);
   parts = so_far.parts ∙ sym (append_assoc so_far.before (line ∷ []) left);
-  said = say_push so_far.before commands line c so_far.said q;
+  count = one_more so_far.before line number so_far.count;
+  said = said_more so_far.before line commands more adds so_far.said;
 }
 
-pub read_all_lines : (lines : List (List ℕ)) (commands : List Command) → IsReadSoFar lines commands [] → LinesSay lines commands
-read_all_lines lines commands so_far =
+pub read_all_lines : (lines : List (List ℕ)) (commands : List Command) (number : ℕ) → IsReadSoFar lines commands number [] → LinesSay lines commands
+read_all_lines lines commands number so_far =
     let P : List (List ℕ) → Type 0 = λ ls. LinesSay ls commands in
     subst P (sym (so_far.parts ∙ append-nil so_far.before)) so_far.said
 
 -- what isn't read, and why
-pub read_bad : (lines : List (List ℕ)) (commands : List Command) (line : List ℕ) (left : List (List ℕ)) (e : LineError) → IsBadHere commands line e
-    → IsReadSoFar lines commands (line ∷ left) → IsCause lines e
-read_bad lines commands line left (Bad n) here so_far = record {
+pub read_bad : (lines : List (List ℕ)) (commands : List Command) (number : ℕ) (line : List ℕ) (left : List (List ℕ)) (e : LineError) → IsBadHere (number + 1) line e
+    → IsReadSoFar lines commands number (line ∷ left) → IsCause lines e
+read_bad lines commands number line left (Bad n) here so_far = record {
   before = so_far.before;
   line = line;
   after = left;
   commands = commands;
   parts = so_far.parts;
-  number = here.0 ∙ ap (λ k. k + 1) (sym (one_each so_far.before commands so_far.said));
+  number = here.0 ∙ ap (λ k. k + 1) so_far.count;
   said = so_far.said;
   bad = here.1;
 }
-read_bad lines commands line left Memory here so_far = tt
+read_bad lines commands number line left Memory here so_far = tt
 
 -- what is in the grammar is only refused for want of memory
 pub only_memory : (lines : List (List ℕ)) (commands : List Command) (e : LineError) → IsCause lines e → LinesSay lines commands → e ≡ Memory

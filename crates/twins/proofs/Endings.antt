@@ -1,12 +1,15 @@
 -- How a program ends whose input was read.
-use Rattle.std.proofs.Common.{inl, ℕ, List, [], Option, Some, None, refl, sym, arith}
+use Rattle.std.proofs.Common.{◌≡◌, ◌⊎◌, inl, inr, ℕ, List, [], Option, Some, None, refl, sym, arith}
 use Rattle.std.proofs.lemmas.List.{append-nil}
 use Rattle.twins.specs.declared.command.Command.{Command}
 use Rattle.twins.specs.declared.command.Status.{Status}
 use Rattle.twins.specs.declared.command.Status.TheVariants.{BadWords, BadLine, ReadFault, TooLong, Volume, NotFresh, Done, WriteFault, Memory}
 use Rattle.twins.specs.Text.{text_of}
 use Rattle.twins.specs.Trace.{trace}
-use Rattle.twins.specs.Outcome.{WritesSoFar, IsEarly, IsRunStatus, replies_to}
+use Rattle.codec_base.specs.Causes.{Rose}
+use Rattle.twins.specs.Lines.{lines_of}
+use Rattle.twins.specs.Outcome.{WritesSoFar, IsValid, IsEarly, IsReadStatus, IsRunStatus, replies_to}
+use Rattle.twins.proofs.CommandLines.{bad_clash}
 
 -- nothing was written, for no reply
 pub wrote_nothing : (w : Option (List ℕ)) (faults : ℕ) (commands : List Command) → WritesSoFar w w faults faults (replies_to commands)
@@ -25,3 +28,29 @@ not_early commands w w' f f' v v' WriteFault run early = early
 not_early commands w w' f f' v v' Volume run early = early
 not_early commands w w' f f' v v' NotFresh run early = early
 not_early commands w w' f f' v v' Memory run early = early
+
+-- an input that says commands is read, or there is no memory
+pub valid_read : {W : Type 0} (words : List W) (left left' : Option (List ℕ)) (f f' : ℕ) (s : Status) → IsReadStatus left left' f f' s → IsValid words left → (Rose f f' → ⊥) → (s ≡ Done) ⊎ (s ≡ Memory)
+valid_read words left left' f f' (BadLine n) why valid none = absurd (bad_clash (lines_of valid.bytes) n valid.commands (rw valid.there at why.1) valid.said)
+valid_read words left left' f f' ReadFault why valid none = absurd (none why)
+valid_read words left left' f f' TooLong why valid none =
+    let long = rw valid.there at why in
+    absurd (omega (arith, long, valid.within))
+valid_read words left left' f f' Memory why valid none = inr refl
+valid_read words left left' f f' BadWords why valid none = absurd why
+valid_read words left left' f f' Done why valid none = absurd why
+valid_read words left left' f f' WriteFault why valid none = absurd why
+valid_read words left left' f f' Volume why valid none = absurd why
+valid_read words left left' f f' NotFresh why valid none = absurd why
+
+-- a run in which nothing has failed is answered, or there is no memory
+pub valid_run : (commands : List Command) (w w' : Option (List ℕ)) (f f' v v' : ℕ) (s : Status) → IsRunStatus commands w w' f f' v v' s → (s ≡ NotFresh → ⊥) → (Rose f f' → ⊥) → (Rose v v' → ⊥) → (s ≡ Done) ⊎ (s ≡ Memory)
+valid_run commands w w' f f' v v' Done run fresh sink volume = inl refl
+valid_run commands w w' f f' v v' Memory run fresh sink volume = inr refl
+valid_run commands w w' f f' v v' WriteFault run fresh sink volume = absurd (sink run.0)
+valid_run commands w w' f f' v v' Volume run fresh sink volume = absurd (volume run.0)
+valid_run commands w w' f f' v v' NotFresh run fresh sink volume = absurd (fresh refl)
+valid_run commands w w' f f' v v' BadWords run fresh sink volume = absurd run
+valid_run commands w w' f f' v v' (BadLine n) run fresh sink volume = absurd run
+valid_run commands w w' f f' v v' ReadFault run fresh sink volume = absurd run
+valid_run commands w w' f f' v v' TooLong run fresh sink volume = absurd run

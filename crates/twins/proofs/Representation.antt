@@ -10,17 +10,16 @@ use Rattle.std.proofs.lemmas.Bool.Decides.{nat_tests}
 use Rattle.std.proofs.lemmas.Slice.Eq.{slice_eq-Decides}
 use Rattle.log_model.specs.Batches as batches
 use Rattle.log_model.specs.Machine.{State, batch_at, with_batch, stands_at, max_leaves}
-use Rattle.twins.specs.declared.operation.Operation.{Operation}
 use Rattle.twins.specs.declared.batch.Batch.{Batch}
 use Rattle.twins.specs.declared.batch.Batch.TheVariants.{Unsealed, Sealed, Gone}
 use Rattle.twins.specs.declared.batch.UnsealedBatch.{UnsealedBatch}
 use Rattle.twins.specs.declared.batch.SealedBatch.{SealedBatch}
-use Rattle.twins.specs.declared.operation.Operation.TheVariants.{Append}
+use Rattle.op_codec.specs.declared.keyless.Operation.TheVariants.{Append}
 use Rattle.twins.specs.declared.command.Answer.TheVariants as answer
 use Rattle.twins.specs.declared.command.Refusal.TheVariants.{StaleBatch, LocationOverflow}
 use Rattle.twins.specs.Step.{append_to, seal, apply, plain_commit, root_of_list}
 use Rattle.std.proofs.lemmas.Option.{slice_get_read, get_or_from_slice_get}
-use Rattle.twins.specs.Operation.{meaning, same_operation, operation_decide}
+use Rattle.twins.specs.Operation.{Operation, meaning, operation_decide}
 use Rattle.twins.specs.StateOf.{batch_of, state_from, BatchKept}
 
 pub batch_at-from : (ops : List Operation) (bs : List Batch) (b : ℕ) → batch_at (state_from ops bs) b ≡ batch_of ops (get_or bs b Gone)
@@ -29,7 +28,7 @@ batch_at-from ops bs b = get_or-map (batch_of ops) bs b Gone
 pub from-set : (ops : List Operation) (bs : List Batch) (b : ℕ) (x : Batch) → state_from ops (slice_set bs b x) ≡ with_batch (state_from ops bs) b (batch_of ops x)
 from-set ops bs b x = ap (λ (xs : List (batches.Batch Operation)). record { ops = ops; batches = xs }) (map-set (batch_of ops) bs b x)
 
-lists_decide : (xs ys : List Operation) → Decides (pointwise same_operation xs ys) (xs ≡ ys)
+lists_decide : (xs ys : List Operation) → Decides (pointwise meaning.same xs ys) (xs ≡ ys)
 lists_decide xs ys = slice_eq-Decides operation_decide xs ys _ refl
 
 is_false : (b : Bool) (P : Type 0) → Decides b P → (P → ⊥) → b ≡ false

@@ -6,9 +6,8 @@ use Rattle.log_model.specs.Batches.{Batch, Unsealed, Sealed, Gone, begun_on, siz
 use Rattle.log_model.specs.Machine.{State, max_leaves, batch_at, with_batch, stands_at}
 use Rattle.log_model.specs.Good.{IsGoodBatch}
 use Rattle.log_model.specs.GoodLaws.{good_appended, good_sealed, good_with, good_begun, good_applied, good_opened, floor-sealed}
-use Rattle.twins.specs.Operation.{meaning}
-use Rattle.twins.specs.declared.operation.Operation.{Operation}
-use Rattle.twins.specs.declared.operation.Operation.TheVariants.{Append}
+use Rattle.twins.specs.Operation.{Operation, meaning}
+use Rattle.op_codec.specs.declared.keyless.Operation.TheVariants.{Append}
 use Rattle.twins.specs.declared.command.Command.{Command}
 use Rattle.twins.specs.declared.command.Command.TheVariants as command
 use Rattle.twins.specs.Step.{Outcome, step, append_to, seal, apply, plain_commit}

@@ -4,8 +4,7 @@ use Rattle.std.specs.Prelude.{nat_lt, nat_le, slice_get, unwrap_or}
 use Rattle.std.specs.List.Sorted.{IsNonDecreasingBy}
 use Rattle.log_model.specs.Batches.{Batch, Unsealed, Sealed, Gone, size_of, effective_boundary}
 use Rattle.log_model.specs.Machine.{State, max_leaves, batch_at, with_batch, stands_at}
-use Rattle.twins.specs.Operation.{meaning}
-use Rattle.twins.specs.declared.operation.Operation.{Operation}
+use Rattle.twins.specs.Operation.{Operation, meaning}
 use Rattle.twins.specs.declared.command.Command.{Command}
 use Rattle.twins.specs.declared.command.Command.TheVariants as command
 use Rattle.twins.specs.declared.command.Answer.TheVariants as answer

@@ -4,8 +4,7 @@ use Rattle.log_model.specs.Operations.{floor_of}
 use Rattle.log_model.specs.Batches.{Batch, Unsealed, Sealed, Gone}
 use Rattle.log_model.specs.Machine.{State, batch_at}
 use Rattle.log_model.specs.Good.{IsGood}
-use Rattle.twins.specs.Operation.{meaning}
-use Rattle.twins.specs.declared.operation.Operation.{Operation}
+use Rattle.twins.specs.Operation.{Operation, meaning}
 use Rattle.twins.specs.declared.command.Command.{Command}
 use Rattle.twins.specs.Step.{step, plain_commit}
 use Rattle.twins.specs.Trace.{state_after, fresh_state}

@@ -1,5 +1,5 @@
 -- The grammar of the input: which command a line says.
-use Rattle.std.specs.Prelude.{◌≡◌, ℕ, ◌/◌, ◌%◌, ◌^◌, ◌<◌, List, [], ◌∷◌, Option, Some, None, codes, decimal}
+use Rattle.std.specs.Prelude.{◌≡◌, ◌⊎◌, ℕ, ◌/◌, ◌%◌, ◌^◌, ◌<◌, List, [], ◌∷◌, Option, Some, None, codes, decimal}
 use Rattle.hex.specs.Hex.{hex_digit_value}
 use Rattle.twins.specs.declared.command.Command.{Command}
 use Rattle.twins.specs.declared.command.Command.TheVariants.{New, Append, Seal, Apply, Size}
@@ -43,12 +43,17 @@ IsReading words (Some command) = WordsSay words command
 abbrev pub Says : List ℕ → Command → Type 0
 Says line command = WordsSay (words_of line) command
 
--- the lines say these commands, in their order
+-- an empty line, or a comment, which begins with a number sign
+abbrev pub IsSkipped : List ℕ → Type 0
+IsSkipped [] = Unit {0}
+IsSkipped (b ∷ line) = b ≡ 35
+
+-- the lines say these commands, in their order, between lines that are skipped
 abbrev pub LinesSay : List (List ℕ) → List Command → Type 0
 LinesSay [] [] = Unit {0}
 LinesSay [] (command ∷ commands) = ⊥
-LinesSay (line ∷ lines) [] = ⊥
-LinesSay (line ∷ lines) (command ∷ commands) = Says line command × LinesSay lines commands
+LinesSay (line ∷ lines) [] = IsSkipped line × LinesSay lines []
+LinesSay (line ∷ lines) (command ∷ commands) = (IsSkipped line × LinesSay lines (command ∷ commands)) ⊎ (Says line command × LinesSay lines commands)
 
 -- the input says these commands
 abbrev pub InputSays : List ℕ → List Command → Type 0

@@ -3,7 +3,7 @@ use Rattle.std.specs.Prelude.{◌≡◌, ◌⊎◌, ℕ, List, ◌++◌, length,
 use Rattle.std.specs.List.Sorted.{IsNonDecreasingBy}
 use Rattle.log_model.specs.Batches.{Gone}
 use Rattle.log_model.specs.Machine.{State, with_batch}
-use Rattle.twins.specs.declared.operation.Operation.{Operation}
+use Rattle.twins.specs.Operation.{Operation}
 use Rattle.twins.specs.declared.command.Command.{Command}
 use Rattle.twins.specs.declared.command.Command.TheVariants as command
 use Rattle.twins.specs.declared.command.Answer.TheVariants as answer

@@ -3,7 +3,6 @@ pub mod Config
 pub mod Lines
 pub mod Grammar
 pub mod Bad
-pub mod Encoding
 pub mod Operation
 pub mod Step
 pub mod Trace

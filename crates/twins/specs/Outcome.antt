@@ -1,5 +1,5 @@
 -- What has happened where the program ends.
-use Rattle.std.specs.Prelude.{◌⊎◌, ℕ, ◌<◌, ◌≤◌, List, length, Option, IfSome}
+use Rattle.std.specs.Prelude.{◌≡◌, ◌⊎◌, ℕ, ◌<◌, ◌≤◌, List, length, Option, Some, IfSome}
 use Rattle.std.specs.Io.KnownBytes.{Appends, IsAtEnd}
 use Rattle.codec_base.specs.Causes.{Rose}
 use Rattle.stream_base.specs.Writing.{WritesFront}
@@ -20,6 +20,15 @@ use Rattle.twins.specs.Trace.{trace, IsBegun}
 pub record IsWhole (old new : Option (List ℕ)) : Type 0 where
   pub ended : IsAtEnd new
   pub within : IfSome old (λ bytes. length bytes ≤ 16777216)
+
+-- there are no words, and the input, which isn't too long, says commands
+pub record IsValid {W : Type 0} (words : List W) (left : Option (List ℕ)) : Type 0 where
+  pub no_words : length words ≡ 0
+  pub bytes : List ℕ
+  pub commands : List Command
+  pub there : left ≡ Some bytes
+  pub within : length bytes ≤ 16777216
+  pub said : InputSays bytes commands
 
 -- the input was read to its end, and says these commands
 pub record IsInput (old new : Option (List ℕ)) (commands : List Command) : Type 0 where

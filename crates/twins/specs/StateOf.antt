@@ -2,7 +2,7 @@
 use Rattle.std.specs.Prelude.{◌≡◌, ℕ, ◌+◌, ◌≤◌, List, ◌++◌, length, map, take, slice_index_or}
 use Rattle.log_model.specs.Batches as batches
 use Rattle.log_model.specs.Machine.{State, max_leaves}
-use Rattle.twins.specs.declared.operation.Operation.{Operation}
+use Rattle.twins.specs.Operation.{Operation}
 use Rattle.twins.specs.declared.batch.Batch.{Batch}
 use Rattle.twins.specs.declared.batch.Batch.TheVariants.{Unsealed, Sealed, Gone}
 use Rattle.twins.specs.declared.machine.Machine.{Machine}

@@ -5,10 +5,8 @@ use Rattle.tree_shape.specs.Mmr.{mmr}
 use Rattle.log_model.specs.Operations.{floor_of, root_of}
 use Rattle.log_model.specs.Batches.{Batch, Unsealed, Sealed, Gone, size_of, appended, sealed, effective_boundary}
 use Rattle.log_model.specs.Machine.{State, max_leaves, batch_at, with_batch, begun, applied, stands_at}
-use Rattle.twins.specs.Encoding.{sha}
-use Rattle.twins.specs.Operation.{meaning}
-use Rattle.twins.specs.declared.operation.Operation.{Operation}
-use Rattle.twins.specs.declared.operation.Operation.TheVariants.{Append, Commit}
+use Rattle.twins.specs.Operation.{Operation, meaning, sha}
+use Rattle.op_codec.specs.declared.keyless.Operation.TheVariants.{Append, Commit}
 use Rattle.twins.specs.declared.command.Command.{Command}
 use Rattle.twins.specs.declared.command.Command.TheVariants as command
 use Rattle.twins.specs.declared.command.Answer.{Answer}

@@ -5,7 +5,7 @@ use Rattle.volume_base.specs.Log.{Log, end_of}
 use Rattle.volume_base.specs.Volume.{Map}
 use Rattle.twins.specs.Config.{Config}
 use Rattle.log_model.specs.Machine.{State, opened}
-use Rattle.twins.specs.declared.operation.Operation.{Operation}
+use Rattle.twins.specs.Operation.{Operation}
 use Rattle.twins.specs.declared.command.Command.{Command}
 use Rattle.twins.specs.declared.command.Answer.TheVariants as answer
 use Rattle.twins.specs.declared.command.Reply.{Reply}

@@ -9,9 +9,10 @@ use crate::command::{Answer, Command, Refusal, Reply};
 use crate::operation::Operation;
 use codec_base::{Bytes, CodecError, Duplicate};
 use log_model::{floor_of_operations, root_of_operations};
+use op_codec::keyless;
 use std::alloc::Global;
 use std::mem::replace;
-use tree_shape::{MAX_LEAVES, Mmr, Sha256Digest, Sha256Hasher};
+use tree_shape::{Location, MAX_LEAVES, Mmr, Sha256Digest, Sha256Hasher};
 
 /// The list of operations with its root, and the batches by number.
 #[derive(Drop)]
@@ -48,7 +49,9 @@ fn ended(
     ensures root { IfOk result (λ c. c.root ≡ root_of_list (ops.now ++ c.own.items)) }
     ensures memory { IsOkUnless result CodecError.Memory }
 {
-    batch.own.push(Operation::Commit(None, 0))?;
+    batch
+        .own
+        .push(keyless::Operation::Commit(None, Location::new(0)))?;
     let root = root_of(alloc, ops, &batch.own)?;
     Ok(SealedBatch {
         boundary: batch.base,
@@ -67,7 +70,7 @@ impl Machine {
         ensures memory { IsOkUnless result CodecError.Memory }
     {
         let mut ops = Vec::new(alloc);
-        ops.push(Operation::Commit(None, 0))?;
+        ops.push(keyless::Operation::Commit(None, Location::new(0)))?;
         let root = root_of(alloc, &ops, &[])?;
         Ok(Machine {
             ops,
@@ -113,7 +116,9 @@ impl Machine {
                 if size >= MAX_LEAVES {
                     return Ok(Answer::Refused(Refusal::LocationOverflow(size + 1)));
                 }
-                batch.own.push(Operation::Append(value.duplicate()?))?;
+                batch
+                    .own
+                    .push(keyless::Operation::Append(value.duplicate()?))?;
                 Ok(Answer::Done)
             }
             _ => Ok(Answer::Refused(Refusal::NoBatch(b))),

@@ -8,7 +8,7 @@ ghost use Rattle.twins.specs.Lines.{lines_of};
 ghost use Rattle.twins.specs.Bad.{IsFirstBad};
 ghost use Rattle.twins.specs.Text.{text_of};
 ghost use Rattle.twins.specs.Trace.{IsFresh};
-ghost use Rattle.twins.specs.Outcome.{IsWhole, IsInput, IsAnswered, IsCutOff, IsStopped, IsEarly, IsReadStatus, IsRunStatus, fault_status};
+ghost use Rattle.twins.specs.Outcome.{IsValid, IsWhole, IsInput, IsAnswered, IsCutOff, IsStopped, IsEarly, IsReadStatus, IsRunStatus, fault_status};
 
 use crate::command::{Command, Fault, Replies, Status};
 use crate::config::TwinConfig;
@@ -135,6 +135,9 @@ pub fn twins_main<I: Source, O: Sink, V: Volume>(
 
     // Over a fresh volume with nothing set to fail the run ends by no fault but want of memory.
     ensures complete { (V.state volume.old).steady → (V.state volume.old).faults < 2 ^ 64 - 1 → V.tells → IsFresh standard_config (V.state volume.old).log (V.state volume.old).map → ((result ≡ Status.Volume) ⊎ (result ≡ Status.NotFresh)) → ⊥ }
+
+    // What is valid is answered, where nothing outside has failed and there is memory.
+    ensures valid { IsValid words.now (I.left input.old) → V.tells → IsFresh standard_config (V.state volume.old).log (V.state volume.old).map → (Rose (I.faults input.old) (I.faults input.new) → ⊥) → (Rose (O.faults output.old) (O.faults output.new) → ⊥) → (Rose (V.state volume.old).faults (V.state volume.new).faults → ⊥) → (result ≡ Status.Done) ⊎ (result ≡ Status.Memory) }
 {
     if !words.is_empty() {
         return Status::BadWords;

@@ -1,10 +1,10 @@
-ghost use Rattle.std.specs.Prelude.{◌≡◌, [], ◌∷◌, ◌++◌, ℕ, List, codes, IfOk, IfErr, OnOk, IsOkUnless, MatchOption, MatchBool, MatchResult};
+ghost use Rattle.std.specs.Prelude.{◌≡◌, [], ◌∷◌, ◌++◌, ℕ, List, codes, IfOk, IfErr, OnOk, IsOkUnless, MatchOption, MatchBool, MatchResult, ◌↔◌, IsTrue};
 ghost use Rattle.twins.specs.declared.command.Command.{Command};
 ghost use Rattle.twins.specs.Lines.{words_of};
 ghost use Rattle.twins.specs.declared.parse.LineError.TheVariants.{Memory};
 ghost use Rattle.twins.specs.Lines.{lines_of};
-ghost use Rattle.twins.specs.Grammar.{IsNumberWord, IsBytesWord, IsReading, Says, InputSays};
-ghost use Rattle.twins.specs.Bad.{IsCause, IsBadHere};
+ghost use Rattle.twins.specs.Grammar.{IsNumberWord, IsBytesWord, IsReading, IsSkipped, InputSays};
+ghost use Rattle.twins.specs.Bad.{IsCause, IsBadHere, Adds};
 
 use crate::command::Command;
 use crate::lines::{Lines, Words};
@@ -16,7 +16,7 @@ use std::str;
 /// Why an input isn't read as commands.
 #[derive(Clone, Copy, Debug, PartialEq, Eq)]
 pub enum LineError {
-    /// This line, counted from 1, is no command, and each before it is one.
+    /// This line, counted from 1, is no command, and none before it is bad.
     Bad(u64),
     /// There is no memory.
     Memory,
@@ -190,30 +190,46 @@ fn read_line(alloc: Global, line: &[u8]) -> Result<Option<Command>, CodecError>
     read_words(alloc, name, words)
 }
 
-/// Adds the command that a line says.
-fn push_command(commands: &mut Vec<Command>, line: &[u8]) -> Result<(), LineError>
-    ensures ok { OnOk result ((command : Command) × Says line.now command × (commands.new.items ≡ commands.old.items ++ command ∷ [])) }
-    ensures bad { IfErr result (λ e. IsBadHere commands.old.items line.now e) }
+/// Whether a line is empty or a comment.
+fn is_skipped(line: &[u8]) -> bool
+    ensures { IsTrue result ↔ IsSkipped line.now }
 {
+    match line {
+        [] => true,
+        [first, ..] => *first == b'#',
+    }
+}
+
+/// Adds the command that the line of this number says, where it isn't skipped.
+fn push_command(commands: &mut Vec<Command>, number: u64, line: &[u8]) -> Result<(), LineError>
+    ensures ok { OnOk result (Adds line.now commands.old.items commands.new.items) }
+    ensures bad { IfErr result (λ e. IsBadHere number line.now e) }
+{
+    if is_skipped(line) {
+        return Ok(());
+    }
     match read_line(*commands.allocator(), line)? {
         Some(command) => match commands.push(command) {
             Ok(()) => Ok(()),
             Err(_) => Err(LineError::Memory),
         },
-        None => Err(LineError::Bad(commands.len() as u64 + 1)),
+        None => Err(LineError::Bad(number)),
     }
 }
 
-/// Reads an input as commands, one a line. Room for them is taken once.
+/// Reads an input as commands, one a line; empty lines and comments are skipped. Room for the commands is taken once.
 pub fn parse_commands(alloc: Global, input: &[u8]) -> Result<Vec<Command>, LineError>
     ensures read { IfOk result (λ commands. InputSays input.now commands.items) }
     ensures bad { IfErr result (IsCause (lines_of input.now)) }
     ensures again { (commands : List Command) → InputSays input.now commands → MatchResult result (λ read. read.items ≡ commands) (λ e. e ≡ LineError.Memory) }
 {
     let mut lines = Lines::new(input);
-    let mut commands = Vec::with_capacity(alloc, lines.count())?;
+    let count = lines.count();
+    let mut commands = Vec::with_capacity(alloc, count)?;
+    let mut number = 0;
     while let Some(line) = lines.next_line() {
-        push_command(&mut commands, line)?;
+        number += 1;
+        push_command(&mut commands, number, line)?;
     }
     Ok(commands)
 }

@@ -21,13 +21,26 @@ fn reads_each_command(rt: HostRuntime) -> Result<(), Fail> {
 }
 
 #[test]
+fn skips_comments_and_empty_lines(rt: HostRuntime) -> Result<(), Fail> {
+    let alloc = rt.alloc();
+    for input in [b"\n# new\n\n#\nnew\n#".as_slice(), b"new".as_slice()] {
+        let commands = parse_commands(alloc, input)?;
+        assert!(rt; commands == vec![in alloc; Command::New]?);
+    }
+    for input in [b"".as_slice(), b"\n\n".as_slice(), b"# \xff\n#".as_slice()] {
+        let commands = parse_commands(alloc, input)?;
+        assert!(rt; commands.is_empty());
+    }
+    Ok(())
+}
+
+#[test]
 fn names_the_first_bad_line(rt: HostRuntime) -> Result<(), Fail> {
     let alloc = rt.alloc();
-    let cases: [(&[u8], u64); 26] = [
-        (b"\n", 1),
-        (b"new\n\nsize\n", 2),
-        (b"# new\n", 1),
+    let cases: [(&[u8], u64); 25] = [
         (b"size\nfoo\nfoo", 2),
+        (b"\n# one\n\nsize\nfoo\n# two\nfoo", 5),
+        (b" # new\n", 1),
         (b"new\r\n", 1),
         (b"New\n", 1),
         (b" new\n", 1),

@@ -1,6 +1,6 @@
 use Rattle.std.proofs.Common.{inl, inr, arith, sym}
 use Rattle.std.proofs.lemmas.Bool.{eqb-true}
-use Rattle.twins.proofs.Endings.{not_early}
+use Rattle.twins.proofs.Endings.{not_early, valid_read, valid_run}
 use Rattle.twins.proofs.main_call.twins_main.Goals as goal
 
 pub returns-in-Ok-clause-words : goal.returns-in-Ok-clause-words
@@ -57,3 +57,10 @@ pub returns-in-Ok-clause-memory : goal.returns-in-Ok-clause-memory
 returns-in-Ok-clause-memory g c = λ e.
     let run = rw e at c.run_and_write.ensures.run in
     inr (record { commands = c.in-Ok.commands.items; input = c.in-Ok.ensures.input; wrote = rw c.deref.ensures.value at run })
+
+pub returns-in-Err-clause-valid : goal.returns-in-Err-clause-valid
+returns-in-Err-clause-valid g c = λ valid tells fresh source sink volume. valid_read _ _ _ _ _ c.in-Err.status c.in-Err.ensures.early valid source
+
+pub returns-in-Ok-clause-valid : goal.returns-in-Ok-clause-valid
+returns-in-Ok-clause-valid g c = λ valid tells fresh source sink volume.
+    valid_run _ _ _ _ _ _ _ c.run_and_write.result c.run_and_write.ensures.run (λ e. c.run_and_write.ensures.not_fresh e tells fresh) sink volume

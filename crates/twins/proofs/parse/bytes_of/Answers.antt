@@ -5,11 +5,9 @@ use Rattle.std.proofs.lemmas.Slice.Eq.{bytes_eq-Decides}
 use Rattle.twins.proofs.HexWords.{word_read, word_unread}
 use Rattle.twins.proofs.parse.bytes_of.Goals as goal
 
-pub returns-in_ok-from_slice-in-Ok-clause-bytes : goal.returns-in_ok-from_slice-in-Ok-clause-bytes
-returns-in_ok-from_slice-in-Ok-clause-bytes c =
-    let whole = c.in-Ok.ensures.ok in
-    let same = c.in_ok-from_slice-in-Ok.ensures.same ∙ c.deref.ensures.value in
-    rw same (word_read c.args.word.now c.in-Ok.bytes.items (eqb-false _ _ (sym c.if-is_empty.ensures)) whole)
+pub returns-in-Ok-clause-bytes : goal.returns-in-Ok-clause-bytes
+returns-in-Ok-clause-bytes c =
+    rw c.from_vec.ensures (word_read c.args.word.now c.in-Ok.bytes.items (eqb-false _ _ (sym c.if-is_empty.ensures)) c.in-Ok.ensures.ok)
 
 pub returns-in_default : goal.returns-in_default
 returns-in_default c =

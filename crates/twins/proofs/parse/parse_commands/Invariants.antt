@@ -4,7 +4,7 @@ use Rattle.twins.proofs.CommandLines.{IsReadSoFar}
 use Rattle.twins.proofs.parse.parse_commands.Given as goal
 
 abbrev pub invariant-loop-line : goal.invariant-loop-line
-invariant-loop-line l = IsReadSoFar (lines_of l.input) l.commands.items l.lines
+invariant-loop-line l = IsReadSoFar (lines_of l.input) l.commands.items l.number l.lines
 
 abbrev pub decreases-loop-line : goal.decreases-loop-line
 decreases-loop-line l = length l.lines

@@ -11,3 +11,6 @@ returns-in-Err-clause-complete g c = λ steady low tells fresh.
     let r = c.in-Err.ensures.reads in
     let n = c.in-Err.ensures.not_fresh in
     only_memory c.in-Err.fault (λ e. not_risen _ _ (r.steady steady).faults low (r.failed (ap Err e))) (λ e. n (ap Err e) tells fresh)
+
+pub returns-in_default-with_capacity-clause-so_far : goal.returns-in_default-with_capacity-clause-so_far
+returns-in_default-with_capacity-clause-so_far g c = none_begun _ _ _ c.new-replies-in_default-with_capacity.ensures
