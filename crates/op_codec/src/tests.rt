@@ -1,15 +1,16 @@
 //! Rows from outside, and each call that takes memory once.
 use crate::{
-    CompactTarget, EngineError, FixedEncoding, Key, OperationTrait, Target, VariableEncoding,
-    advance_laws, immutable, keyless,
+    CompactTarget, EngineError, FixedEncoding, Key, OperationTrait, Request, Target,
+    VariableEncoding, advance_laws, immutable, keyless,
 };
 use codec_base::{
     Bytes, CodecError, Duplicate, EncodeSize, FixedSize, InvalidAt, LengthCfg, Read, U64, Write,
     decode, encode,
 };
+use std::num::NonZeroU64;
 use std::process::Abort;
 use std::test::Fail;
-use tree_shape::{Location, Mmr, Sha256Digest};
+use tree_shape::{Location, Mmb, Mmr, Sha256Digest};
 
 type Words = keyless::Operation<Mmr, VariableEncoding<Bytes>>;
 
@@ -18,6 +19,14 @@ type Numbers = keyless::Operation<Mmr, FixedEncoding<U64>>;
 type KeyedWords = immutable::Operation<Mmr, Bytes, VariableEncoding<Bytes>>;
 
 type KeyedNumbers = immutable::Operation<Mmr, U64, FixedEncoding<U64>>;
+
+type BeltWords = keyless::Operation<Mmb, VariableEncoding<Bytes>>;
+
+type BeltNumbers = keyless::Operation<Mmb, FixedEncoding<U64>>;
+
+type BeltKeyedWords = immutable::Operation<Mmb, Bytes, VariableEncoding<Bytes>>;
+
+type BeltKeyedNumbers = immutable::Operation<Mmb, U64, FixedEncoding<U64>>;
 
 /// Encodes a copy of a value, compares, and decodes it again.
 fn goes_both_ways<T: Write + EncodeSize + Read + Duplicate + PartialEq + Drop>(
@@ -92,6 +101,37 @@ fn immutable_operations_go_both_ways(rt: HostRuntime) -> Result<(), Fail> {
 }
 
 #[test]
+fn operations_of_a_mountain_belt_go_both_ways(rt: HostRuntime) -> Result<(), Fail> {
+    let cfg = LengthCfg { max: 4 };
+    let keyed = (LengthCfg { max: 1 }, LengthCfg { max: 4 });
+    let word = Bytes::from_slice(rt.alloc(), b"ab")?;
+    let key = Bytes::from_slice(rt.alloc(), b"k")?;
+    let set: BeltKeyedWords = immutable::Operation::Set(key, word.duplicate()?);
+    goes_both_ways(&rt, &set, &keyed, &[0, 1, 0x6b, 2, 0x61, 0x62])?;
+    let commit: BeltWords = keyless::Operation::Commit(Some(word), Location::new(300));
+    goes_both_ways(&rt, &commit, &cfg, &[0, 1, 2, 0x61, 0x62, 0xac, 2])?;
+    let none: BeltNumbers = keyless::Operation::Commit(None, Location::new(3));
+    goes_both_ways(
+        &rt,
+        &none,
+        &(),
+        &[0, 0, 0, 0, 0, 0, 0, 0, 0, 0, 0, 0, 0, 0, 0, 0, 0, 3],
+    )?;
+    let number: BeltKeyedNumbers = immutable::Operation::Set(U64::new(1), U64::new(2));
+    goes_both_ways(
+        &rt,
+        &number,
+        &((), ()),
+        &[0, 0, 0, 0, 0, 0, 0, 0, 1, 0, 0, 0, 0, 0, 0, 0, 2, 0],
+    )?;
+    keyless::variable_laws::<Mmb, Bytes>(&cfg);
+    keyless::fixed_laws::<Mmb, U64>(&());
+    immutable::variable_laws::<Mmb, Bytes, Bytes>(&keyed);
+    immutable::fixed_laws::<Mmb, U64, U64>(&((), ()));
+    Ok(())
+}
+
+#[test]
 fn fixed_encodings_are_refused_by_their_first_fault(rt: HostRuntime) {
     let none = ((), ());
     let mut tagged = [0u8; 18];
@@ -113,7 +153,7 @@ fn fixed_encodings_are_refused_by_their_first_fault(rt: HostRuntime) {
 #[test]
 fn variable_encodings_are_refused_by_their_first_fault(rt: HostRuntime) {
     let cfg = LengthCfg { max: 4 };
-    let refused: [(&[u8], CodecError); 5] = [
+    let refused: [(&[u8], CodecError); 6] = [
         (
             &[
                 0, 0, 0xff, 0xff, 0xff, 0xff, 0xff, 0xff, 0xff, 0xff, 0xff, 1,
@@ -127,6 +167,7 @@ fn variable_encodings_are_refused_by_their_first_fault(rt: HostRuntime) {
             CodecError::Invalid(InvalidAt::ExtraData),
         ),
         (&[2], CodecError::InvalidEnum(2)),
+        (&[1, 5], CodecError::Invalid(InvalidAt::Length)),
     ];
     for (bytes, want) in refused {
         let refusal = decode::<Words>(rt.alloc(), bytes, &cfg);
@@ -172,6 +213,36 @@ fn targets_advance(rt: HostRuntime) -> Result<(), Fail> {
     assert!(rt; from.encode_size() == 34);
     assert!(rt; decode::<Target<Mmr, Sha256Digest>>(rt.alloc(), bytes.as_slice(), &())? == from);
     Ok(())
+}
+
+#[test]
+fn targets_are_refused_by_their_first_fault(rt: HostRuntime) {
+    // Roots of zeros, and behind them 5 and 5, 0 and 2^62 + 1, and 0.
+    let mut empty = [0u8; 34];
+    empty[32] = 5;
+    empty[33] = 5;
+    let range = decode::<Target<Mmb, Sha256Digest>>(rt.alloc(), &empty, &());
+    assert!(rt; range == Err(CodecError::Invalid(InvalidAt::NonEmptyRange)));
+    let mut long = [0x80u8; 42];
+    long[..33].copy_from_slice(&[0u8; 33]);
+    long[33] = 0x81;
+    long[41] = 0x40;
+    let end = decode::<Target<Mmb, Sha256Digest>>(rt.alloc(), &long, &());
+    assert!(rt; end == Err(CodecError::Invalid(InvalidAt::Target)));
+    let size = decode::<CompactTarget<Mmb, Sha256Digest>>(rt.alloc(), &[0u8; 33], &());
+    assert!(rt; size == Err(CodecError::Invalid(InvalidAt::CompactTarget)));
+}
+
+#[test]
+fn requests_tell_what_they_ask(rt: HostRuntime) {
+    let request = Request::<Mmb>::Operations {
+        size: Location::new(9),
+        start: Location::new(4),
+        max_ops: NonZeroU64::MIN,
+    };
+    assert!(rt; request.size().as_u64() == 9);
+    assert!(rt; request.start().as_u64() == 4);
+    assert!(rt; request.max_ops().get() == 1);
 }
 
 #[test]
