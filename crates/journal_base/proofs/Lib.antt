@@ -1,1 +1,3 @@
+pub mod MatchLemmas
+pub mod ReadLemmas
 pub mod StepLemmas

@@ -1,5 +1,6 @@
 pub mod Answers
 pub mod Blobs
 pub mod Items
+pub mod Matches
 pub mod Tickets
 pub mod View

@@ -1,6 +1,8 @@
-ghost use Rattle.std.specs.Prelude.{◌≡◌, ◌↔◌, ◌+◌, ◌-◌, ◌<◌, ◌≤◌, ◌^◌, ℕ, Some, min, IfOk, IfErr, OnOk, IsErrOf};
+ghost use Rattle.std.specs.Prelude.{◌≡◌, ◌↔◌, ◌⊎◌, ◌+◌, ◌-◌, ◌<◌, ◌≤◌, ◌^◌, ℕ, Some, min, IfOk, IfErr, OnOk, IsErrOf};
+ghost use Rattle.std.specs.Fn.{FnReturnsAt};
 ghost use Rattle.journal_base.specs.Answers.{IsOfVolume, IsOfSize, IsOfStart, IsOfRead};
 ghost use Rattle.journal_base.specs.Items.{IsCorrupt};
+ghost use Rattle.journal_base.specs.Matches.{IsLastMatch, NoneMatches};
 ghost use Rattle.journal_base.specs.View.{View, at_bounds, capped, IsHeld, IsWithin};
 ghost use Rattle.volume_base.specs.Log.{IsItemAt, end_of, cleared_at, cut_to, Shrinks, BecomesOneOf};
 ghost use Rattle.volume_base.specs.Volume.{OnlyLog, OnlyLeft, LogMoves, Writes, Reads};
@@ -40,6 +42,22 @@ pub trait BackingRecovery: Sized {
         ensures errors { IfErr result IsOfRead }
         ensures answers { Reads V.tells Volume (V.state vol.old) (V.state vol.new) result }
         ensures reads { (V.state vol.new).reads ≤ (V.state vol.old).reads + 1 };
+
+    /// The end behind the last item below a ceiling that a predicate answers. It reads each item at most once.
+    fn last_matching<V: Volume, P: Fn(&Self::Item) -> bool>(
+        &self,
+        vol: &mut V,
+        ceiling: u64,
+        predicate: P,
+    ) -> Result<u64, JournalError>
+        requires { P.IsAlwaysCallable predicate }
+        ensures found { IfOk result (λ end. V.tells → IsWithin (view self.now) (V.state vol.old) → IsLastMatch Self.Item.spelling (Self.Item.admits (view self.now).codec) (FnReturnsAt P.Fn predicate) ((V.state vol.old).log (view self.now).name) (view self.now).start (min ceiling (view self.now).end) end ⊎ ((end ≡ 0) × ((view self.now).start ≡ 0) × NoneMatches Self.Item.spelling (Self.Item.admits (view self.now).codec) (FnReturnsAt P.Fn predicate) ((V.state vol.old).log (view self.now).name) 0 (min ceiling (view self.now).end))) }
+        ensures pruned { V.tells → IsWithin (view self.now) (V.state vol.old) → (p : ℕ) → IsErrOf result (ItemPruned p) → ((p ≡ ceiling) × (ceiling < (view self.now).start)) ⊎ ((p ≡ (view self.now).start) × (0 < (view self.now).start) × ((view self.now).start ≤ ceiling) × NoneMatches Self.Item.spelling (Self.Item.admits (view self.now).codec) (FnReturnsAt P.Fn predicate) ((V.state vol.old).log (view self.now).name) (view self.now).start (min ceiling (view self.now).end)) }
+        ensures not_out_of_range { V.tells → IsWithin (view self.now) (V.state vol.old) → (p : ℕ) → IsErrOf result (ItemOutOfRange p) → ⊥ }
+        ensures corrupt { V.tells → (p : ℕ) → IsErrOf result (Corruption p) → ((view self.now).start ≤ p) × (p < min ceiling (view self.now).end) × IsCorrupt Self.Item.spelling (Self.Item.admits (view self.now).codec) ((V.state vol.old).log (view self.now).name) p }
+        ensures errors { IfErr result IsOfRead }
+        ensures answers { Reads V.tells Volume (V.state vol.old) (V.state vol.new) result }
+        ensures reads { (V.state vol.new).reads ≤ (V.state vol.old).reads + (min ceiling (view self.now).end - (view self.now).start) };
 
     /// Leaves an empty log at a position.
     fn reset<V: Volume>(self, vol: &mut V, size: u64) -> Result<Self, JournalError>

@@ -4,6 +4,7 @@
 mod backing;
 mod contiguous;
 mod journal;
+mod matching;
 mod mutable;
 mod recovery;
 mod ticket;

@@ -1,11 +1,12 @@
-ghost use Rattle.std.specs.Prelude.{◌≡◌, ◌≤◌, ◌<◌, ◌+◌, ◌-◌, ◌^◌, ℕ, min, max, string_bytes, IfOk, IfErr, OnOk, IsErrOf};
-ghost use Rattle.journal_base.specs.Answers.{IsOfVolume, IsOfStart};
+ghost use Rattle.std.specs.Prelude.{◌≡◌, ◌≤◌, ◌<◌, ◌+◌, ◌-◌, ◌^◌, ℕ, min, max, IfOk, IfErr, OnOk, IsErrOf};
+ghost use Rattle.journal_base.specs.Answers.{IsOfVolume};
 ghost use Rattle.journal_base.specs.View.{capped};
 ghost use Rattle.std.specs.NonZero.{non_zero_u64_get};
 ghost use Rattle.volume_base.specs.Log.{end_of, cut_to, Shrinks};
 ghost use Rattle.volume_base.specs.Volume.{OnlyLog, LogMoves, Writes};
 ghost use Rattle.volume_base.specs.declared.error.JournalError.TheVariants.{ItemPruned};
 
+use crate::matching::match_below;
 use crate::{Backing, BackingRecovery, Contiguous, Journal, JournalConfig, Kind, Variable};
 use codec_base::{Duplicate, EncodeSize, Read, Write};
 use volume_base::{JournalError, Volume};
@@ -73,6 +74,25 @@ impl<T: Write + EncodeSize + Read + Duplicate + Drop, K: Kind<T>> BackingRecover
         }
         let item = self.seen.read(vol, position)?;
         Ok(item)
+    }
+
+    fn last_matching<V: Volume, P: Fn(&T) -> bool>(
+        &self,
+        vol: &mut V,
+        ceiling: u64,
+        predicate: P,
+    ) -> Result<u64, JournalError> {
+        if ceiling < self.seen.start {
+            return Err(JournalError::ItemPruned(ceiling));
+        }
+        let found = match_below(&self.seen, vol, ceiling.min(self.seen.end), predicate)?;
+        if let Some(end) = found {
+            return Ok(end);
+        }
+        if self.seen.start > 0 {
+            return Err(JournalError::ItemPruned(self.seen.start));
+        }
+        Ok(0)
     }
 
     fn reset<V: Volume>(self, vol: &mut V, size: u64) -> Result<Self, JournalError> {

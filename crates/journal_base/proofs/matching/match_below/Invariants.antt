@@ -1,0 +1,17 @@
+use Rattle.std.proofs.Common.{◌≡◌, ℕ, ◌+◌, ◌≤◌, min}
+use Rattle.std.specs.Fn.{FnReturnsAt}
+use Rattle.journal_base.specs.Matches.{NoneMatches}
+use Rattle.journal_base.proofs.ReadLemmas.{OnlyRead}
+use Rattle.journal_base.proofs.matching.match_below.Given as goal
+
+abbrev pub invariant-loop-end : goal.invariant-loop-end
+invariant-loop-end g l = record {
+  high : l.end ≤ l.top;
+  low : min l.start l.top ≤ l.end;
+  so_far : OnlyRead g.V.Volume.tells (g.V.Volume.state l.initial.vol) (g.V.Volume.state l.vol);
+  none : g.V.Volume.tells → NoneMatches g.J.Item.Spelled.spelling (g.J.Item.Read.admits (g.J.Contiguous.view l.journal).codec) (FnReturnsAt g.P.Fn l.predicate) ((g.V.Volume.state l.initial.vol).log (g.J.Contiguous.view l.journal).name) l.end l.top;
+  reads : (g.V.Volume.state l.vol).reads + l.end ≤ (g.V.Volume.state l.initial.vol).reads + l.top;
+}
+
+abbrev pub decreases-loop-end : goal.decreases-loop-end
+decreases-loop-end g l = l.end

@@ -1,0 +1,41 @@
+//! Items that a predicate answers.
+ghost use Rattle.std.specs.Prelude.{◌≡◌, ◌≤◌, ◌<◌, ◌+◌, ◌-◌, ℕ, MatchOption, IfOk, IfErr, IsErrOf};
+ghost use Rattle.std.specs.Fn.{FnReturnsAt};
+ghost use Rattle.journal_base.specs.Answers.{IsOfRead};
+ghost use Rattle.journal_base.specs.Items.{IsCorrupt};
+ghost use Rattle.journal_base.specs.Matches.{IsLastMatch, NoneMatches};
+ghost use Rattle.journal_base.specs.View.{IsWithin};
+ghost use Rattle.volume_base.specs.Volume.{Reads};
+ghost use Rattle.volume_base.specs.declared.error.JournalError.TheVariants.{ItemPruned, ItemOutOfRange, Corruption};
+
+use crate::Contiguous;
+use volume_base::{JournalError, Volume};
+
+/// The end behind the last item below a position that a predicate answers. It goes down from there.
+pub(crate) fn match_below<J: Contiguous, V: Volume, P: Fn(&J::Item) -> bool>(
+    journal: &J,
+    vol: &mut V,
+    top: u64,
+    predicate: P,
+) -> Result<Option<u64>, JournalError>
+    requires callable { P.IsAlwaysCallable predicate }
+    requires within { top ≤ (J.view journal.now).end }
+    ensures found { IfOk result (λ found. V.tells → MatchOption found (NoneMatches J.Item.spelling (J.Item.admits (J.view journal.now).codec) (FnReturnsAt P.Fn predicate) ((V.state vol.old).log (J.view journal.now).name) (J.view journal.now).start top) (λ end. IsLastMatch J.Item.spelling (J.Item.admits (J.view journal.now).codec) (FnReturnsAt P.Fn predicate) ((V.state vol.old).log (J.view journal.now).name) (J.view journal.now).start top end)) }
+    ensures not_pruned { V.tells → IsWithin (J.view journal.now) (V.state vol.old) → (p : ℕ) → IsErrOf result (ItemPruned p) → ⊥ }
+    ensures not_out_of_range { V.tells → IsWithin (J.view journal.now) (V.state vol.old) → (p : ℕ) → IsErrOf result (ItemOutOfRange p) → ⊥ }
+    ensures corrupt { V.tells → (p : ℕ) → IsErrOf result (Corruption p) → ((J.view journal.now).start ≤ p) × (p < top) × IsCorrupt J.Item.spelling (J.Item.admits (J.view journal.now).codec) ((V.state vol.old).log (J.view journal.now).name) p }
+    ensures errors { IfErr result IsOfRead }
+    ensures answers { Reads V.tells JournalError.Volume (V.state vol.old) (V.state vol.new) result }
+    ensures reads { (V.state vol.new).reads ≤ (V.state vol.old).reads + (top - (J.view journal.now).start) }
+{
+    let (start, _) = journal.bounds();
+    let mut end = top;
+    while start < end {
+        let item = journal.read(vol, end - 1)?;
+        if predicate(&item) {
+            return Ok(Some(end));
+        }
+        end -= 1;
+    }
+    Ok(None)
+}
