@@ -1,6 +1,11 @@
-ghost use Rattle.std.specs.Prelude.{◌≡◌, ◌≤◌, map, false, string_bytes, IfOk, IsOkUnless};
+ghost use Rattle.std.specs.Prelude.{◌≡◌, ◌↔◌, ◌≤◌, ◌-◌, ◌^◌, map, false, string_bytes, IfOk, IfErr, OnOk, IsErrOf, IsOkUnless};
 ghost use Rattle.std.specs.NonZero.{non_zero_u64_get};
+ghost use Rattle.journal_base.specs.Answers.{IsOfSize};
 ghost use Rattle.journal_base.specs.Blobs.{blob_start};
+ghost use Rattle.journal_base.specs.View.{at_bounds};
+ghost use Rattle.volume_base.specs.Log.{cleared_at, BecomesOneOf};
+ghost use Rattle.volume_base.specs.Volume.{OnlyLog, OnlyLeft, LogMoves, Writes};
+ghost use Rattle.volume_base.specs.declared.error.JournalError.TheVariants.{SizeOverflow};
 
 use crate::{Contiguous, Mutable, SyncTicket};
 use codec_base::{
@@ -91,7 +96,7 @@ fn encode_one<T: Write>(alloc: Global, item: &T) -> Result<Bytes, JournalError>
 }
 
 /// Where the blob of a position begins.
-fn start_of_blob(items_per_blob: NonZeroU64, position: u64) -> u64
+pub(crate) fn start_of_blob(items_per_blob: NonZeroU64, position: u64) -> u64
     ensures start { result ≡ blob_start (non_zero_u64_get items_per_blob) position }
     ensures low { result ≤ position }
 {
@@ -210,5 +215,29 @@ impl<T: Write + EncodeSize + Read + Duplicate + Drop, K: Kind<T>> Mutable for Jo
     fn destroy<V: Volume>(self, vol: &mut V) -> Result<(), JournalError> {
         vol.log_remove(self.name.as_str())?;
         Ok(())
+    }
+}
+
+impl<T: Write + EncodeSize + Read + Duplicate + Drop, K: Kind<T>> Journal<T, K> {
+    /// Leaves an empty log at a position.
+    pub fn clear_to_size<V: Volume>(self, vol: &mut V, size: u64) -> Result<Self, JournalError>
+        ensures overflow { IsErrOf result SizeOverflow ↔ (size ≡ 2 ^ 64 - 1) }
+        ensures made { IfOk result (λ made. ⟦<Journal<T, K> as Contiguous>⟧.view made ≡ at_bounds (⟦<Journal<T, K> as Contiguous>⟧.view self) size size) }
+        ensures cleared { OnOk result (V.tells → (V.state vol.new).log (⟦<Journal<T, K> as Contiguous>⟧.view self).name ≡ cleared_at size) }
+        ensures durable { OnOk result (V.tells → OnlyLeft ((V.state vol.new).log_left (V.state vol.new).clock (⟦<Journal<T, K> as Contiguous>⟧.view self).name) (cleared_at size)) }
+        ensures others { V.tells → OnlyLog (⟦<Journal<T, K> as Contiguous>⟧.view self).name (V.state vol.old) (V.state vol.new) }
+        ensures images { V.tells → LogMoves (⟦<Journal<T, K> as Contiguous>⟧.view self).name (BecomesOneOf (cleared_at size)) (V.state vol.old) (V.state vol.new) }
+        ensures errors { IfErr result IsOfSize }
+        ensures writes { Writes V.tells JournalError.Volume (V.state vol.old) (V.state vol.new) result }
+    {
+        if size == u64::MAX {
+            return Err(JournalError::SizeOverflow);
+        }
+        vol.log_clear(self.name.as_str(), size)?;
+        Ok(Journal {
+            start: size,
+            end: size,
+            ..self
+        })
     }
 }

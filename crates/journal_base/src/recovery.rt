@@ -1,11 +1,13 @@
-ghost use Rattle.std.specs.Prelude.{◌≡◌, ◌≤◌, ◌<◌, ◌+◌, ◌-◌, ◌^◌, ℕ, min, max, IfOk, IfErr, OnOk, IsErrOf};
-ghost use Rattle.journal_base.specs.Answers.{IsOfVolume};
-ghost use Rattle.journal_base.specs.View.{capped};
+ghost use Rattle.std.specs.Prelude.{◌≡◌, ◌↔◌, ◌≤◌, ◌<◌, ◌+◌, ◌-◌, ◌^◌, ℕ, min, max, IfOk, IfErr, OnOk, IsErrOf};
+ghost use Rattle.journal_base.specs.Answers.{IsOfVolume, IsOfSize, IsOfStart};
+ghost use Rattle.journal_base.specs.Blobs.{blob_start};
+ghost use Rattle.journal_base.specs.View.{capped, at_bounds, IsHeld, IsWithin};
 ghost use Rattle.std.specs.NonZero.{non_zero_u64_get};
-ghost use Rattle.volume_base.specs.Log.{end_of, cut_to, Shrinks};
-ghost use Rattle.volume_base.specs.Volume.{OnlyLog, LogMoves, Writes};
-ghost use Rattle.volume_base.specs.declared.error.JournalError.TheVariants.{ItemPruned};
+ghost use Rattle.volume_base.specs.Log.{end_of, cut_to, pruned_to, cleared_at, Shrinks, Advances, BecomesOneOf};
+ghost use Rattle.volume_base.specs.Volume.{OnlyLog, OnlyLeft, LogMoves, Writes, Reads};
+ghost use Rattle.volume_base.specs.declared.error.JournalError.TheVariants.{ItemPruned, SizeOverflow};
 
+use crate::journal::start_of_blob;
 use crate::matching::match_below;
 use crate::{Backing, BackingRecovery, Contiguous, Journal, JournalConfig, Kind, Variable};
 use codec_base::{Duplicate, EncodeSize, Read, Write};
@@ -96,15 +98,7 @@ impl<T: Write + EncodeSize + Read + Duplicate + Drop, K: Kind<T>> BackingRecover
     }
 
     fn reset<V: Volume>(self, vol: &mut V, size: u64) -> Result<Self, JournalError> {
-        if size == u64::MAX {
-            return Err(JournalError::SizeOverflow);
-        }
-        vol.log_clear(self.seen.name.as_str(), size)?;
-        let seen = Journal {
-            start: size,
-            end: size,
-            ..self.seen
-        };
+        let seen = self.seen.clear_to_size(vol, size)?;
         Ok(Recovery { seen })
     }
 
@@ -122,6 +116,94 @@ impl<T: Write + EncodeSize + Read + Duplicate + Drop, K: Kind<T>> BackingRecover
             end: to,
             ..self.seen
         })
+    }
+}
+
+impl<T: Write + EncodeSize + Read + Duplicate + Drop, K: Kind<T>> Recovery<T, K> {
+    /// Cuts the log to the lesser of the view's end and a size, where its end falls, and the view ends there.
+    pub fn truncate<V: Volume>(self, vol: &mut V, size: u64) -> Result<Self, JournalError>
+        ensures pruned { V.tells → (p : ℕ) → IsErrOf result (ItemPruned p) → (p ≡ size) × (size < ((V.state vol.old).log (⟦<Recovery<T, K> as BackingRecovery>⟧.view self).name).start) }
+        ensures reached { OnOk result (V.tells → ((V.state vol.old).log (⟦<Recovery<T, K> as BackingRecovery>⟧.view self).name).start ≤ size) }
+        ensures made { IfOk result (λ made. ⟦<Recovery<T, K> as BackingRecovery>⟧.view made ≡ at_bounds (⟦<Recovery<T, K> as BackingRecovery>⟧.view self) (⟦<Recovery<T, K> as BackingRecovery>⟧.view made).start (⟦<Recovery<T, K> as BackingRecovery>⟧.view made).end) }
+        ensures end { IfOk result (λ made. V.tells → IsWithin (⟦<Recovery<T, K> as BackingRecovery>⟧.view self) (V.state vol.old) → (⟦<Recovery<T, K> as BackingRecovery>⟧.view made).end ≡ min size (⟦<Recovery<T, K> as BackingRecovery>⟧.view self).end) }
+        ensures within { IfOk result (λ made. V.tells → IsWithin (⟦<Recovery<T, K> as BackingRecovery>⟧.view made) (V.state vol.new)) }
+        ensures cut { OnOk result (V.tells → (V.state vol.new).log (⟦<Recovery<T, K> as BackingRecovery>⟧.view self).name ≡ cut_to ((V.state vol.old).log (⟦<Recovery<T, K> as BackingRecovery>⟧.view self).name) (min size (⟦<Recovery<T, K> as BackingRecovery>⟧.view self).end)) }
+        ensures others { V.tells → OnlyLog (⟦<Recovery<T, K> as BackingRecovery>⟧.view self).name (V.state vol.old) (V.state vol.new) }
+        ensures images { V.tells → LogMoves (⟦<Recovery<T, K> as BackingRecovery>⟧.view self).name (Shrinks (min size (⟦<Recovery<T, K> as BackingRecovery>⟧.view self).end)) (V.state vol.old) (V.state vol.new) }
+        ensures errors { IfErr result IsOfStart }
+        ensures writes { Writes V.tells JournalError.Volume (V.state vol.old) (V.state vol.new) result }
+    {
+        let name = self.seen.name.as_str();
+        let (start, end) = vol.log_bounds(name)?;
+        if size < start {
+            return Err(JournalError::ItemPruned(size));
+        }
+        let to = size.min(self.seen.end).max(start);
+        cut_down(vol, name, end, to)?;
+        let seen = Journal {
+            start,
+            end: to.min(end),
+            ..self.seen
+        };
+        Ok(Recovery { seen })
+    }
+
+    /// Takes whole blobs below a position of the view away.
+    pub fn prune<V: Volume>(self, vol: &mut V, least: u64) -> Result<Self, JournalError>
+        ensures made { IfOk result (λ made. ⟦<Recovery<T, K> as BackingRecovery>⟧.view made ≡ at_bounds (⟦<Recovery<T, K> as BackingRecovery>⟧.view self) (⟦<Recovery<T, K> as BackingRecovery>⟧.view made).start (⟦<Recovery<T, K> as BackingRecovery>⟧.view made).end) }
+        ensures end { IfOk result (λ made. V.tells → IsWithin (⟦<Recovery<T, K> as BackingRecovery>⟧.view self) (V.state vol.old) → (⟦<Recovery<T, K> as BackingRecovery>⟧.view made).end ≡ (⟦<Recovery<T, K> as BackingRecovery>⟧.view self).end) }
+        ensures within { IfOk result (λ made. V.tells → IsWithin (⟦<Recovery<T, K> as BackingRecovery>⟧.view self) (V.state vol.old) → IsWithin (⟦<Recovery<T, K> as BackingRecovery>⟧.view made) (V.state vol.new)) }
+        ensures pruned { OnOk result (V.tells → (V.state vol.new).log (⟦<Recovery<T, K> as BackingRecovery>⟧.view self).name ≡ pruned_to ((V.state vol.old).log (⟦<Recovery<T, K> as BackingRecovery>⟧.view self).name) (blob_start (⟦<Recovery<T, K> as BackingRecovery>⟧.view self).blob (min (min least (⟦<Recovery<T, K> as BackingRecovery>⟧.view self).end) (end_of ((V.state vol.old).log (⟦<Recovery<T, K> as BackingRecovery>⟧.view self).name))))) }
+        ensures others { V.tells → OnlyLog (⟦<Recovery<T, K> as BackingRecovery>⟧.view self).name (V.state vol.old) (V.state vol.new) }
+        ensures images { V.tells → LogMoves (⟦<Recovery<T, K> as BackingRecovery>⟧.view self).name (Advances (blob_start (⟦<Recovery<T, K> as BackingRecovery>⟧.view self).blob (min (min least (⟦<Recovery<T, K> as BackingRecovery>⟧.view self).end) (end_of ((V.state vol.old).log (⟦<Recovery<T, K> as BackingRecovery>⟧.view self).name))))) (V.state vol.old) (V.state vol.new) }
+        ensures errors { IfErr result IsOfVolume }
+        ensures writes { Writes V.tells JournalError.Volume (V.state vol.old) (V.state vol.new) result }
+    {
+        let name = self.seen.name.as_str();
+        let (start, end) = vol.log_bounds(name)?;
+        let top = least.min(self.seen.end).min(end);
+        let to = start_of_blob(self.seen.items_per_blob, top);
+        if to <= start {
+            return Ok(self);
+        }
+        vol.log_prune(name, to)?;
+        let seen = Journal {
+            start: to,
+            ..self.seen
+        };
+        Ok(Recovery { seen })
+    }
+
+    /// As `reset`.
+    pub fn clear_to_size<V: Volume>(self, vol: &mut V, size: u64) -> Result<Self, JournalError>
+        ensures overflow { IsErrOf result SizeOverflow ↔ (size ≡ 2 ^ 64 - 1) }
+        ensures made { IfOk result (λ made. ⟦<Recovery<T, K> as BackingRecovery>⟧.view made ≡ at_bounds (⟦<Recovery<T, K> as BackingRecovery>⟧.view self) size size) }
+        ensures cleared { OnOk result (V.tells → (V.state vol.new).log (⟦<Recovery<T, K> as BackingRecovery>⟧.view self).name ≡ cleared_at size) }
+        ensures durable { OnOk result (V.tells → OnlyLeft ((V.state vol.new).log_left (V.state vol.new).clock (⟦<Recovery<T, K> as BackingRecovery>⟧.view self).name) (cleared_at size)) }
+        ensures others { V.tells → OnlyLog (⟦<Recovery<T, K> as BackingRecovery>⟧.view self).name (V.state vol.old) (V.state vol.new) }
+        ensures images { V.tells → LogMoves (⟦<Recovery<T, K> as BackingRecovery>⟧.view self).name (BecomesOneOf (cleared_at size)) (V.state vol.old) (V.state vol.new) }
+        ensures errors { IfErr result IsOfSize }
+        ensures writes { Writes V.tells JournalError.Volume (V.state vol.old) (V.state vol.new) result }
+    {
+        let cleared = self.reset(vol, size)?;
+        Ok(cleared)
+    }
+
+    /// Ends the view at the log's end.
+    pub fn unbounded<V: Volume>(self, vol: &mut V) -> Result<Self, JournalError>
+        ensures made { IfOk result (λ made. ⟦<Recovery<T, K> as BackingRecovery>⟧.view made ≡ at_bounds (⟦<Recovery<T, K> as BackingRecovery>⟧.view self) (⟦<Recovery<T, K> as BackingRecovery>⟧.view made).start (⟦<Recovery<T, K> as BackingRecovery>⟧.view made).end) }
+        ensures held { IfOk result (λ made. V.tells → IsHeld (⟦<Recovery<T, K> as BackingRecovery>⟧.view made) (V.state vol.old)) }
+        ensures errors { IfErr result IsOfVolume }
+        ensures answers { Reads V.tells JournalError.Volume (V.state vol.old) (V.state vol.new) result }
+        ensures reads { (V.state vol.new).reads ≡ (V.state vol.old).reads }
+    {
+        let (start, end) = vol.log_bounds(self.seen.name.as_str())?;
+        let seen = Journal {
+            start,
+            end,
+            ..self.seen
+        };
+        Ok(Recovery { seen })
     }
 }
 
