@@ -56,3 +56,14 @@ IsOfStart EmptyAppend = ⊥
 IsOfStart SizeOverflow = ⊥
 IsOfStart (Corruption p) = ⊥
 IsOfStart (Tree cause) = ⊥
+
+-- that a range lies outside
+abbrev pub IsOfRange : JournalError → Type 0
+IsOfRange (ItemPruned p) = Unit {0}
+IsOfRange (ItemOutOfRange p) = Unit {0}
+IsOfRange EmptyAppend = ⊥
+IsOfRange SizeOverflow = ⊥
+IsOfRange (Corruption p) = ⊥
+IsOfRange (Tree cause) = ⊥
+IsOfRange Volume = ⊥
+IsOfRange Memory = ⊥

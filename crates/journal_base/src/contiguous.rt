@@ -1,11 +1,14 @@
-ghost use Rattle.std.specs.Prelude.{◌≡◌, ◌+◌, ◌-◌, ◌<◌, ◌≤◌, ◌^◌, ℕ, List, min, IfOk, IfErr, IsErrOf};
-ghost use Rattle.journal_base.specs.Answers.{IsOfRead};
+ghost use Rattle.std.specs.Prelude.{◌≡◌, ◌+◌, ◌-◌, ◌<◌, ◌≤◌, ◌^◌, ℕ, List, min, length, IfOk, IfErr, IsErrOf};
+ghost use Rattle.journal_base.specs.Answers.{IsOfRead, IsOfRange};
 ghost use Rattle.journal_base.specs.Items.{IsCorrupt};
+ghost use Rattle.journal_base.specs.Reads.{AreItemsAt, IsFirstFailing};
+ghost use Rattle.journal_base.specs.Replays.{journal_of, next_of, end_at};
 ghost use Rattle.journal_base.specs.View.{View};
 ghost use Rattle.volume_base.specs.Log.{IsItemAt, end_of};
 ghost use Rattle.volume_base.specs.Volume.{Reads};
 ghost use Rattle.volume_base.specs.declared.error.JournalError.TheVariants.{ItemPruned, ItemOutOfRange, Corruption, Volume};
 
+use crate::Replay;
 use codec_base::{Duplicate, EncodeSize, Read, Write};
 use volume_base::{JournalError, Volume};
 
@@ -32,4 +35,39 @@ pub trait Contiguous: Sized {
         ensures errors { IfErr result IsOfRead }
         ensures answers { Reads V.tells Volume (V.state vol.old) (V.state vol.new) result }
         ensures reads { (V.state vol.new).reads ≡ min ((V.state vol.old).reads + 1) (2 ^ 64 - 1) };
+
+    /// The items at these positions, in their order, up to the first that can't be read.
+    fn read_many<V: Volume>(
+        &self,
+        vol: &mut V,
+        positions: &[u64],
+    ) -> Result<Vec<Self::Item>, JournalError>
+        ensures items { IfOk result (λ items. V.tells → AreItemsAt Self.Item.spelling (Self.Item.admits (view self.now).codec) ((V.state vol.old).log (view self.now).name) positions.now items.items) }
+        ensures pruned { V.tells → (p : ℕ) → IsErrOf result (ItemPruned p) → IsFirstFailing Self.Item.spelling (Self.Item.admits (view self.now).codec) ((V.state vol.old).log (view self.now).name) positions.now p × (p < ((V.state vol.old).log (view self.now).name).start) }
+        ensures out_of_range { V.tells → (p : ℕ) → IsErrOf result (ItemOutOfRange p) → IsFirstFailing Self.Item.spelling (Self.Item.admits (view self.now).codec) ((V.state vol.old).log (view self.now).name) positions.now p × (end_of ((V.state vol.old).log (view self.now).name) ≤ p) }
+        ensures corrupt { V.tells → (p : ℕ) → IsErrOf result (Corruption p) → IsFirstFailing Self.Item.spelling (Self.Item.admits (view self.now).codec) ((V.state vol.old).log (view self.now).name) positions.now p × IsCorrupt Self.Item.spelling (Self.Item.admits (view self.now).codec) ((V.state vol.old).log (view self.now).name) p }
+        ensures errors { IfErr result IsOfRead }
+        ensures answers { Reads V.tells Volume (V.state vol.old) (V.state vol.new) result }
+        ensures reads { (V.state vol.new).reads ≤ (V.state vol.old).reads + length positions.now };
+
+    /// The items from a position on to another, to be read one by one.
+    fn replay(&self, from: u64, to: u64) -> Result<Replay<'_, Self>, JournalError>
+        ensures pruned { (p : ℕ) → IsErrOf result (ItemPruned p) → (p ≡ from) × (from < (view self.now).start) }
+        ensures out_of_range { (p : ℕ) → IsErrOf result (ItemOutOfRange p) → (p ≡ to) × ((view self.now).start ≤ from) × ((view self.now).end < to) }
+        ensures made { IfOk result (λ replay. ((view self.now).start ≤ from) × (to ≤ (view self.now).end) × (journal_of replay ≡ self.now) × (next_of replay ≡ from) × (end_at replay ≡ to)) }
+        ensures errors { IfErr result IsOfRange }
+    {
+        let (start, end) = self.bounds();
+        if from < start {
+            return Err(JournalError::ItemPruned(from));
+        }
+        if end < to {
+            return Err(JournalError::ItemOutOfRange(to));
+        }
+        Ok(Replay {
+            journal: self,
+            next: from,
+            end: to,
+        })
+    }
 }

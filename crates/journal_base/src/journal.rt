@@ -121,6 +121,15 @@ impl<T: Write + EncodeSize + Read + Duplicate + Drop, K: Kind<T>> Contiguous for
             Err(_) => Err(JournalError::Corruption(position)),
         }
     }
+
+    fn read_many<V: Volume>(&self, vol: &mut V, positions: &[u64]) -> Result<Vec<T>, JournalError> {
+        let mut items = Vec::new(*self.name.allocator());
+        for position in positions {
+            let item = self.read(vol, *position)?;
+            items.push(item)?;
+        }
+        Ok(items)
+    }
 }
 
 impl<T: Write + EncodeSize + Read + Duplicate + Drop, K: Kind<T>> Mutable for Journal<T, K> {

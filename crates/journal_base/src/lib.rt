@@ -7,6 +7,7 @@ mod journal;
 mod matching;
 mod mutable;
 mod recovery;
+mod replay;
 mod ticket;
 
 pub use backing::{Backing, BackingRecovery, backing_laws};
@@ -14,4 +15,5 @@ pub use contiguous::Contiguous;
 pub use journal::{Fixed, FixedJournal, Journal, JournalConfig, Kind, Variable, VariableJournal};
 pub use mutable::Mutable;
 pub use recovery::Recovery;
+pub use replay::Replay;
 pub use ticket::SyncTicket;
