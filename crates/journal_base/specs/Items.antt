@@ -7,6 +7,8 @@ use Rattle.volume_base.specs.Bounds.{IsRunOf}
 abbrev pub Spells : {A : Type 0} → (A → List ℕ) → List A → Log → Type 0
 Spells spelling list log = IsRunOf (map spelling list) log
 
--- What stands at a position is the spelling of no item that is allowed.
-abbrev pub IsCorrupt : {A : Type 0} → (A → List ℕ) → (A → Type 0) → Log → ℕ → Type 0
-IsCorrupt {A} spelling admits log position = (x : A) → admits x → IsItemAt log position (spelling x) → ⊥
+-- Bytes stand at the position, and they are the spelling of no item that is allowed.
+pub record IsCorrupt {A : Type 0} (spelling : A → List ℕ) (admits : A → Type 0) (log : Log) (position : ℕ) : Type 0 where
+  pub bytes : List ℕ
+  pub here : IsItemAt log position bytes
+  pub unspelled : (x : A) → admits x → bytes ≡ spelling x → ⊥

@@ -1,5 +1,5 @@
 -- What a predicate has answered of the items of a log.
-use Rattle.std.specs.Prelude.{◌≡◌, ◌⊎◌, ℕ, ◌-◌, ◌<◌, ◌≤◌, Bool, true, false, List}
+use Rattle.std.specs.Prelude.{ℕ, ◌-◌, ◌<◌, ◌≤◌, Bool, true, false, List}
 use Rattle.volume_base.specs.Log.{Log, IsItemAt}
 
 -- At this position stands an item that is allowed, and the predicate has answered this of it.

@@ -13,7 +13,7 @@ use codec_base::{Duplicate, EncodeSize, Read, Write};
 use volume_base::{JournalError, Volume};
 
 /// A log that is being opened, seen up to an end.
-pub trait BackingRecovery: Sized {
+pub trait BackingRecovery: Sized + Drop {
     /// What the log holds.
     type Item: Write + EncodeSize + Read + Duplicate + Drop;
 
@@ -63,6 +63,7 @@ pub trait BackingRecovery: Sized {
     fn reset<V: Volume>(self, vol: &mut V, size: u64) -> Result<Self, JournalError>
         ensures overflow { IsErrOf result SizeOverflow ↔ (size ≡ 2 ^ 64 - 1) }
         ensures made { IfOk result (λ made. view made ≡ at_bounds (view self) size size) }
+        ensures within { IfOk result (λ made. V.tells → IsWithin (view made) (V.state vol.new)) }
         ensures cleared { OnOk result (V.tells → (V.state vol.new).log (view self).name ≡ cleared_at size) }
         ensures durable { OnOk result (V.tells → OnlyLeft ((V.state vol.new).log_left (V.state vol.new).clock (view self).name) (cleared_at size)) }
         ensures others { V.tells → OnlyLog (view self).name (V.state vol.old) (V.state vol.new) }
@@ -105,6 +106,7 @@ pub trait Backing: Mutable {
         ensures reached { OnOk result (V.tells → (cap : ℕ) → max_size ≡ Some cap → ((V.state vol.old).log (config cfg).name).start ≤ cap) }
         ensures made { IfOk result (λ made. Self.Recovery.view made ≡ at_bounds (config cfg) (Self.Recovery.view made).start (Self.Recovery.view made).end) }
         ensures start { IfOk result (λ made. V.tells → (Self.Recovery.view made).start ≡ ((V.state vol.old).log (config cfg).name).start) }
+        ensures within { IfOk result (λ made. V.tells → IsWithin (Self.Recovery.view made) (V.state vol.new)) }
         ensures end { IfOk result (λ made. V.tells → (Self.Recovery.view made).end ≡ capped max_size (end_of ((V.state vol.old).log (config cfg).name))) }
         ensures errors { IfErr result IsOfStart }
         ensures answers { Reads V.tells Volume (V.state vol.old) (V.state vol.new) result }
@@ -118,6 +120,7 @@ pub trait Backing: Mutable {
     ) -> Result<Self::Recovery, JournalError>
         ensures overflow { IsErrOf result SizeOverflow ↔ (size ≡ 2 ^ 64 - 1) }
         ensures made { IfOk result (λ made. Self.Recovery.view made ≡ at_bounds (config cfg) size size) }
+        ensures within { IfOk result (λ made. V.tells → IsWithin (Self.Recovery.view made) (V.state vol.new)) }
         ensures cleared { OnOk result (V.tells → (V.state vol.new).log (config cfg).name ≡ cleared_at size) }
         ensures durable { OnOk result (V.tells → OnlyLeft ((V.state vol.new).log_left (V.state vol.new).clock (config cfg).name) (cleared_at size)) }
         ensures others { V.tells → OnlyLog (config cfg).name (V.state vol.old) (V.state vol.new) }
@@ -139,9 +142,3 @@ pub trait Backing: Mutable {
     /// What a recovery says of an opened journal is what the journal tells.
     ghost opened_is: { (journal : Self) → Self.Recovery.opened journal ≡ Self.view journal };
 }
-
-/// The laws of journals that are one log, for callers that are generic over them.
-pub fn backing_laws<C: Backing>()
-    ensures one_log { C.one_log }
-    ensures opened { (journal : C) → C.Recovery.opened journal ≡ C.view journal }
-{}

@@ -1,6 +1,6 @@
-ghost use Rattle.std.specs.Prelude.{◌≡◌, ◌+◌, ◌-◌, ◌<◌, ◌≤◌, ◌^◌, ℕ, List, min, length, IfOk, IfErr, IsErrOf};
+ghost use Rattle.std.specs.Prelude.{◌≡◌, ◌+◌, ◌-◌, ◌<◌, ◌≤◌, ◌^◌, ℕ, List, min, length, Some, slice_get, IfOk, IfErr, IsErrOf};
 ghost use Rattle.journal_base.specs.Answers.{IsOfRead, IsOfRange};
-ghost use Rattle.journal_base.specs.Items.{IsCorrupt};
+ghost use Rattle.journal_base.specs.Items.{IsCorrupt, Spells};
 ghost use Rattle.journal_base.specs.Reads.{AreItemsAt, IsFirstFailing};
 ghost use Rattle.journal_base.specs.Replays.{journal_of, next_of, end_at};
 ghost use Rattle.journal_base.specs.View.{View};
@@ -13,7 +13,7 @@ use codec_base::{Duplicate, EncodeSize, Read, Write};
 use volume_base::{JournalError, Volume};
 
 /// A run of items in a log.
-pub trait Contiguous: Sized {
+pub trait Contiguous: Sized + Drop {
     /// What it holds.
     type Item: Write + EncodeSize + Read + Duplicate + Drop;
 
@@ -32,6 +32,8 @@ pub trait Contiguous: Sized {
         ensures pruned { V.tells → (p : ℕ) → IsErrOf result (ItemPruned p) → (p ≡ position) × (position < ((V.state vol.old).log (view self.now).name).start) }
         ensures out_of_range { V.tells → (p : ℕ) → IsErrOf result (ItemOutOfRange p) → (p ≡ position) × (end_of ((V.state vol.old).log (view self.now).name) ≤ position) }
         ensures corrupt { V.tells → (p : ℕ) → IsErrOf result (Corruption p) → (p ≡ position) × IsCorrupt Self.Item.spelling (Self.Item.admits (view self.now).codec) ((V.state vol.old).log (view self.now).name) position }
+        // Where the log is a run of a list, it is the item of the list.
+        ensures listed { V.tells → (list : List Self.Item) (x : Self.Item) → Spells Self.Item.spelling list ((V.state vol.old).log (view self.now).name) → ((V.state vol.old).log (view self.now).name).start ≤ position → slice_get list position ≡ Some x → Self.Item.admits (view self.now).codec x → IfOk result (λ item. item ≡ x) }
         ensures errors { IfErr result IsOfRead }
         ensures answers { Reads V.tells Volume (V.state vol.old) (V.state vol.new) result }
         ensures reads { (V.state vol.new).reads ≡ min ((V.state vol.old).reads + 1) (2 ^ 64 - 1) };

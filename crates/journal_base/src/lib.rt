@@ -4,16 +4,21 @@
 mod backing;
 mod contiguous;
 mod journal;
+mod laws;
 mod matching;
 mod mutable;
 mod recovery;
 mod replay;
 mod ticket;
 
-pub use backing::{Backing, BackingRecovery, backing_laws};
+pub use backing::{Backing, BackingRecovery};
 pub use contiguous::Contiguous;
 pub use journal::{Fixed, FixedJournal, Journal, JournalConfig, Kind, Variable, VariableJournal};
+pub use laws::{backing_laws, run_laws};
 pub use mutable::Mutable;
 pub use recovery::Recovery;
 pub use replay::Replay;
 pub use ticket::SyncTicket;
+
+#[cfg(test)]
+mod tests;

@@ -75,6 +75,7 @@ pub trait Mutable: Contiguous {
         ensures made { IfOk result (λ made. Self.view made.0 ≡ after_sync (Self.view self) (is_failed made.1)) }
         ensures contents { V.tells → (V.state vol.new).log (Self.view self).name ≡ (V.state vol.old).log (Self.view self).name }
         ensures durable { IfOk result (λ made. made.1 ≡ SyncTicket.Done → V.tells → OnlyLeft ((V.state vol.new).log_left (V.state vol.new).clock (Self.view self).name) ((V.state vol.new).log (Self.view self).name)) }
+        ensures not_volume { one_log → (Self.view self).failed ≡ false → IsErrOf result Volume → ⊥ }
         ensures failed { IfOk result (λ made. made.1 ≡ SyncTicket.Failed → Rose (V.state vol.old).faults (V.state vol.new).faults) }
         ensures others { one_log → V.tells → OnlyLog (Self.view self).name (V.state vol.old) (V.state vol.new) }
         ensures images { one_log → V.tells → LogMoves (Self.view self).name Stays (V.state vol.old) (V.state vol.new) }

@@ -1,5 +1,6 @@
 use Rattle.std.proofs.Common.{rules, ℕ, ◌-◌, arith, refl, sym, subst}
 use Rattle.volume_base.specs.Log.{Log, IsItemAt}
+use Rattle.journal_base.specs.Items.{IsCorrupt}
 use Rattle.journal_base.proofs.MatchLemmas.{within_later, none_more}
 use Rattle.journal_base.proofs.ReadLemmas.{only_read_none, only_read_joins, reads_joins, reads_of}
 use Rattle.journal_base.proofs.matching.match_below.Goals as goal
@@ -29,12 +30,10 @@ pub returns-in_err-item-clause-corrupt : goal.returns-in_err-item-clause-corrupt
 returns-in_err-item-clause-corrupt g c told p is =
     let name = (g.J.Contiguous.view c.args.journal.now).name in
     let same = (c.loop-end.invariant.so_far.contents told).logs name in
-    let why = c.read.ensures.corrupt told p (search rules) in (
-      omega (arith, why.0, c.bounds-start.ensures.start),
-      omega (arith, why.0),
-      λ x allowed here.
-          why.1 x allowed (subst (λ (l : Log). IsItemAt l (c.loop-end.end - 1) (g.J.Item.Spelled.spelling x)) (sym same) (subst (λ (q : ℕ). IsItemAt ((g.V.Volume.state c.args.vol.now).log name) q (g.J.Item.Spelled.spelling x)) why.0 here)),
-    )
+    let why = c.read.ensures.corrupt told p (search rules) in
+    let there = subst (λ (l : Log). IsCorrupt g.J.Item.Spelled.spelling (g.J.Item.Read.admits (g.J.Contiguous.view c.args.journal.now).codec) l (c.loop-end.end - 1)) same why.1 in
+    let here = subst (λ (q : ℕ). IsCorrupt g.J.Item.Spelled.spelling (g.J.Item.Read.admits (g.J.Contiguous.view c.args.journal.now).codec) ((g.V.Volume.state c.args.vol.now).log name) q) (sym why.0) there in
+    (omega (arith, why.0, c.bounds-start.ensures.start), omega (arith, why.0), here)
 
 pub returns-in_err-item-clause-answers : goal.returns-in_err-item-clause-answers
 returns-in_err-item-clause-answers g c = reads_joins _ _ _ _ _ _ _ c.loop-end.invariant.so_far c.read.ensures.answers (λ is. search rules)

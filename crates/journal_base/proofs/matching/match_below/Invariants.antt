@@ -1,4 +1,4 @@
-use Rattle.std.proofs.Common.{◌≡◌, ℕ, ◌+◌, ◌≤◌, min}
+use Rattle.std.proofs.Common.{◌+◌, ◌≤◌, min}
 use Rattle.std.specs.Fn.{FnReturnsAt}
 use Rattle.journal_base.specs.Matches.{NoneMatches}
 use Rattle.journal_base.proofs.ReadLemmas.{OnlyRead}

@@ -1,4 +1,4 @@
-use Rattle.std.proofs.Common.{◌≡◌, ℕ, ◌+◌, ◌≤◌, take, string_bytes}
+use Rattle.std.proofs.Common.{◌+◌, ◌≤◌, take, string_bytes}
 use Rattle.journal_base.specs.Reads.{AreItemsAt}
 use Rattle.journal_base.proofs.ReadLemmas.{OnlyRead}
 use Rattle.journal_base.proofs.journal.JournalContiguous.read_many.Given as goal

@@ -1,0 +1,270 @@
+use super::*;
+use codec_base::{Bytes, LengthCfg, U64};
+use memory_volume::{LogChoice, MemoryVolume};
+use std::alloc::Global;
+use std::num::NonZeroU64;
+use std::process::Abort;
+use std::test::Fail;
+use volume_base::{JournalError, Volume, VolumeError};
+
+fn config<C: Drop>(alloc: Global, codec: C) -> Result<JournalConfig<C>, Fail> {
+    Ok(JournalConfig {
+        name: String::from_str(alloc, "log")?,
+        items_per_blob: NonZeroU64::new(2).ok_or("no blob")?,
+        codec,
+    })
+}
+
+fn numbers(alloc: Global, count: u64) -> Result<Vec<U64>, Fail> {
+    let mut items = Vec::new(alloc);
+    for number in 0..count {
+        items.push(U64::new(number))?;
+    }
+    Ok(items)
+}
+
+/// Opens a journal at its log's end.
+fn open<J: Backing, V: Volume>(vol: &mut V, cfg: J::Config) -> Result<J, JournalError> {
+    let recovery = J::recover(vol, cfg, None)?;
+    let (_, end) = recovery.bounds();
+    let journal = recovery.finish(vol, end)?;
+    Ok(journal)
+}
+
+/// A journal of five numbers, of which the first blob is gone.
+fn numbered<V: Volume>(alloc: Global, vol: &mut V) -> Result<FixedJournal<U64>, Fail> {
+    let journal: FixedJournal<U64> = open(vol, config(alloc, ())?)?;
+    let (journal, last) = journal.append_many(vol, &numbers(alloc, 5)?)?;
+    let (journal, _) = journal.prune(vol, last - last.min(1))?;
+    let journal = journal.commit(vol)?;
+    Ok(journal)
+}
+
+#[test]
+fn refuses_by_name(rt: HostRuntime) -> Result<(), Fail> {
+    let alloc = rt.alloc();
+    let mut vol = MemoryVolume::new(alloc);
+    let journal = numbered(alloc, &mut vol)?;
+    assert_eq!(rt; journal.bounds(), (2, 5));
+    assert_eq!(rt;
+        journal.read(&mut vol, 1).err(),
+        Some(JournalError::ItemPruned(1))
+    );
+    assert_eq!(rt;
+        journal.read(&mut vol, 5).err(),
+        Some(JournalError::ItemOutOfRange(5))
+    );
+    assert_eq!(rt;
+        journal.replay(1, 0).err(),
+        Some(JournalError::ItemPruned(1))
+    );
+    assert_eq!(rt;
+        journal.replay(2, 6).err(),
+        Some(JournalError::ItemOutOfRange(6))
+    );
+    let nothing = journal.append_many(&mut vol, &[]).err();
+    assert_eq!(rt; nothing, Some(JournalError::EmptyAppend));
+    let cfg = config(alloc, ())?;
+    let cleared = FixedJournal::<U64>::clear(&mut vol, cfg, u64::MAX).err();
+    assert_eq!(rt; cleared, Some(JournalError::SizeOverflow));
+    let capped = FixedJournal::<U64>::recover(&mut vol, config(alloc, ())?, Some(1)).err();
+    assert_eq!(rt; capped, Some(JournalError::ItemPruned(1)));
+    Ok(())
+}
+
+/// A journal of six numbers whose last sync has failed inside `start_sync`.
+fn unsynced(
+    rt: &impl Abort,
+    alloc: Global,
+    vol: &mut MemoryVolume,
+) -> Result<FixedJournal<U64>, Fail> {
+    let journal = numbered(alloc, vol)?;
+    vol.fail_call(1)?;
+    let (journal, ticket) = journal.start_sync(vol)?;
+    assert_eq!(rt; ticket.settle(), Err(VolumeError::Failed));
+    let (journal, position) = journal.append(vol, &U64::new(5))?;
+    assert_eq!(rt; position, 5);
+    Ok(journal)
+}
+
+#[test]
+fn keeps_a_failed_started_sync_until_it_is_opened_again(rt: HostRuntime) -> Result<(), Fail> {
+    let alloc = rt.alloc();
+    for call in 0..4 {
+        let mut vol = MemoryVolume::new(alloc);
+        let journal = unsynced(&rt, alloc, &mut vol)?;
+        let error = match call {
+            0 => journal.commit(&mut vol).err(),
+            1 => journal.sync(&mut vol).err(),
+            2 => journal.start_sync(&mut vol).err(),
+            _ => journal.prune(&mut vol, 4).err(),
+        };
+        assert_eq!(rt; error, Some(JournalError::Volume));
+        let journal: FixedJournal<U64> = open(&mut vol, config(alloc, ())?)?;
+        let (journal, ticket) = journal.start_sync(&mut vol)?;
+        assert_eq!(rt; ticket.settle(), Ok(()));
+        let journal = journal.commit(&mut vol)?;
+        assert_eq!(rt; journal.bounds(), (2, 6));
+    }
+    Ok(())
+}
+
+#[test]
+fn an_unsynced_append_leaves_any_front(rt: HostRuntime) -> Result<(), Fail> {
+    let alloc = rt.alloc();
+    let mut vol = MemoryVolume::new(alloc);
+    let journal: VariableJournal<Bytes> = open(&mut vol, config(alloc, LengthCfg { max: 9 })?)?;
+    let words = [
+        Bytes::from_slice(alloc, b"one")?,
+        Bytes::from_slice(alloc, b"two")?,
+        Bytes::from_slice(alloc, b"three")?,
+    ];
+    let (journal, _) = journal.append(&mut vol, &words[0])?;
+    let journal = journal.commit(&mut vol)?;
+    let (journal, last) = journal.append_many(&mut vol, &words)?;
+    assert_eq!(rt; last, 3);
+    for (end, left) in [(0, 1), (1, 1), (2, 2), (3, 3), (4, 4), (9, 4)] {
+        let choice = LogChoice {
+            name: Bytes::from_slice(alloc, b"log")?,
+            version: 0,
+            start: 0,
+            end,
+        };
+        let mut image = vol.crash(&[choice])?;
+        let cfg = config(alloc, LengthCfg { max: 9 })?;
+        assert_eq!(rt;
+            VariableJournal::<Bytes>::span(&mut image, &cfg)?,
+            (0, left)
+        );
+    }
+    assert_eq!(rt; journal.bounds(), (0, 4));
+    Ok(())
+}
+
+/// Goes through the calls of a journal of at least three items. It answers the end behind the last match, and how many items were read.
+fn tour<J: Backing, V: Volume, P: Fn(&J::Item) -> bool>(
+    vol: &mut V,
+    first: J::Config,
+    second: J::Config,
+    items: &[J::Item],
+    predicate: P,
+) -> Result<(u64, u64), JournalError>
+    requires { P.IsAlwaysCallable predicate }
+{
+    let journal: J = open(vol, first)?;
+    let (journal, last) = journal.append_many(vol, items)?;
+    let journal = journal.sync(vol)?;
+    let (journal, _) = journal.prune(vol, 2)?;
+    let (start, end) = journal.bounds();
+    let mut count = journal.read_many(vol, &[start, last])?.len() as u64;
+    let mut replay = journal.replay(start, end)?;
+    for _ in 0..9 {
+        match replay.next(vol) {
+            None => break,
+            Some(Err(error)) => return Err(error),
+            Some(Ok(_)) => count = count.saturating_add(1),
+        }
+    }
+    let recovery = J::recover(vol, second, Some(end))?;
+    let found = recovery.last_matching(vol, end, predicate)?;
+    let _last = recovery.read(vol, last)?;
+    recovery.reset(vol, end)?.finish(vol, end)?.destroy(vol)?;
+    Ok((found, count))
+}
+
+#[test]
+fn goes_through_its_calls_at_both_kinds_of_items(rt: HostRuntime) -> Result<(), Fail> {
+    let alloc = rt.alloc();
+    let mut vol = MemoryVolume::new(alloc);
+    let fixed = tour::<FixedJournal<U64>, MemoryVolume, _>(
+        &mut vol,
+        config(alloc, ())?,
+        config(alloc, ())?,
+        &numbers(alloc, 5)?,
+        |item: &U64| item.get() < 4,
+    )?;
+    assert_eq!(rt; fixed, (4, 5));
+    let words = [
+        Bytes::from_slice(alloc, b"one")?,
+        Bytes::from_slice(alloc, b"three")?,
+        Bytes::from_slice(alloc, b"four")?,
+    ];
+    let variable = tour::<VariableJournal<Bytes>, MemoryVolume, _>(
+        &mut vol,
+        config(alloc, LengthCfg { max: 9 })?,
+        config(alloc, LengthCfg { max: 9 })?,
+        &words,
+        |item: &Bytes| item.len() == 4,
+    )?;
+    assert_eq!(rt; variable, (3, 3));
+    Ok(())
+}
+
+#[test]
+fn opens_by_steps(rt: HostRuntime) -> Result<(), Fail> {
+    let alloc = rt.alloc();
+    let mut vol = MemoryVolume::new(alloc);
+    let _journal = numbered(alloc, &mut vol)?;
+    let recovery = FixedJournal::<U64>::recover(&mut vol, config(alloc, ())?, Some(4))?;
+    assert_eq!(rt; recovery.bounds(), (2, 4));
+    let none = recovery.last_matching(&mut vol, 9, |item: &U64| item.get() < 2);
+    assert_eq!(rt; none, Err(JournalError::ItemPruned(2)));
+    let recovery = recovery.unbounded(&mut vol)?;
+    assert_eq!(rt; recovery.bounds(), (2, 5));
+    let recovery = recovery.prune(&mut vol, 4)?;
+    assert_eq!(rt; recovery.bounds(), (4, 5));
+    let recovery = recovery.truncate(&mut vol, 4)?;
+    assert_eq!(rt; recovery.bounds(), (4, 4));
+    let recovery = recovery.clear_to_size(&mut vol, 7)?;
+    let journal = recovery.finish(&mut vol, 8)?;
+    assert_eq!(rt; journal.bounds(), (7, 7));
+    let journal = journal.clear_to_size(&mut vol, 1)?;
+    assert_eq!(rt; journal.bounds(), (1, 1));
+    assert_eq!(rt;
+        journal.clear_to_size(&mut vol, u64::MAX).err(),
+        Some(JournalError::SizeOverflow)
+    );
+    Ok(())
+}
+
+/// What a call answers where one of its calls of the volume fails.
+fn answer_of(alloc: Global, call: usize, failing: u64) -> Result<Option<JournalError>, Fail> {
+    let mut vol = MemoryVolume::new(alloc);
+    let journal = numbered(alloc, &mut vol)?;
+    let cfg = config(alloc, ())?;
+    let recovery = FixedJournal::<U64>::recover(&mut vol, config(alloc, ())?, None)?;
+    vol.fail_call(failing)?;
+    Ok(match call {
+        0 => journal.commit(&mut vol).err(),
+        1 => journal.destroy(&mut vol).err(),
+        2 => journal.read(&mut vol, 3).err(),
+        3 => FixedJournal::<U64>::recover(&mut vol, cfg, None).err(),
+        4 => FixedJournal::<U64>::clear(&mut vol, cfg, 3).err(),
+        5 => journal.append(&mut vol, &U64::new(5)).err(),
+        6 => journal.append_many(&mut vol, &numbers(alloc, 2)?).err(),
+        7 => journal.prune(&mut vol, 4).err(),
+        8 => recovery.truncate(&mut vol, 3).err(),
+        9 => recovery.prune(&mut vol, 4).err(),
+        10 => recovery
+            .last_matching(&mut vol, 5, |item: &U64| item.get() < 4)
+            .err(),
+        _ => recovery.finish(&mut vol, 3).err(),
+    })
+}
+
+#[test]
+fn answers_a_failed_call_of_the_volume(rt: HostRuntime) -> Result<(), Fail> {
+    let counts = [1, 1, 1, 1, 1, 2, 2, 2, 2, 2, 2, 3];
+    for (call, count) in counts.iter().enumerate() {
+        for failing in 1..4 {
+            let error = answer_of(rt.alloc(), call, failing)?;
+            let want = if failing <= *count {
+                Some(JournalError::Volume)
+            } else {
+                None
+            };
+            assert_eq!(rt; error, want);
+        }
+    }
+    Ok(())
+}
