@@ -1,0 +1,3 @@
+mod RebuildLemmas
+mod PeakLemmas
+mod WalkLemmas

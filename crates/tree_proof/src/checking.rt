@@ -1,0 +1,72 @@
+//! Whether a proof shows that items stand in a tree.
+ghost use Rattle.std.specs.Prelude.{◌≡◌, ◌↔◌, ◌+◌, ◌≤◌, ◌^◌, length, IfOk, IsTrue};
+ghost use Rattle.tree_proof.specs.Check.{Checks, IsInBounds, rebuilt_root};
+
+use crate::Proof;
+use crate::peaks::rebuild_peaks;
+use codec_base::Bytes;
+use std::alloc::{AllocError, Global};
+use tree_shape::{Digest, Family, Hasher, Location, Standard, root_of_peaks};
+
+/// Whether so many items from a leaf on, and the inactive peaks, are within the proof's leaves.
+fn is_in_bounds<F: Family, D>(proof: &Proof<F, D>, start: u64, count: u64) -> bool
+    ensures { IsTrue result ↔ IsInBounds F.shape proof.now start count }
+{
+    let leaves = proof.leaves.as_u64();
+    count > 0
+        && proof.leaves.is_valid()
+        && start <= leaves
+        && count <= leaves - start
+        && proof.inactive_peaks <= u64::from(F::peak_count(leaves))
+}
+
+/// The root that the proof and the items give, where the digests are as many as the cover's nodes.
+fn rebuild_root<F: Family, H: Hasher>(
+    alloc: Global,
+    hasher: &Standard<H>,
+    proof: &Proof<F, H::Digest>,
+    start: u64,
+    items: &[Bytes],
+) -> Result<Option<H::Digest>, AllocError>
+    requires { IsInBounds F.shape proof.now start (length items.now) }
+    ensures { IfOk result (λ r. r ≡ rebuilt_root F.shape H.hash hasher.now proof.now start items.now) }
+{
+    let leaves = proof.leaves.as_u64();
+    let digests = proof.digests.as_slice();
+    match rebuild_peaks::<F, H>(alloc, hasher, start, items, leaves, digests)? {
+        None => Ok(None),
+        Some(peaks) => {
+            let inactive = proof.inactive_peaks as usize;
+            Ok(Some(root_of_peaks(hasher, leaves, inactive, &peaks)))
+        }
+    }
+}
+
+/// Whether two digests are one.
+fn is_same<D: Digest>(a: &D, b: &D) -> bool
+    ensures { IsTrue result ↔ (a.now ≡ b.now) }
+{
+    a.as_slice() == b.as_slice()
+}
+
+/// Whether the proof shows that the elements stand from `start` on in the tree with this root. It takes memory for the
+/// peaks alone, and hashes no node that it isn't handed the parts of.
+pub fn verify<F: Family, H: Hasher>(
+    alloc: Global,
+    hasher: &Standard<H>,
+    proof: &Proof<F, H::Digest>,
+    start: Location<F>,
+    elements: &[Bytes],
+    root: &H::Digest,
+) -> Result<bool, AllocError>
+    ensures { IfOk result (λ shown. IsTrue shown ↔ Checks F.shape H.hash hasher.now proof.now start elements.now root.now) }
+{
+    let start = start.as_u64();
+    if !is_in_bounds(proof, start, elements.len() as u64) {
+        return Ok(false);
+    }
+    match rebuild_root(alloc, hasher, proof, start, elements)? {
+        None => Ok(false),
+        Some(rebuilt) => Ok(is_same(&rebuilt, root)),
+    }
+}
