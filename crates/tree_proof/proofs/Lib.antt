@@ -1,3 +1,5 @@
 mod RebuildLemmas
 mod PeakLemmas
 mod WalkLemmas
+mod Complete
+mod CoverCount

@@ -66,7 +66,7 @@ module _ {D : Type 0} (s : Shape) (h : Hashing D) (met : Met) (leaf_of : ℕ →
   unfolding rebuilt_over
   over-some acc x k ps ds es d e = rw e (prepended-before acc d (rebuilt_over s h met leaf_of ps es))
 
-append_nil : {X : Type 0} (xs : List X) → xs ++ [] ≡ xs
+pub append_nil : {X : Type 0} (xs : List X) → xs ++ [] ≡ xs
 append_nil [] = refl
 append_nil (x ∷ xs) = ap (λ ys. x ∷ ys) (append_nil xs)
 

@@ -1,2 +1,3 @@
 pub mod Cover
 pub mod Check
+pub mod SlowProof

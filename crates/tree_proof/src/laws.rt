@@ -1,0 +1,23 @@
+//! What holds of every proof.
+ghost use Rattle.std.specs.Prelude.{◌≡◌, ◌+◌, ℕ, List, length, slice_range};
+ghost use Rattle.tree_shape.specs.Slow.{leaf_digests};
+ghost use Rattle.tree_shape.specs.Root.{root};
+ghost use Rattle.tree_shape.specs.declared.bagging.Bagging.{Bagging};
+ghost use Rattle.tree_proof.specs.declared.proof.Proof.{Proof};
+ghost use Rattle.tree_proof.specs.Cover.{meets, cover};
+ghost use Rattle.tree_proof.specs.Check.{Checks};
+ghost use Rattle.tree_proof.specs.SlowProof.{IsRange, slow_proof};
+
+use tree_shape::{Family, Hasher};
+
+/// The proof that has the slow nodes of the cover shows its range of the elements in the tree with their slow root.
+pub fn slow_proof_law<F: Family, H: Hasher>()
+    ensures { (bagging : Bagging) (elements : List (List ℕ)) (inactive a b : ℕ) → IsRange F.shape elements inactive a b →
+        Checks {F = F} F.shape H.hash bagging (slow_proof F.shape H.hash elements inactive a b) a (slice_range elements a b) (root F.shape H.hash (leaf_digests F.shape H.hash elements) inactive bagging) }
+{}
+
+/// A proof that shows something has as many digests as the cover has nodes.
+pub fn cover_count_law<F: Family, H: Hasher>()
+    ensures { (bagging : Bagging) (proof : Proof F H.Digest) (a : ℕ) (items : List (List ℕ)) (r : H.Digest) →
+        Checks F.shape H.hash bagging proof a items r → length proof.digests ≡ length (cover F.shape (meets a (a + length items)) proof.leaves) }
+{}
