@@ -10,3 +10,6 @@ mod rebuild;
 pub use checking::verify;
 pub use laws::{cover_count_law, slow_proof_law};
 pub use proof::Proof;
+
+#[cfg(test)]
+mod tests;
