@@ -9,3 +9,7 @@ pub mod FoldLemmas
 pub mod TreeLemmas
 pub mod ApplyLemmas
 pub mod StoreLemmas
+pub mod PinnedLemmas
+pub mod BuiltLemmas
+pub mod PinningLemmas
+pub mod RebuiltLemmas

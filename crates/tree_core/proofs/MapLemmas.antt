@@ -22,7 +22,7 @@ key_apart k q ne = elim (leb_tells (suc k) q) [
   ]
 ]
 
-key_same : (k q : ℕ) → is_at (nat_cmp k) q ≡ true → k ≡ q
+pub key_same : (k q : ℕ) → is_at (nat_cmp k) q ≡ true → k ≡ q
 key_same k q t = elim (eqb_tells k q) [
   | inl e ↦ e.1
   | inr e ↦ absurd (let f = key_apart k q e.1 in cc)

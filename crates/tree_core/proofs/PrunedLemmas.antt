@@ -38,7 +38,7 @@ tree_node s h all n p x k g d t stands e =
     slice_get-map (node_of s h all) (made s (length all)) p ∙ ap (λ m. option_map (node_of s h all) (slice_get (made s m) p)) (sym t.count) ∙ ap (option_map (node_of s h all)) stands in
     same_Some d (node s h all x k) (sym (t.right p d (sym e)) ∙ slow)
 
-peak_at_true : (s : Shape) (e : ℕ) (hs : List ℕ) (x k : ℕ) → PeakIn e hs x k → is_peak_at s e hs (s.position x k) ≡ true
+pub peak_at_true : (s : Shape) (e : ℕ) (hs : List ℕ) (x k : ℕ) → PeakIn e hs x k → is_peak_at s e hs (s.position x k) ≡ true
 peak_at_true s e [] x k p = absurd p
 peak_at_true s e (c ∷ cs) x k p = elim (eqb_tells (s.position (e - 2 ^ c) c) (s.position x k)) [
   | inl t ↦ rw t.0 refl

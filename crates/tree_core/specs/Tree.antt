@@ -1,13 +1,15 @@
 -- A tree in memory, as contracts see it.
-use Rattle.std.specs.Prelude.{◌≡◌, ℕ, ◌+◌, ◌^◌, ◌≤◌, List, [], length, Option, Result, Ok, Err, nat_le, if◌then◌else◌}
+use Rattle.std.specs.Prelude.{◌≡◌, ℕ, ◌+◌, ◌-◌, ◌^◌, ◌<◌, ◌≤◌, min, List, [], length, Option, None, Result, Ok, Err, slice_get, is_some, false, nat_le, if◌then◌else◌}
 use Rattle.std.specs.Map.{lookup}
 use Rattle.std.specs.BTreeMap.{is_at}
 use Rattle.std.specs.Ordering.{nat_cmp}
 use Rattle.tree_shape.specs.Hashing.{Hashing}
 use Rattle.tree_shape.specs.Shape.{Shape, made}
 use Rattle.tree_core.specs.declared.error.Error.{Error}
-use Rattle.tree_core.specs.declared.error.Error.TheVariants.{LocationOverflow, LeafOutOfBounds}
-use Rattle.tree_core.specs.Pruned.{IsPruned, IsTreeOf, pruned, Extends}
+use Rattle.tree_core.specs.declared.error.Error.TheVariants.{LocationOverflow, LeafOutOfBounds, InvalidPinnedNodes, MissingNode, Memory}
+use Rattle.tree_shape.specs.Sizes.{HasSize}
+use Rattle.tree_core.specs.Pruned.{IsPruned, IsTreeOf, keeps, pruned, Extends}
+use Rattle.tree_core.specs.Reading.{ArePeaks}
 
 -- the number of leaves, where it is pruned, and the kept nodes with their positions
 pub record Tree (D : Type 0) : Type 0 where
@@ -54,3 +56,32 @@ pub record IsGrown {D : Type 0} (s : Shape) (later : ℕ) (more : List D) (t u :
   pub leaves : u.leaves ≡ t.leaves + later
   pub boundary : u.boundary ≡ t.boundary
   pub nodes : Extends (node_at t) (node_at u) (length (made s t.leaves)) more
+
+-- t is pruned at b: its nodes from there on are these, the peaks of b leaves, the oldest first, are these pins, and no other node is kept
+pub record IsBuilt {D : Type 0} (s : Shape) (b : ℕ) (more pinned : List D) (t : Tree D) : Type 0 where
+  pub leaves : HasSize s t.leaves (length (made s b) + length more)
+  pub within : b ≤ t.leaves
+  pub boundary : t.boundary ≡ b
+  pub nodes : (i : ℕ) → node_at t (length (made s b) + i) ≡ slice_get more i
+  pub pins : ArePeaks s b (λ x k. node_at t (s.position x k)) pinned
+  pub others : (p : ℕ) → keeps s b p ≡ false → node_at t p ≡ None
+
+-- why a tree pruned at b can't be built: b is too great, or its peaks are more or fewer than the pins,
+-- or no number of leaves ends where the nodes do, and the first that isn't there is named
+abbrev pub NotBuilt : {F : Type 0} → Shape → ℕ → ℕ → ℕ → Error F → Type 0
+NotBuilt s b nodes pinned (LocationOverflow loc) = (loc ≡ b) × (2 ^ 62 < b)
+NotBuilt s b nodes pinned InvalidPinnedNodes = (b ≤ 2 ^ 62) × (pinned ≡ length (s.heights b) → ⊥)
+NotBuilt s b nodes pinned (MissingNode p) =
+    (b ≤ 2 ^ 62) × (pinned ≡ length (s.heights b)) × (p ≡ min (length (made s b) + nodes) (2 ^ 64 - 1)) × ((n : ℕ) → HasSize s n (length (made s b) + nodes) → ⊥)
+NotBuilt s b nodes pinned Memory = (b ≤ 2 ^ 62) × (pinned ≡ length (s.heights b)) × ((n : ℕ) × HasSize s n (length (made s b) + nodes))
+NotBuilt s b nodes pinned _ = ⊥
+
+-- what stands here, or else there
+abbrev pub either : {D : Type 0} → Option D → Option D → Option D
+either a b = if is_some a then a else b
+
+-- u is t with these pins where it has no node
+pub record IsPinned {D : Type 0} (pins : ℕ → Option D) (t u : Tree D) : Type 0 where
+  pub leaves : u.leaves ≡ t.leaves
+  pub boundary : u.boundary ≡ t.boundary
+  pub nodes : (p : ℕ) → node_at u p ≡ either (node_at t p) (pins p)

@@ -1,12 +1,16 @@
 //! Nodes in a map by position: which a prune keeps, and putting in all or none.
-ghost use Rattle.std.specs.Prelude.{◌≡◌, ℕ, ◌+◌, ◌≤◌, ◌<◌, ◌^◌, length, OnOk, OnErr, None};
+ghost use Rattle.std.specs.Prelude.{◌≡◌, ℕ, ◌+◌, ◌-◌, ◌≤◌, ◌<◌, ◌^◌, min, length, OnOk, OnErr, IfOk, IfErr, false, None};
 ghost use Rattle.std.specs.BTreeMap.{get};
 ghost use Rattle.std.specs.Ordering.{nat_cmp};
+ghost use Rattle.tree_shape.specs.Shape.{made};
+ghost use Rattle.tree_shape.specs.Sizes.{HasSize};
 ghost use Rattle.tree_core.specs.Pruned.{is_peak_at, keeps, Extends};
+ghost use Rattle.tree_core.specs.Reading.{ArePeaks};
 
-use std::alloc::AllocError;
+use crate::Error;
+use std::alloc::{AllocError, Global};
 use std::collections::BTreeMap;
-use tree_shape::{Digest, Family, width};
+use tree_shape::{Digest, Family, Position, width};
 
 /// Whether a peak of this many leaves stands here.
 fn is_peak_position<F: Family>(leaves: u64, position: u64) -> bool
@@ -66,4 +70,39 @@ pub(crate) fn insert_all<D: Digest>(
         }
     }
     Ok(())
+}
+
+/// The peaks of a number of leaves, the oldest first, each at its position.
+pub(crate) fn pins_of<F: Family, D: Digest>(
+    alloc: Global,
+    leaves: u64,
+    pinned: &[D],
+) -> Result<BTreeMap<u64, D>, AllocError>
+    requires few { leaves ≤ 2 ^ 62 }
+    requires counted { length pinned.now ≡ length (F.shape.heights leaves) }
+    ensures pins { IfOk result (λ m. ArePeaks F.shape leaves (λ x k. get nat_cmp m (F.shape.position x k)) pinned.now) }
+    ensures others { IfOk result (λ m. (p : ℕ) → is_peak_at F.shape leaves (F.shape.heights leaves) p ≡ false → get nat_cmp m p ≡ None) }
+{
+    let mut nodes = BTreeMap::new(alloc);
+    let count = F::peak_count(leaves);
+    let mut start = 0;
+    for j in 0..count {
+        let height = F::peak_height(leaves, count - 1 - j);
+        nodes.insert(F::position(start, height), pinned[j as usize])?;
+        start += width(height);
+    }
+    Ok(nodes)
+}
+
+/// The number of leaves whose nodes are those of `boundary` leaves and `more` behind them.
+pub(crate) fn leaves_with<F: Family>(boundary: u64, more: u64) -> Result<u64, Error<F>>
+    requires { boundary ≤ 2 ^ 62 }
+    ensures found { IfOk result (λ n. HasSize F.shape n (length (made F.shape boundary) + more)) }
+    ensures missing { IfErr result (λ e. (e ≡ Error.MissingNode (min (length (made F.shape boundary) + more) (2 ^ 64 - 1))) × ((n : ℕ) → HasSize F.shape n (length (made F.shape boundary) + more) → ⊥)) }
+{
+    let end = F::size(boundary).saturating_add(more);
+    match F::leaves_at(Position::new(end)) {
+        Some(leaves) => Ok(leaves.as_u64()),
+        None => Err(Error::MissingNode(Position::new(end))),
+    }
 }

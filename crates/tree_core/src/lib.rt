@@ -4,15 +4,18 @@
 mod error;
 mod growth;
 mod kept;
+mod laws;
 mod mark;
 mod mem;
 mod peaks;
+mod pinning;
 mod sealed;
 mod segment;
 mod stores;
 mod unsealed;
 
 pub use error::{Error, TreeData};
+pub use laws::rebuilt_roots;
 pub use mem::Mem;
 pub use sealed::MerkleizedBatch;
 pub use stores::{Readable, Storage};

@@ -1,7 +1,8 @@
 use crate::growth::mark_of;
-use crate::kept::{insert_all, is_kept};
+use crate::kept::{insert_all, is_kept, leaves_with, pins_of};
 use crate::mark::Mark;
 use crate::peaks::{Peaks, root_from};
+use crate::pinning::add_pins;
 use crate::segment::{Segment, push_own};
 use crate::{Error, MerkleizedBatch, Readable, Storage, UnmerkleizedBatch};
 use std::alloc::{AllocError, Global};
@@ -45,13 +46,16 @@ impl<F: Family, D: Digest> Peaks<F, D> for Mem<F, D> {
 }
 
 impl<F: Family, D: Digest> Mem<F, D> {
-    ghost use Rattle.std.specs.Prelude.{◌≡◌, ℕ, ◌+◌, ◌≤◌, ◌<◌, ◌^◌, List, [], ◌++◌, length, drop, OnOk, OnErr, IsOk, IfOk, IfErr, IsOkUnless};
+    ghost use Rattle.std.specs.Prelude.{◌≡◌, ℕ, ◌+◌, ◌≤◌, ◌<◌, ◌^◌, List, [], ◌++◌, ◌-◌, length, map, drop, slice_get, Some, OnOk, OnErr, IsOk, IfOk, IfErr, IsOkUnless};
     ghost use Rattle.tree_shape.specs.Hashing.{Hashing};
-    ghost use Rattle.tree_shape.specs.Shape.{made};
+    ghost use Rattle.tree_shape.specs.Shape.{made, peaks};
+    ghost use Rattle.std.specs.BTreeMap.{get};
+    ghost use Rattle.std.specs.Ordering.{nat_cmp};
+    ghost use Rattle.tree_shape.specs.Slow.{node_of, nodes};
     ghost use Rattle.tree_shape.specs.Root.{root, root_over};
-    ghost use Rattle.tree_core.specs.Pruned.{made_from, peaks_at, Extends};
+    ghost use Rattle.tree_core.specs.Pruned.{made_from, nodes_from, peaks_at, Extends};
     ghost use Rattle.tree_core.specs.Reading.{ArePeaks};
-    ghost use Rattle.tree_core.specs.Tree.{Tree, node_at, IsSound, IsOf, IsLike, IsPrunedTo, IsGrown, empty_tree, prune_answer};
+    ghost use Rattle.tree_core.specs.Tree.{Tree, node_at, IsSound, IsOf, IsLike, IsPrunedTo, IsGrown, IsBuilt, NotBuilt, IsPinned, empty_tree, prune_answer};
     ghost use Rattle.tree_core.specs.Batches.{BeginsAt, StandsAt, IsUnsealedOf, IsSealedOf};
     ghost use Rattle.tree_core.specs.Applied.{IsLonger, Fits, Refused};
 
@@ -65,6 +69,37 @@ impl<F: Family, D: Digest> Mem<F, D> {
             nodes: BTreeMap::new(alloc),
             leaves: 0,
             boundary: 0,
+            family: PhantomData,
+        })
+    }
+
+    /// A tree that is pruned at a number of leaves: its peaks there, the oldest first, and its nodes from there on.
+    pub fn init(
+        alloc: Global,
+        nodes: Vec<D>,
+        boundary: Location<F>,
+        pinned: Vec<D>,
+    ) -> Result<Self, Error<F>>
+        ensures built { IfOk result (λ t. IsBuilt F.shape boundary nodes.items pinned.items t) }
+        ensures tree { IfOk result (λ t. (h : Hashing D) (all : List D) → t.leaves ≡ length all → pinned.items ≡ map (node_of F.shape h all) (peaks F.shape boundary) →
+            nodes.items ≡ nodes_from F.shape h all boundary (t.leaves - boundary) → IsOf F.shape h all t) }
+        ensures refused { IfErr result (NotBuilt F.shape boundary (length nodes.items) (length pinned.items)) }
+    {
+        let loc = boundary.as_u64();
+        if loc > MAX_LEAVES {
+            return Err(Error::LocationOverflow(boundary));
+        }
+        if pinned.len() as u64 != u64::from(F::peak_count(loc)) {
+            return Err(Error::InvalidPinnedNodes);
+        }
+        let leaves = leaves_with::<F>(loc, nodes.len() as u64)?;
+        let mut kept = pins_of::<F, D>(alloc, loc, &pinned)?;
+        insert_all(&mut kept, F::size(loc), &nodes)?;
+        Ok(Mem {
+            alloc,
+            nodes: kept,
+            leaves,
+            boundary: loc,
             family: PhantomData,
         })
     }
@@ -150,6 +185,18 @@ impl<F: Family, D: Digest> Mem<F, D> {
             Ok(()) => {}
             Err(_) => unreachable!(),
         }
+    }
+
+    /// Keeps more nodes of this tree, where it has none, until a prune moves the boundary.
+    pub fn add_pinned_nodes(&mut self, pins: BTreeMap<Position<F>, D>) -> Result<(), Error<F>>
+        requires { (p : ℕ) (d : D) → get nat_cmp pins p ≡ Some d → p < length (made F.shape self.old.leaves) }
+        ensures ok { OnOk result (IsPinned (get nat_cmp pins) self.old self.new) }
+        ensures err { OnErr result (IsLike self.old self.new) }
+        ensures tree { (h : Hashing D) (all : List D) → IsOf F.shape h all self.old → ((p : ℕ) (d : D) → get nat_cmp pins p ≡ Some d → slice_get (nodes F.shape h all) p ≡ Some d) → IsOf F.shape h all self.new }
+        ensures memory { IsOkUnless result Error.Memory }
+    {
+        add_pins(&mut self.nodes, pins)?;
+        Ok(())
     }
 
     /// The mark of the tree.

@@ -1,4 +1,6 @@
 use super::*;
+use std::alloc::Global;
+use std::collections::BTreeMap;
 use std::test::Fail;
 
 const ELEMENTS: [&[u8]; 7] = [
@@ -118,4 +120,75 @@ fn the_belt_has_its_shape(rt: HostRuntime) {
         assert_eq!(rt; Mmb::to_nearest_size(Position::new(nodes)).as_u64(), nodes);
         assert_eq!(rt; Mmb::inactive_peaks(location, Location::new(8)), inactive);
     }
+}
+
+/// What memory tells at the positions from one to another.
+fn told<R: Readable>(
+    alloc: Global,
+    memory: &R,
+    first: u64,
+    end: u64,
+) -> Result<Vec<R::Digest>, std::alloc::AllocError> {
+    let mut nodes = Vec::new(alloc);
+    for position in first..end {
+        if let Some(digest) = memory.get_node(Position::new(position)) {
+            nodes.push(digest)?;
+        }
+    }
+    Ok(nodes)
+}
+
+#[test]
+fn a_tree_is_rebuilt_from_its_pins(rt: HostRuntime) -> Result<(), Fail> {
+    rebuilt_roots::<Mmb, Sha256Digest>();
+    let alloc = rt.alloc();
+    let hasher = Standard::<Sha256Hasher>::new(Bagging::BackwardFold);
+    let mut tree = Mem::<Mmb, Sha256Digest>::new(alloc)?;
+    let mut batch = tree.new_batch()?;
+    for element in ELEMENTS {
+        batch.add(&hasher, element)?;
+    }
+    tree.apply_batch(&batch.merkleize(&hasher, 0)?)?;
+    let size = Readable::size(&tree).as_u64();
+    let boundary = Location::new(5);
+    let mut pins = Vec::new(alloc);
+    for pin in Mmb::nodes_to_pin(boundary) {
+        if let Some(digest) = tree.get_node(pin) {
+            pins.push(digest)?;
+        }
+    }
+    let short = Mem::<Mmb, Sha256Digest>::init(
+        alloc,
+        told(alloc, &tree, 8, size)?,
+        boundary,
+        told(alloc, &tree, 7, 8)?,
+    );
+    assert!(rt; short.err() == Some(Error::InvalidPinnedNodes));
+    let far = Mem::<Mmb, Sha256Digest>::init(
+        alloc,
+        Vec::new(alloc),
+        Location::new(MAX_LEAVES + 1),
+        Vec::new(alloc),
+    );
+    assert!(rt; far.err() == Some(Error::LocationOverflow(Location::new(MAX_LEAVES + 1))));
+    let cut = Mem::<Mmb, Sha256Digest>::init(
+        alloc,
+        told(alloc, &tree, 0, 2)?,
+        Location::new(0),
+        Vec::new(alloc),
+    );
+    assert!(rt; cut.err() == Some(Error::MissingNode(Position::new(2))));
+    let mut rebuilt = Mem::init(alloc, told(alloc, &tree, 8, size)?, boundary, pins)?;
+    assert_eq!(rt; rebuilt.leaves().as_u64(), 7);
+    assert!(rt; rebuilt.root(&hasher, 2)? == tree.root(&hasher, 2)?);
+    assert!(rt; rebuilt.get_node(Position::new(2)).is_none());
+    let mut more = BTreeMap::new(alloc);
+    if let Some(digest) = tree.get_node(Position::new(2)) {
+        more.insert(Position::new(2), digest)?;
+    }
+    rebuilt.add_pinned_nodes(more)?;
+    assert!(rt; rebuilt.get_node(Position::new(2)) == tree.get_node(Position::new(2)));
+    rebuilt.prune(Location::new(6))?;
+    assert!(rt; rebuilt.get_node(Position::new(2)).is_none());
+    Ok(())
 }

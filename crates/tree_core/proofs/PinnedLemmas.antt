@@ -1,0 +1,121 @@
+-- The peaks of a number of leaves, each put at its position.
+use Rattle.std.proofs.Common.{◌≡◌, ℕ, zero, suc, ◌+◌, ◌-◌, ◌^◌, ◌<◌, ◌≤◌, inl, inr, List, [], ◌∷◌, length, get_or, true, false, Some, None, Option, refl, sym, ◌∙◌, ap, subst, arith}
+use Rattle.std.specs.Prelude.{slice_get}
+use Rattle.std.specs.BTreeMap.{BTreeMap, get, Updates}
+use Rattle.std.specs.Ordering.{nat_cmp}
+use Rattle.std.proofs.lemmas.Nat.{pow_pos}
+use Rattle.std.proofs.lemmas.Bool.Decides.{eqb_tells}
+use Rattle.std.proofs.lemmas.Option.{some_pair_parts, slice_get_within}
+use Rattle.tree_shape.specs.Shape.{Shape, made, Stands, PeaksStand, IsLawful}
+use Rattle.tree_shape.specs.Kept.{PeakIn, PeakOf}
+use Rattle.tree_shape.specs.Pins.{base}
+use Rattle.tree_shape.proofs.PinLemmas.{base-next}
+use Rattle.tree_core.specs.Pruned.{is_peak_at}
+use Rattle.tree_core.specs.Reading.{ArePeaks}
+use Rattle.tree_core.proofs.FoldLemmas.{in_peaks, oldest_at}
+use Rattle.tree_shape.proofs.NodeLemmas.{low_height}
+use Rattle.tree_shape.proofs.PinLemmas.{base-le}
+use Rattle.tree_core.proofs.PrunedLemmas.{peak_stands, peak_at_true}
+use Rattle.tree_core.proofs.MapLemmas.{key_apart}
+
+-- the first leaf and the height of the j-th oldest peak
+abbrev pub first_at : Shape → ℕ → ℕ → ℕ
+first_at s n j = base n (s.heights n) (length (s.heights n) - j)
+
+abbrev pub height_at : Shape → ℕ → ℕ → ℕ
+height_at s n j = get_or (s.heights n) (length (s.heights n) - 1 - j) 0
+
+pub peak_at : (s : Shape) (n j : ℕ) → j < length (s.heights n) → PeakOf s n (first_at s n j) (height_at s n j)
+peak_at s n j lt =
+    let up : suc (length (s.heights n) - 1 - j) ≡ length (s.heights n) - j = omega arith in
+    let P : ℕ → Type 0 = λ b. PeakOf s n (base n (s.heights n) b) (height_at s n j) in
+    subst P up (in_peaks n (s.heights n) (length (s.heights n) - 1 - j) (omega arith))
+
+-- each begins where the one before ends
+pub first_next : (s : Shape) (n j : ℕ) → IsLawful s → j < length (s.heights n) → first_at s n (suc j) ≡ first_at s n j + 2 ^ height_at s n j
+first_next s n j w lt =
+    let hs = s.heights n in
+    let e : length hs - suc j ≡ length hs - 1 - j = omega arith in
+    let f : suc (length hs - 1 - j) ≡ length hs - j = omega arith in
+    ap (base n hs) e ∙ base-next s (made s n) n hs (length hs - 1 - j) (w.peaks n) (omega arith) ∙ ap (λ b. base n hs b + 2 ^ height_at s n j) f
+
+first_later : (s : Shape) (n i t : ℕ) → IsLawful s → i + t < length (s.heights n) → first_at s n i ≤ first_at s n (i + t)
+first_later s n i zero w lt = let e : i + 0 ≡ i = omega arith in rw e (omega arith)
+first_later s n i (suc t) w lt =
+    let e : i + suc t ≡ suc (i + t) = omega arith in
+    let before = first_later s n i t w (omega arith) in
+    let next = first_next s n (i + t) w (omega arith) in
+    rw e (omega arith)
+
+first_rises : (s : Shape) (n i j : ℕ) → IsLawful s → i < j → j < length (s.heights n) → first_at s n i < first_at s n j
+first_rises s n i j w lt less =
+    let e : suc i + (j - suc i) ≡ j = omega arith in
+    let next = first_next s n i w (omega arith) in
+    let some = pow_pos (height_at s n i) in
+    let later : first_at s n (suc i) ≤ first_at s n j = rw e at (first_later s n (suc i) (j - suc i) w (omega arith)) in
+    omega arith
+
+-- two peaks stand apart
+peaks_apart : (s : Shape) (n i j : ℕ) → IsLawful s → i < j → j < length (s.heights n)
+    → s.position (first_at s n j) (height_at s n j) ≡ s.position (first_at s n i) (height_at s n i) → ⊥
+peaks_apart s n i j w lt less same =
+    let one = peak_stands s (made s n) n (s.heights n) (first_at s n i) (height_at s n i) (w.peaks n) (peak_at s n i (omega arith)) in
+    let two = peak_stands s (made s n) n (s.heights n) (first_at s n j) (height_at s n j) (w.peaks n) (peak_at s n j less) in
+    let parts = some_pair_parts (first_at s n j) (first_at s n i) (height_at s n j) (height_at s n i) (sym two ∙ ap (slice_get (made s n)) same ∙ one) in
+    let rises = first_rises s n i j w lt less in
+    absurd (omega (arith, parts.0))
+
+-- the first j pins are at their positions, and nothing else is there
+pub record PinnedSo {D : Type 0} (s : Shape) (n : ℕ) (g : ℕ → Option D) (ds : List D) (j : ℕ) : Type 0 where
+  pub told : (i : ℕ) (d : D) → i < j → g (s.position (first_at s n i) (height_at s n i)) ≡ Some (get_or ds i d)
+  pub others : (p : ℕ) → is_peak_at s n (s.heights n) p ≡ false → g p ≡ None
+
+pub none_pinned : {D : Type 0} (s : Shape) (n : ℕ) (g : ℕ → Option D) (ds : List D) → ((p : ℕ) → g p ≡ None) → PinnedSo s n g ds 0
+none_pinned s n g ds none = record { told = λ i d lt. absurd (omega arith); others = λ p e. none p }
+
+pub pinned_step : {D : Type 0} (s : Shape) (n j : ℕ) (l m : BTreeMap ℕ D) (ds : List D) (v : D) → IsLawful s → j < length (s.heights n) → ((d : D) → v ≡ get_or ds j d)
+    → PinnedSo s n (get nat_cmp l) ds j → Updates nat_cmp l m (s.position (first_at s n j) (height_at s n j)) (Some v) → PinnedSo s n (get nat_cmp m) ds (suc j)
+pinned_step s n j l m ds v w lt is before u = record {
+  told = λ i d less. elim (eqb_tells i j) [
+    | inl e ↦ rw e.1 (u.1 ∙ ap Some (is d))
+    | inr e ↦
+        let early : i < j = omega (arith, e.1) in
+        u.2 (s.position (first_at s n i) (height_at s n i)) (key_apart (s.position (first_at s n j) (height_at s n j)) (s.position (first_at s n i) (height_at s n i)) (peaks_apart s n i j w early lt)) ∙ before.told i d early
+  ];
+  others = λ p none.
+      u.2 p (key_apart (s.position (first_at s n j) (height_at s n j)) p (λ same. let here = peak_at_true s n (s.heights n) (first_at s n j) (height_at s n j) (peak_at s n j lt) in absurd (let other = ap (is_peak_at s n (s.heights n)) same in cc)))
+      ∙ before.others p none;
+}
+
+pub all_pinned : {D : Type 0} (s : Shape) (n j : ℕ) (g : ℕ → Option D) (ds : List D) → length ds ≡ length (s.heights n) → length (s.heights n) ≤ j → PinnedSo s n g ds j → ArePeaks s n (λ x k. g (s.position x k)) ds
+all_pinned s n j g ds l le so = record { counted = l; told = λ i d lt. so.told i d (omega arith) }
+
+-- each of these peaks stands below the size of their leaves
+pub pins_below : (s : Shape) (cs : List (ℕ × ℕ)) (e : ℕ) (hs : List ℕ) (p : ℕ) → PeaksStand s cs e hs → length cs ≤ p → is_peak_at s e hs p ≡ false
+pins_below s cs e [] p st le = refl
+pins_below s cs e (k ∷ ks) p st le =
+    let within = slice_get_within cs (s.position (e - 2 ^ k) k) (e - 2 ^ k, k) st.1 in
+    elim (eqb_tells (s.position (e - 2 ^ k) k) p) [
+      | inl t ↦ absurd (omega (arith, t.1, within))
+      | inr t ↦ rw t.0 (pins_below s cs (e - 2 ^ k) ks p st.2 le)
+    ]
+
+pub first_is : (s : Shape) (n : ℕ) → IsLawful s → 0 ≡ first_at s n 0
+first_is s n w = oldest_at s n (length (s.heights n) - 0) w (omega arith)
+
+-- what a step to the next peak needs and gives
+pub record StepsTo (s : Shape) (n j start h : ℕ) : Type 0 where
+  pub low : h < 63
+  pub room : start + 2 ^ h ≤ 2 ^ 62
+  pub height : h ≡ height_at s n j
+  pub next : start + 2 ^ h ≡ first_at s n (suc j)
+
+pub steps_to : (s : Shape) (n j start h count : ℕ) → IsLawful s → n ≤ 2 ^ 62 → j < count → count ≡ length (s.heights n) → start ≡ first_at s n j → h ≡ get_or (s.heights n) (count - 1 - j) 0 → StepsTo s n j start h
+steps_to s n j start h count w few lt ec es eh =
+    let hs = s.heights n in
+    let height : h ≡ height_at s n j = eh ∙ ap (λ m. get_or hs (m - 1 - j) 0) ec in
+    let two : 2 ^ h ≡ 2 ^ height_at s n j = ap (λ k. 2 ^ k) height in
+    let after = first_next s n j w (omega arith) in
+    let next : start + 2 ^ h ≡ first_at s n (suc j) = omega arith in
+    let le = base-le n hs (length hs - suc j) in
+    record { low = low_height h (2 ^ 62) (omega arith) (omega arith); room = omega arith; height = height; next = next }
