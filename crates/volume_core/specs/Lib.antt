@@ -20,3 +20,11 @@ pub use Rattle.volume_base.specs.Moments
 pub use Rattle.volume_base.specs.Volume
 pub use Rattle.volume_base.specs.declared.error.JournalError as JournalErrors
 pub use Rattle.volume_base.specs.declared.error.VolumeError as VolumeErrors
+pub use Rattle.journal_base.specs.Answers as JournalAnswers
+pub use Rattle.journal_base.specs.Blobs
+pub use Rattle.journal_base.specs.Items
+pub use Rattle.journal_base.specs.Matches
+pub use Rattle.journal_base.specs.Reads
+pub use Rattle.journal_base.specs.Replays
+pub use Rattle.journal_base.specs.Tickets
+pub use Rattle.journal_base.specs.View
