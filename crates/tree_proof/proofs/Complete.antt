@@ -1,17 +1,17 @@
 -- What a cover's slow nodes rebuild are slow nodes.
-use Rattle.std.proofs.Common.{◌≡◌, ℕ, zero, suc, ◌+◌, ◌-◌, ◌^◌, ◌<◌, ◌≤◌, Bool, true, false, cond, List, [], ◌∷◌, ◌++◌, length, map, take, drop, get_or, Option, Some, None, refl, sym, ◌∙◌, ap, subst, arith, append_assoc, length-drop}
-use Rattle.std.specs.Prelude.{slice_range, slice_index_or}
+use Rattle.std.proofs.Common.{◌≡◌, ℕ, zero, suc, ◌+◌, ◌-◌, ◌^◌, ◌<◌, ◌≤◌, Bool, true, false, cond, List, [], ◌∷◌, ◌++◌, length, map, drop, get_or, Some, refl, sym, ◌∙◌, ap, arith, append_assoc, length-drop}
+use Rattle.std.specs.Prelude.{slice_range}
 use Rattle.std.specs.List.{enumerate_from}
-use Rattle.std.specs.Option.{option_and_then, option_map}
+use Rattle.std.specs.Option.{option_and_then}
 use Rattle.std.proofs.lemmas.List.{map-append, get_or-map, get_or-take, get_or-drop, length-take, length-map}
 use Rattle.std.proofs.lemmas.List.FromFn.{length-enumerate_from, get_or-enumerate_from}
 use Rattle.tree_shape.specs.declared.bagging.Bagging.{Bagging}
 use Rattle.tree_shape.specs.Hashing.{Hashing}
 use Rattle.tree_shape.specs.Shape.{Shape, peaks}
 use Rattle.tree_shape.specs.Slow.{leaf, leaf_at, leaf_digests, node, node_of}
-use Rattle.tree_shape.specs.Root.{root, root_over}
-use Rattle.tree_proof.specs.Cover.{Met, meets, cover_in, cover_over, cover}
-use Rattle.tree_proof.specs.Check.{next_of, joined_by, rebuilt, before, rebuilt_over, all_used, wholly_rebuilt, item_leaf, rebuilt_root, Checks}
+use Rattle.tree_shape.specs.Root.{root}
+use Rattle.tree_proof.specs.Cover.{Met, meets, cover_in, cover_over}
+use Rattle.tree_proof.specs.Check.{next_of, joined_by, rebuilt, rebuilt_over, all_used, wholly_rebuilt, item_leaf, Checks}
 use Rattle.tree_proof.specs.SlowProof.{IsRange, slow_proof}
 use Rattle.tree_proof.proofs.RebuildLemmas.{meets_leaf, append_nil}
 
@@ -71,10 +71,10 @@ module _ {D : Type 0} (s : Shape) (h : Hashing D) (leaves : List D) (met : Met) 
       ap (option_and_then (λ q. all_used q.0 q.1)) f
 
 module _ {D : Type 0} (s : Shape) (h : Hashing D) (elements : List (List ℕ)) where
-  length-leaf_digests : length (leaf_digests s h elements) ≡ length elements
+  pub length-leaf_digests : length (leaf_digests s h elements) ≡ length elements
   length-leaf_digests = length-map (enumerate_from 0 elements) (λ p. leaf s h p.0 p.1) ∙ length-enumerate_from 0 elements
 
-  leaf_digests-at : (x : ℕ) → x < length elements → leaf s h x (get_or elements x []) ≡ leaf_at h (leaf_digests s h elements) x
+  pub leaf_digests-at : (x : ℕ) → x < length elements → leaf s h x (get_or elements x []) ≡ leaf_at h (leaf_digests s h elements) x
   leaf_digests-at x lt =
       let zero_more : 0 + x ≡ x = omega arith in
       let l = length-enumerate_from 0 elements in

@@ -3,3 +3,5 @@ mod PeakLemmas
 mod WalkLemmas
 mod Complete
 mod CoverCount
+mod Clashes
+mod Soundness

@@ -1,5 +1,5 @@
 -- Peaks rebuilt one after another.
-use Rattle.std.proofs.Common.{◌≡◌, ℕ, ◌+◌, ◌-◌, ◌<◌, ◌≤◌, List, [], ◌∷◌, ◌++◌, length, drop, Option, Some, None, refl, sym, ◌∙◌, ap, arith, length-drop}
+use Rattle.std.proofs.Common.{◌≡◌, ℕ, ◌<◌, ◌≤◌, List, [], ◌∷◌, ◌++◌, length, drop, Some, None, refl, sym, ◌∙◌, ap, arith, length-drop}
 use Rattle.tree_shape.specs.Hashing.{Hashing}
 use Rattle.tree_shape.specs.Shape.{Shape, peaks}
 use Rattle.tree_proof.specs.Cover.{Met}

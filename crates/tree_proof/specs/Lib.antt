@@ -1,3 +1,4 @@
 pub mod Cover
 pub mod Check
 pub mod SlowProof
+pub mod Inputs

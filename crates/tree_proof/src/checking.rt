@@ -1,6 +1,9 @@
 //! Whether a proof shows that items stand in a tree.
-ghost use Rattle.std.specs.Prelude.{◌≡◌, ◌↔◌, ◌+◌, ◌≤◌, ◌^◌, length, IfOk, IsTrue};
+ghost use Rattle.std.specs.Prelude.{◌≡◌, ◌↔◌, ℕ, List, ◌+◌, ◌≤◌, ◌^◌, length, IfOk, IsTrue};
+ghost use Rattle.tree_shape.specs.Slow.{leaf_digests};
+ghost use Rattle.tree_shape.specs.Root.{root as root_of};
 ghost use Rattle.tree_proof.specs.Check.{Checks, IsInBounds, rebuilt_root};
+ghost use Rattle.tree_proof.specs.Inputs.{HasDigestsOf, ShowsElements};
 
 use crate::Proof;
 use crate::peaks::rebuild_peaks;
@@ -49,8 +52,28 @@ fn is_same<D: Digest>(a: &D, b: &D) -> bool
     a.as_slice() == b.as_slice()
 }
 
+/// Whether the proof is within its bounds and gives this root.
+fn is_shown<F: Family, H: Hasher>(
+    alloc: Global,
+    hasher: &Standard<H>,
+    proof: &Proof<F, H::Digest>,
+    start: u64,
+    elements: &[Bytes],
+    root: &H::Digest,
+) -> Result<bool, AllocError>
+    ensures { IfOk result (λ shown. IsTrue shown ↔ Checks F.shape H.hash hasher.now proof.now start elements.now root.now) }
+{
+    if !is_in_bounds(proof, start, elements.len() as u64) {
+        return Ok(false);
+    }
+    match rebuild_root(alloc, hasher, proof, start, elements)? {
+        None => Ok(false),
+        Some(rebuilt) => Ok(is_same(&rebuilt, root)),
+    }
+}
+
 /// Whether the proof shows that the elements stand from `start` on in the tree with this root. It takes memory for the
-/// peaks alone, and hashes no node that it isn't handed the parts of.
+/// peaks alone, and each node is hashed once.
 pub fn verify<F: Family, H: Hasher>(
     alloc: Global,
     hasher: &Standard<H>,
@@ -59,14 +82,13 @@ pub fn verify<F: Family, H: Hasher>(
     elements: &[Bytes],
     root: &H::Digest,
 ) -> Result<bool, AllocError>
-    ensures { IfOk result (λ shown. IsTrue shown ↔ Checks F.shape H.hash hasher.now proof.now start elements.now root.now) }
+    ensures checks { IfOk result (λ shown. IsTrue shown ↔ Checks F.shape H.hash hasher.now proof.now start elements.now root.now) }
+
+    // Against the root of any list of elements, they are those of the list, or two different hash inputs have one digest.
+    ensures sound { IfOk result (λ shown. IsTrue shown → HasDigestsOf H.hash H.Digest.FixedSize.width proof.now →
+        (all : List (List ℕ)) (inactive : ℕ) → length all ≤ 2 ^ 62 → inactive ≤ length (F.shape.heights (length all)) →
+        root.now ≡ root_of F.shape H.hash (leaf_digests F.shape H.hash all) inactive hasher.now → ShowsElements F.shape H.hash hasher.now all inactive proof.now start elements.now) }
 {
-    let start = start.as_u64();
-    if !is_in_bounds(proof, start, elements.len() as u64) {
-        return Ok(false);
-    }
-    match rebuild_root(alloc, hasher, proof, start, elements)? {
-        None => Ok(false),
-        Some(rebuilt) => Ok(is_same(&rebuilt, root)),
-    }
+    let shown = is_shown(alloc, hasher, proof, start.as_u64(), elements, root)?;
+    Ok(shown)
 }

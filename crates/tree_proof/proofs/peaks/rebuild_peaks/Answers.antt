@@ -1,5 +1,4 @@
-use Rattle.std.proofs.Common.{◌≡◌, ◌+◌, ◌-◌, ◌<◌, length, drop, arith}
-use Rattle.tree_shape.specs.Shape.{made}
+use Rattle.std.proofs.Common.{◌+◌, length, arith}
 use Rattle.tree_proof.specs.Cover.{meets}
 use Rattle.tree_proof.specs.Check.{item_leaf}
 use Rattle.tree_proof.proofs.PeakLemmas.{next_of_left, first_walk}

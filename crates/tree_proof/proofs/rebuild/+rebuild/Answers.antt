@@ -1,9 +1,9 @@
-use Rattle.std.proofs.Common.{rules, ◌≡◌, ◌+◌, ◌-◌, ◌<◌, ℕ, [], drop, length, false, true, None, Some, Option, IfSome, IfNone, sym, ◌∙◌, ap, subst, arith}
+use Rattle.std.proofs.Common.{rules, ◌≡◌, ◌+◌, ◌-◌, ◌<◌, [], drop, length, false, true, sym, ◌∙◌, ap, arith}
 use Rattle.std.specs.Prelude.{slice_index_or}
 use Rattle.tree_shape.specs.Slow.{leaf}
 use Rattle.tree_shape.proofs.NodeLemmas.{read-get_or}
 use Rattle.tree_proof.specs.Cover.{meets}
-use Rattle.tree_proof.specs.Check.{next_of, rebuilt, item_leaf}
+use Rattle.tree_proof.specs.Check.{item_leaf}
 use Rattle.tree_proof.proofs.RebuildLemmas.{meets_leaf, rebuilt-outside, rebuilt-leaf, rebuilt-no_left, rebuilt-no_right, rebuilt-parent}
 use Rattle.tree_proof.proofs.rebuild.+rebuild.Goals as goal
 
