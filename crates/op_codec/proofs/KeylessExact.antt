@@ -1,5 +1,5 @@
 -- Decoding keyless operations is exact.
-use Rattle.std.proofs.Common.{◌≡◌, ℕ, List, length, Some, None, Option}
+use Rattle.std.proofs.Common.{◌≡◌, ℕ, List, length}
 use Rattle.codec_base.specs.Codec.{Reading, IsLawful}
 use Rattle.codec_base.specs.Combine.{through_at, through_lawful}
 use Rattle.op_codec.specs.Decoding.{IsExact}

@@ -1,5 +1,5 @@
 -- What a keyless operation means, and its two encodings.
-use Rattle.std.proofs.Common.{◌≡◌, ℕ, ◌+◌, ◌≤◌, List, ◌++◌, length, Option, Some, None, Bool, true, false, refl, arith, inl, inr, ◌⊎◌}
+use Rattle.std.proofs.Common.{◌≡◌, ℕ, ◌+◌, ◌≤◌, List, length, Option, Some, None, Bool, true, false, refl, arith, inl, inr, ◌⊎◌}
 use Rattle.std.proofs.lemmas.List.{length-append}
 use Rattle.codec_base.specs.declared.error.CodecError.TheVariants.{InvalidEnum}
 use Rattle.codec_base.specs.Codec.{Reading, IsLawful, held}

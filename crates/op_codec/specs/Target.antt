@@ -1,5 +1,5 @@
 -- What a log is synced to: its spelling, and which target goes on from which.
-use Rattle.std.proofs.Common.{◌≡◌, ℕ, ◌+◌, ◌-◌, ◌<◌, ◌≤◌, Bool, true, false, cond, List, ◌++◌, Result, Ok, Err, refl, ap, subst, sym, arith}
+use Rattle.std.proofs.Common.{◌≡◌, ℕ, ◌-◌, ◌<◌, ◌≤◌, Bool, true, false, cond, List, ◌++◌, Result, Ok, Err, refl, subst, arith}
 use Rattle.std.specs.Prelude.{IsTrue, nat_lt, nat_le, ◌&&◌, if◌then◌else◌}
 use Rattle.codec_base.specs.declared.error.CodecError.{CodecError}
 use Rattle.codec_base.specs.declared.error.CodecError.TheVariants.{Invalid}
@@ -7,7 +7,7 @@ use Rattle.codec_base.specs.declared.error.InvalidAt.TheVariants as at
 use Rattle.codec_base.specs.Codec.{Reading, ◌>>=◌, IsBytes, IsLawful}
 use Rattle.codec_base.specs.Varint.{varint, varint_at}
 use Rattle.codec_base.specs.VarintLaws.{varint_lawful}
-use Rattle.codec_base.specs.Laws.{below_64, bind_ok, ok_is, chosen}
+use Rattle.codec_base.specs.Laws.{below_64, bind_ok, ok_is}
 use Rattle.codec_base.specs.Combine.{pair_spelling, pair_admits, pair_at, pair_lawful, through_at, through_lawful}
 use Rattle.op_codec.specs.declared.target.Target.{Target}
 use Rattle.op_codec.specs.declared.target.CompactTarget.{CompactTarget}
