@@ -1,5 +1,5 @@
 -- Batches applied to trees.
-use Rattle.std.proofs.Common.{◌≡◌, inl, inr, ℕ, ◌+◌, ◌-◌, ◌≤◌, ◌++◌, List, length, drop, refl, sym, ◌∙◌, ap, subst, arith}
+use Rattle.std.proofs.Common.{◌≡◌, inl, inr, ℕ, ◌-◌, ◌≤◌, ◌++◌, List, length, drop, refl, sym, ◌∙◌, ap, subst, arith}
 use Rattle.tree_shape.specs.Hashing.{Hashing}
 use Rattle.tree_shape.specs.Shape.{Shape, made, IsLawful}
 use Rattle.tree_shape.specs.Kept.{KeepsPeaks}

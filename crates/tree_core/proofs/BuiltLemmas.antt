@@ -1,6 +1,6 @@
 -- A tree built from the peaks of its boundary and the nodes from there on.
-use Rattle.std.proofs.Common.{◌≡◌, ℕ, zero, suc, ◌+◌, ◌-◌, ◌*◌, ◌^◌, ◌<◌, ◌≤◌, inl, inr, Bool, true, false, List, [], ◌∷◌, ◌++◌, length, map, get_or, Some, None, Option, refl, sym, ◌∙◌, ap, subst, arith}
-use Rattle.std.specs.Prelude.{◌||◌, slice_get, IsSome, nat_le, min}
+use Rattle.std.proofs.Common.{◌≡◌, ℕ, zero, suc, ◌+◌, ◌-◌, ◌^◌, ◌<◌, ◌≤◌, inl, inr, Bool, true, false, List, [], ◌∷◌, ◌++◌, length, map, get_or, Some, None, Option, refl, sym, ◌∙◌, ap, subst, arith}
+use Rattle.std.specs.Prelude.{◌||◌, slice_get, IsSome, nat_le}
 use Rattle.std.proofs.lemmas.Bool.Decides.{eqb_tells, leb_tells}
 use Rattle.std.proofs.lemmas.List.{map-append, length-map}
 use Rattle.std.proofs.lemmas.Option.{slice_get_within, slice_get_past, same_Some}
@@ -12,12 +12,11 @@ use Rattle.tree_shape.specs.Pins.{base}
 use Rattle.tree_shape.specs.Places.{get-append}
 use Rattle.tree_shape.specs.Slow.{node, node_of, nodes}
 use Rattle.tree_shape.proofs.SizeLemmas.{size_rise}
-use Rattle.tree_core.specs.Pruned.{made_from, nodes_from, is_peak_at, keeps, IsPruned, IsTreeOf, Extends}
+use Rattle.tree_core.specs.Pruned.{made_from, nodes_from, is_peak_at, keeps, IsPruned, Extends}
 use Rattle.tree_core.specs.Reading.{ArePeaks}
 use Rattle.tree_core.specs.Tree.{Tree, node_at, IsBuilt, IsOf}
 use Rattle.tree_core.proofs.Held.{get_is_some}
 use Rattle.tree_core.proofs.Later.{made-split, get_past}
-use Rattle.tree_core.proofs.MemLemmas.{next_within}
 use Rattle.tree_core.proofs.PrunedLemmas.{peak_stands}
 use Rattle.tree_core.proofs.TreeLemmas.{are_peaks}
 

@@ -1,13 +1,13 @@
 -- The peaks of a number of leaves, each put at its position.
-use Rattle.std.proofs.Common.{◌≡◌, ℕ, zero, suc, ◌+◌, ◌-◌, ◌^◌, ◌<◌, ◌≤◌, inl, inr, List, [], ◌∷◌, length, get_or, true, false, Some, None, Option, refl, sym, ◌∙◌, ap, subst, arith}
+use Rattle.std.proofs.Common.{◌≡◌, ℕ, zero, suc, ◌+◌, ◌-◌, ◌^◌, ◌<◌, ◌≤◌, inl, inr, List, [], ◌∷◌, length, get_or, false, Some, None, Option, refl, sym, ◌∙◌, ap, subst, arith}
 use Rattle.std.specs.Prelude.{slice_get}
 use Rattle.std.specs.BTreeMap.{BTreeMap, get, Updates}
 use Rattle.std.specs.Ordering.{nat_cmp}
 use Rattle.std.proofs.lemmas.Nat.{pow_pos}
 use Rattle.std.proofs.lemmas.Bool.Decides.{eqb_tells}
 use Rattle.std.proofs.lemmas.Option.{some_pair_parts, slice_get_within}
-use Rattle.tree_shape.specs.Shape.{Shape, made, Stands, PeaksStand, IsLawful}
-use Rattle.tree_shape.specs.Kept.{PeakIn, PeakOf}
+use Rattle.tree_shape.specs.Shape.{Shape, made, PeaksStand, IsLawful}
+use Rattle.tree_shape.specs.Kept.{PeakOf}
 use Rattle.tree_shape.specs.Pins.{base}
 use Rattle.tree_shape.proofs.PinLemmas.{base-next}
 use Rattle.tree_core.specs.Pruned.{is_peak_at}

@@ -1,11 +1,10 @@
 -- Nodes read from a store.
-use Rattle.std.proofs.Common.{◌≡◌, ℕ, ◌<◌, List, length, map, take, Some, None, Option, refl, sym, ◌∙◌, ap, subst}
+use Rattle.std.proofs.Common.{◌≡◌, ℕ, List, map, take, Some, None, Option, refl, sym, ◌∙◌, ap, subst}
 use Rattle.std.specs.Prelude.{slice_get, IsSome}
 use Rattle.std.specs.Option.{option_map}
 use Rattle.std.proofs.lemmas.Option.{slice_get-map, same_Some}
-use Rattle.volume_base.specs.Log.{Log}
-use Rattle.volume_base.specs.Volume.{State, Map, SameContents}
-use Rattle.volume_base.specs.Moments.{Image, present}
+use Rattle.volume_base.specs.Volume.{State, SameContents}
+use Rattle.volume_base.specs.Moments.{present}
 use Rattle.tree_core.specs.Stores.{IsFirstAbsent}
 use Rattle.tree_core.proofs.MemLemmas.{get-take}
 

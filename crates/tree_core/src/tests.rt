@@ -1,5 +1,10 @@
+ghost use Rattle.std.specs.Prelude.{◌≡◌, ◌<◌, ℕ, length, IfOk, Some};
+ghost use Rattle.tree_shape.specs.Shape.{made};
+ghost use Rattle.std.specs.BTreeMap.{get};
+ghost use Rattle.std.specs.Ordering.{nat_cmp};
+
 use super::*;
-use std::alloc::Global;
+use std::alloc::{AllocError, AllocFailed, Global};
 use std::collections::BTreeMap;
 use std::test::Fail;
 
@@ -128,7 +133,7 @@ fn told<R: Readable>(
     memory: &R,
     first: u64,
     end: u64,
-) -> Result<Vec<R::Digest>, std::alloc::AllocError> {
+) -> Result<Vec<R::Digest>, AllocError> {
     let mut nodes = Vec::new(alloc);
     for position in first..end {
         if let Some(digest) = memory.get_node(Position::new(position)) {
@@ -136,6 +141,32 @@ fn told<R: Readable>(
         }
     }
     Ok(nodes)
+}
+
+/// A node at one position.
+fn one_pin<F: Family, D: Digest>(
+    alloc: Global,
+    position: u64,
+    digest: D,
+) -> Result<BTreeMap<Position<F>, D>, AllocFailed<(Position<F>, D)>>
+    ensures { IfOk result (λ m. (p : ℕ) (d : D) → get nat_cmp m p ≡ Some d → p ≡ position) }
+{
+    let mut pins = BTreeMap::new(alloc);
+    pins.insert(Position::new(position), digest)?;
+    Ok(pins)
+}
+
+/// Pins a node at one position.
+fn add_pin<F: Family, D: Digest>(
+    alloc: Global,
+    tree: &mut Mem<F, D>,
+    position: u64,
+    digest: D,
+) -> Result<(), Error<F>>
+    requires { position < length (made F.shape tree.old.leaves) }
+{
+    let pins = one_pin(alloc, position, digest)?;
+    tree.add_pinned_nodes(pins)
 }
 
 #[test]
@@ -180,13 +211,13 @@ fn a_tree_is_rebuilt_from_its_pins(rt: HostRuntime) -> Result<(), Fail> {
     assert!(rt; cut.err() == Some(Error::MissingNode(Position::new(2))));
     let mut rebuilt = Mem::init(alloc, told(alloc, &tree, 8, size)?, boundary, pins)?;
     assert_eq!(rt; rebuilt.leaves().as_u64(), 7);
-    assert!(rt; rebuilt.root(&hasher, 2)? == tree.root(&hasher, 2)?);
+    assert!(rt; rebuilt.root(&hasher, 0)? == tree.root(&hasher, 0)?);
     assert!(rt; rebuilt.get_node(Position::new(2)).is_none());
-    let mut more = BTreeMap::new(alloc);
-    if let Some(digest) = tree.get_node(Position::new(2)) {
-        more.insert(Position::new(2), digest)?;
-    }
-    rebuilt.add_pinned_nodes(more)?;
+    let Some(digest) = tree.get_node(Position::new(2)) else {
+        return Ok(());
+    };
+    assert!(rt; 2 < rebuilt.size().as_u64());
+    add_pin(alloc, &mut rebuilt, 2, digest)?;
     assert!(rt; rebuilt.get_node(Position::new(2)) == tree.get_node(Position::new(2)));
     rebuilt.prune(Location::new(6))?;
     assert!(rt; rebuilt.get_node(Position::new(2)).is_none());

@@ -1,4 +1,4 @@
-use Rattle.std.proofs.Common.{◌≡◌, ◌<◌, ◌+◌, ◌-◌, ◌^◌, length, get_or, ◌++◌, sym, ◌∙◌, ap, arith, append_assoc, length-append}
+use Rattle.std.proofs.Common.{◌≡◌, ◌<◌, ◌-◌, ◌^◌, length, get_or, ◌++◌, sym, ◌∙◌, ap, arith, append_assoc, length-append}
 use Rattle.std.proofs.lemmas.Option.{same_Some}
 use Rattle.tree_shape.specs.Shape.{made}
 use Rattle.tree_shape.specs.Slow.{node}

@@ -1,4 +1,4 @@
-use Rattle.std.proofs.Common.{◌<◌, ◌-◌, length, arith}
+use Rattle.std.proofs.Common.{◌<◌, length, arith}
 use Rattle.tree_shape.specs.Shape.{made}
 use Rattle.tree_shape.proofs.NodeLemmas.{peak_room}
 use Rattle.tree_core.proofs.kept.is_peak_position.Goals as goal

@@ -1,9 +1,9 @@
-use Rattle.std.proofs.Common.{◌≡◌, ℕ, ◌<◌, length, get_or, Some, refl, sym, ◌∙◌, ap, subst, add-one, arith}
+use Rattle.std.proofs.Common.{◌≡◌, ℕ, ◌<◌, length, Some, ◌∙◌, ap, subst, add-one, arith}
 use Rattle.std.specs.Map.{lookup}
 use Rattle.std.specs.BTreeMap.{get, is_at, Updates}
 use Rattle.std.specs.Ordering.{nat_cmp}
 use Rattle.tree_shape.proofs.NodeLemmas.{read-get_or}
-use Rattle.tree_core.proofs.PinnedLemmas.{first_at, height_at, PinnedSo, none_pinned, pinned_step, first_is, steps_to}
+use Rattle.tree_core.proofs.PinnedLemmas.{first_at, height_at, none_pinned, pinned_step, first_is, steps_to}
 use Rattle.tree_core.proofs.kept.pins_of.Goals as goal
 
 pub loop-j-init : goal.loop-j-init

@@ -1,4 +1,4 @@
-use Rattle.std.proofs.Common.{◌≡◌, length, refl, sym, ◌∙◌, arith, add-one, true, false}
+use Rattle.std.proofs.Common.{◌≡◌, length, refl, sym, ◌∙◌, arith, add-one}
 use Rattle.std.proofs.lemmas.Option.{slice_get_read}
 use Rattle.tree_core.proofs.LinkLemmas.{same_step, bytes_same}
 use Rattle.tree_core.proofs.mark.same_digests.Goals as goal

@@ -1,4 +1,4 @@
-use Rattle.std.proofs.Common.{rules, ◌≡◌, ℕ, List, ◌∷◌, Some, ap, subst}
+use Rattle.std.proofs.Common.{rules, ℕ, List, Some, subst}
 use Rattle.std.specs.Prelude.{is_none}
 use Rattle.std.specs.Cmp.{nat_cmp_total}
 use Rattle.std.specs.BTreeMap.{get, Updates}

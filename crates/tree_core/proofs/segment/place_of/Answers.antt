@@ -1,4 +1,4 @@
-use Rattle.std.proofs.Common.{ℕ, length, refl, subst, arith, inl, inr, map, false, true}
+use Rattle.std.proofs.Common.{ℕ, length, refl, subst, arith, inl, inr, map}
 use Rattle.std.specs.Prelude.{IsTrue}
 use Rattle.std.proofs.lemmas.Bool.Decides.{eqb_tells}
 use Rattle.std.proofs.lemmas.Option.{slice_get_read}

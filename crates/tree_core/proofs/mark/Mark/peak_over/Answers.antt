@@ -1,4 +1,4 @@
-use Rattle.std.proofs.Common.{◌<◌, ◌-◌, length, sym, ◌∙◌, arith, add-one}
+use Rattle.std.proofs.Common.{◌<◌, length, sym, ◌∙◌, arith, add-one}
 use Rattle.tree_shape.specs.Shape.{made}
 use Rattle.tree_shape.proofs.NodeLemmas.{next_peak, peak_room}
 use Rattle.tree_core.proofs.Held.{step_found}

@@ -1,4 +1,4 @@
-use Rattle.std.proofs.Common.{◌≡◌, ℕ, length, Some, refl, sym, ◌∙◌, ap, subst}
+use Rattle.std.proofs.Common.{ℕ, length, Some, refl, sym, ◌∙◌, ap, subst}
 use Rattle.std.proofs.lemmas.Option.{slice_get_read}
 use Rattle.tree_core.specs.Tree.{Tree, node_at}
 use Rattle.tree_core.specs.Stores.{IsFirstAbsent}
