@@ -2,6 +2,17 @@
 use Rattle.volume_base.specs.declared.error.JournalError.{JournalError}
 use Rattle.volume_base.specs.declared.error.JournalError.TheVariants.{ItemPruned, ItemOutOfRange, EmptyAppend, SizeOverflow, Corruption, Tree, Volume, Memory}
 
+-- a refusal by name: neither a failure of the outside nor want of memory
+abbrev pub IsRefusal : JournalError → Type 0
+IsRefusal (ItemPruned p) = Unit {0}
+IsRefusal (ItemOutOfRange p) = Unit {0}
+IsRefusal EmptyAppend = Unit {0}
+IsRefusal SizeOverflow = Unit {0}
+IsRefusal (Corruption p) = Unit {0}
+IsRefusal (Tree cause) = Unit {0}
+IsRefusal Volume = ⊥
+IsRefusal Memory = ⊥
+
 -- a failure of the outside, or want of memory
 abbrev pub IsOfVolume : JournalError → Type 0
 IsOfVolume Volume = Unit {0}

@@ -1,7 +1,7 @@
-ghost use Rattle.std.specs.Prelude.{◌≡◌, ◌↔◌, ◌⊎◌, ◌+◌, ◌-◌, ◌<◌, ◌≤◌, ◌^◌, ℕ, Some, min, IfOk, IfErr, OnOk, IsErrOf};
+ghost use Rattle.std.specs.Prelude.{◌≡◌, ◌↔◌, ◌⊎◌, ◌+◌, ◌-◌, ◌<◌, ◌≤◌, ◌^◌, ℕ, List, Some, min, take, slice_get, IfOk, IfErr, OnOk, IsErrOf};
 ghost use Rattle.std.specs.Fn.{FnReturnsAt};
-ghost use Rattle.journal_base.specs.Answers.{IsOfVolume, IsOfSize, IsOfStart, IsOfRead};
-ghost use Rattle.journal_base.specs.Items.{IsCorrupt};
+ghost use Rattle.journal_base.specs.Answers.{IsRefusal, IsOfVolume, IsOfSize, IsOfStart, IsOfRead};
+ghost use Rattle.journal_base.specs.Items.{IsCorrupt, Spells};
 ghost use Rattle.journal_base.specs.Matches.{IsLastMatch, NoneMatches};
 ghost use Rattle.journal_base.specs.View.{View, at_bounds, capped, IsHeld, IsWithin};
 ghost use Rattle.volume_base.specs.Log.{IsItemAt, end_of, cleared_at, cut_to, Shrinks, BecomesOneOf};
@@ -39,6 +39,7 @@ pub trait BackingRecovery: Sized + Drop {
         ensures pruned { V.tells → IsWithin (view self.now) (V.state vol.old) → (p : ℕ) → IsErrOf result (ItemPruned p) → (p ≡ position) × (position < (view self.now).start) }
         ensures out_of_range { V.tells → IsWithin (view self.now) (V.state vol.old) → (p : ℕ) → IsErrOf result (ItemOutOfRange p) → (p ≡ position) × ((view self.now).end ≤ position) }
         ensures corrupt { V.tells → (p : ℕ) → IsErrOf result (Corruption p) → (p ≡ position) × ((view self.now).start ≤ position) × (position < (view self.now).end) × IsCorrupt Self.Item.spelling (Self.Item.admits (view self.now).codec) ((V.state vol.old).log (view self.now).name) position }
+        ensures listed { V.tells → IsWithin (view self.now) (V.state vol.old) → (list : List Self.Item) (x : Self.Item) → Spells Self.Item.spelling list ((V.state vol.old).log (view self.now).name) → slice_get list position ≡ Some x → Self.Item.admits (view self.now).codec x → IfOk result (λ item. item ≡ x) }
         ensures errors { IfErr result IsOfRead }
         ensures answers { Reads V.tells Volume (V.state vol.old) (V.state vol.new) result }
         ensures reads { (V.state vol.new).reads ≤ (V.state vol.old).reads + 1 };
@@ -68,6 +69,8 @@ pub trait BackingRecovery: Sized + Drop {
         ensures durable { OnOk result (V.tells → OnlyLeft ((V.state vol.new).log_left (V.state vol.new).clock (view self).name) (cleared_at size)) }
         ensures others { V.tells → OnlyLog (view self).name (V.state vol.old) (V.state vol.new) }
         ensures images { V.tells → LogMoves (view self).name (BecomesOneOf (cleared_at size)) (V.state vol.old) (V.state vol.new) }
+        // A refusal by name comes before anything is written.
+        ensures refused { (e : JournalError) → IsErrOf result e → IsRefusal e → (V.state vol.new).clock ≡ (V.state vol.old).clock }
         ensures errors { IfErr result IsOfSize }
         ensures writes { Writes V.tells Volume (V.state vol.old) (V.state vol.new) result };
 
@@ -78,9 +81,12 @@ pub trait BackingRecovery: Sized + Drop {
         ensures made { IfOk result (λ made. opened made ≡ at_bounds (view self) (opened made).start (opened made).end) }
         ensures held { IfOk result (λ made. V.tells → IsHeld (opened made) (V.state vol.new)) }
         ensures cut { OnOk result (V.tells → (V.state vol.new).log (view self).name ≡ cut_to ((V.state vol.old).log (view self).name) size) }
+        ensures listed { OnOk result (V.tells → (list : List Self.Item) → Spells Self.Item.spelling list ((V.state vol.old).log (view self).name) → Spells Self.Item.spelling (take size list) ((V.state vol.new).log (view self).name)) }
         ensures durable { OnOk result (V.tells → OnlyLeft ((V.state vol.new).log_left (V.state vol.new).clock (view self).name) ((V.state vol.new).log (view self).name)) }
         ensures others { V.tells → OnlyLog (view self).name (V.state vol.old) (V.state vol.new) }
         ensures images { V.tells → LogMoves (view self).name (Shrinks (min size (end_of ((V.state vol.old).log (view self).name)))) (V.state vol.old) (V.state vol.new) }
+        // A refusal by name comes before anything is written.
+        ensures refused { (e : JournalError) → IsErrOf result e → IsRefusal e → (V.state vol.new).clock ≡ (V.state vol.old).clock }
         ensures errors { IfErr result IsOfStart }
         ensures writes { Writes V.tells Volume (V.state vol.old) (V.state vol.new) result };
 }
@@ -125,6 +131,8 @@ pub trait Backing: Mutable {
         ensures durable { OnOk result (V.tells → OnlyLeft ((V.state vol.new).log_left (V.state vol.new).clock (config cfg).name) (cleared_at size)) }
         ensures others { V.tells → OnlyLog (config cfg).name (V.state vol.old) (V.state vol.new) }
         ensures images { V.tells → LogMoves (config cfg).name (BecomesOneOf (cleared_at size)) (V.state vol.old) (V.state vol.new) }
+        // A refusal by name comes before anything is written.
+        ensures refused { (e : JournalError) → IsErrOf result e → IsRefusal e → (V.state vol.new).clock ≡ (V.state vol.old).clock }
         ensures errors { IfErr result IsOfSize }
         ensures writes { Writes V.tells Volume (V.state vol.old) (V.state vol.new) result };
 

@@ -1,6 +1,6 @@
 ghost use Rattle.std.specs.Prelude.{◌≡◌, ◌↔◌, ◌≤◌, ◌-◌, ◌^◌, map, false, string_bytes, IfOk, IfErr, OnOk, IsErrOf, IsOkUnless};
 ghost use Rattle.std.specs.NonZero.{non_zero_u64_get};
-ghost use Rattle.journal_base.specs.Answers.{IsOfSize};
+ghost use Rattle.journal_base.specs.Answers.{IsRefusal, IsOfSize};
 ghost use Rattle.journal_base.specs.Blobs.{blob_start};
 ghost use Rattle.journal_base.specs.View.{at_bounds};
 ghost use Rattle.volume_base.specs.Log.{cleared_at, BecomesOneOf};
@@ -236,6 +236,8 @@ impl<T: Write + EncodeSize + Read + Duplicate + Drop, K: Kind<T>> Journal<T, K> 
         ensures durable { OnOk result (V.tells → OnlyLeft ((V.state vol.new).log_left (V.state vol.new).clock (⟦<Journal<T, K> as Contiguous>⟧.view self).name) (cleared_at size)) }
         ensures others { V.tells → OnlyLog (⟦<Journal<T, K> as Contiguous>⟧.view self).name (V.state vol.old) (V.state vol.new) }
         ensures images { V.tells → LogMoves (⟦<Journal<T, K> as Contiguous>⟧.view self).name (BecomesOneOf (cleared_at size)) (V.state vol.old) (V.state vol.new) }
+        // A refusal by name comes before anything is written.
+        ensures refused { (e : JournalError) → IsErrOf result e → IsRefusal e → (V.state vol.new).clock ≡ (V.state vol.old).clock }
         ensures errors { IfErr result IsOfSize }
         ensures writes { Writes V.tells JournalError.Volume (V.state vol.old) (V.state vol.new) result }
     {

@@ -1,8 +1,9 @@
-ghost use Rattle.std.specs.Prelude.{◌≡◌, ◌↔◌, ◌+◌, ◌-◌, ◌<◌, ◌≤◌, ◌^◌, ℕ, List, [], ◌∷◌, map, min, length, true, false, IsTrue, IfOk, IfErr, OnOk, IsErrOf};
+ghost use Rattle.std.specs.Prelude.{◌≡◌, ◌↔◌, ◌+◌, ◌-◌, ◌<◌, ◌≤◌, ◌^◌, ℕ, List, [], ◌∷◌, ◌++◌, map, min, length, true, false, IsTrue, IfOk, IfErr, OnOk, IsErrOf};
 ghost use Rattle.codec_base.specs.Causes.{Rose};
 ghost use Rattle.journal_base.specs.Blobs.{blob_start};
+ghost use Rattle.journal_base.specs.Items.{Spells};
 ghost use Rattle.journal_base.specs.Tickets.{is_failed};
-ghost use Rattle.journal_base.specs.Answers.{IsOfVolume, IsOfSize, IsOfAppend};
+ghost use Rattle.journal_base.specs.Answers.{IsRefusal, IsOfVolume, IsOfSize, IsOfAppend};
 ghost use Rattle.journal_base.specs.View.{at_bounds, after_sync, IsHeld};
 ghost use Rattle.volume_base.specs.Log.{end_of, no_log, appended, pruned_to, Grows, Advances, Vanishes, Stays};
 ghost use Rattle.volume_base.specs.Volume.{OnlyLog, OnlyLeft, LogMoves, Writes};
@@ -24,8 +25,11 @@ pub trait Mutable: Contiguous {
         ensures made { IfOk result (λ made. Self.view made.0 ≡ at_bounds (Self.view self) (Self.view made.0).start (Self.view made.0).end) }
         ensures held { IfOk result (λ made. V.tells → IsHeld (Self.view made.0) (V.state vol.new)) }
         ensures appended { OnOk result (V.tells → (V.state vol.new).log (Self.view self).name ≡ appended ((V.state vol.old).log (Self.view self).name) (Self.Item.spelling item.now ∷ [])) }
+        ensures listed { OnOk result (V.tells → (list : List Self.Item) → Spells Self.Item.spelling list ((V.state vol.old).log (Self.view self).name) → Spells Self.Item.spelling (list ++ item.now ∷ []) ((V.state vol.new).log (Self.view self).name)) }
         ensures others { one_log → V.tells → OnlyLog (Self.view self).name (V.state vol.old) (V.state vol.new) }
         ensures images { one_log → V.tells → LogMoves (Self.view self).name (Grows ((V.state vol.old).log (Self.view self).name) (Self.Item.spelling item.now ∷ [])) (V.state vol.old) (V.state vol.new) }
+        // A refusal by name comes before anything is written.
+        ensures refused { (e : JournalError) → IsErrOf result e → IsRefusal e → (V.state vol.new).clock ≡ (V.state vol.old).clock }
         ensures errors { one_log → IfErr result IsOfSize }
         ensures writes { Writes V.tells Volume (V.state vol.old) (V.state vol.new) result };
 
@@ -42,8 +46,11 @@ pub trait Mutable: Contiguous {
         ensures made { IfOk result (λ made. Self.view made.0 ≡ at_bounds (Self.view self) (Self.view made.0).start (Self.view made.0).end) }
         ensures held { IfOk result (λ made. V.tells → IsHeld (Self.view made.0) (V.state vol.new)) }
         ensures appended { OnOk result (V.tells → (V.state vol.new).log (Self.view self).name ≡ appended ((V.state vol.old).log (Self.view self).name) (map Self.Item.spelling items.now)) }
+        ensures listed { OnOk result (V.tells → (list : List Self.Item) → Spells Self.Item.spelling list ((V.state vol.old).log (Self.view self).name) → Spells Self.Item.spelling (list ++ items.now) ((V.state vol.new).log (Self.view self).name)) }
         ensures others { one_log → V.tells → OnlyLog (Self.view self).name (V.state vol.old) (V.state vol.new) }
         ensures images { one_log → V.tells → LogMoves (Self.view self).name (Grows ((V.state vol.old).log (Self.view self).name) (map Self.Item.spelling items.now)) (V.state vol.old) (V.state vol.new) }
+        // A refusal by name comes before anything is written.
+        ensures refused { (e : JournalError) → IsErrOf result e → IsRefusal e → (V.state vol.new).clock ≡ (V.state vol.old).clock }
         ensures errors { one_log → IfErr result IsOfAppend }
         ensures writes { Writes V.tells Volume (V.state vol.old) (V.state vol.new) result };
 
@@ -89,6 +96,7 @@ pub trait Mutable: Contiguous {
         ensures held { IfOk result (λ made. V.tells → IsHeld (Self.view made.0) (V.state vol.new)) }
         ensures moved { IfOk result (λ made. one_log → V.tells → (IsTrue made.1 ↔ (((V.state vol.old).log (Self.view self).name).start < blob_start (Self.view self).blob (min least (end_of ((V.state vol.old).log (Self.view self).name)))))) }
         ensures pruned { OnOk result (V.tells → (V.state vol.new).log (Self.view self).name ≡ pruned_to ((V.state vol.old).log (Self.view self).name) (blob_start (Self.view self).blob (min least (end_of ((V.state vol.old).log (Self.view self).name))))) }
+        ensures listed { OnOk result (V.tells → (list : List Self.Item) → Spells Self.Item.spelling list ((V.state vol.old).log (Self.view self).name) → Spells Self.Item.spelling list ((V.state vol.new).log (Self.view self).name)) }
         ensures others { one_log → V.tells → OnlyLog (Self.view self).name (V.state vol.old) (V.state vol.new) }
         ensures images { one_log → V.tells → LogMoves (Self.view self).name (Advances (blob_start (Self.view self).blob (min least (end_of ((V.state vol.old).log (Self.view self).name))))) (V.state vol.old) (V.state vol.new) }
         ensures errors { one_log → IfErr result IsOfVolume }

@@ -1,5 +1,5 @@
 ghost use Rattle.std.specs.Prelude.{◌≡◌, ◌↔◌, ◌≤◌, ◌<◌, ◌+◌, ◌-◌, ◌^◌, ℕ, min, max, IfOk, IfErr, OnOk, IsErrOf};
-ghost use Rattle.journal_base.specs.Answers.{IsOfVolume, IsOfSize, IsOfStart};
+ghost use Rattle.journal_base.specs.Answers.{IsRefusal, IsOfVolume, IsOfSize, IsOfStart};
 ghost use Rattle.journal_base.specs.Blobs.{blob_start};
 ghost use Rattle.journal_base.specs.View.{capped, at_bounds, IsHeld, IsWithin};
 ghost use Rattle.std.specs.NonZero.{non_zero_u64_get};
@@ -130,6 +130,8 @@ impl<T: Write + EncodeSize + Read + Duplicate + Drop, K: Kind<T>> Recovery<T, K>
         ensures cut { OnOk result (V.tells → (V.state vol.new).log (⟦<Recovery<T, K> as BackingRecovery>⟧.view self).name ≡ cut_to ((V.state vol.old).log (⟦<Recovery<T, K> as BackingRecovery>⟧.view self).name) (min size (⟦<Recovery<T, K> as BackingRecovery>⟧.view self).end)) }
         ensures others { V.tells → OnlyLog (⟦<Recovery<T, K> as BackingRecovery>⟧.view self).name (V.state vol.old) (V.state vol.new) }
         ensures images { V.tells → LogMoves (⟦<Recovery<T, K> as BackingRecovery>⟧.view self).name (Shrinks (min size (⟦<Recovery<T, K> as BackingRecovery>⟧.view self).end)) (V.state vol.old) (V.state vol.new) }
+        // A refusal by name comes before anything is written.
+        ensures refused { (e : JournalError) → IsErrOf result e → IsRefusal e → (V.state vol.new).clock ≡ (V.state vol.old).clock }
         ensures errors { IfErr result IsOfStart }
         ensures writes { Writes V.tells JournalError.Volume (V.state vol.old) (V.state vol.new) result }
     {
@@ -182,6 +184,8 @@ impl<T: Write + EncodeSize + Read + Duplicate + Drop, K: Kind<T>> Recovery<T, K>
         ensures durable { OnOk result (V.tells → OnlyLeft ((V.state vol.new).log_left (V.state vol.new).clock (⟦<Recovery<T, K> as BackingRecovery>⟧.view self).name) (cleared_at size)) }
         ensures others { V.tells → OnlyLog (⟦<Recovery<T, K> as BackingRecovery>⟧.view self).name (V.state vol.old) (V.state vol.new) }
         ensures images { V.tells → LogMoves (⟦<Recovery<T, K> as BackingRecovery>⟧.view self).name (BecomesOneOf (cleared_at size)) (V.state vol.old) (V.state vol.new) }
+        // A refusal by name comes before anything is written.
+        ensures refused { (e : JournalError) → IsErrOf result e → IsRefusal e → (V.state vol.new).clock ≡ (V.state vol.old).clock }
         ensures errors { IfErr result IsOfSize }
         ensures writes { Writes V.tells JournalError.Volume (V.state vol.old) (V.state vol.new) result }
     {

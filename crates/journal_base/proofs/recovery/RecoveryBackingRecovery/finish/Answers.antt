@@ -1,7 +1,9 @@
-use Rattle.std.proofs.Common.{min, ◌∙◌, ap}
-use Rattle.volume_base.specs.Log.{end_of, cut_to}
+use Rattle.std.proofs.Common.{min, take, sym, subst, ◌∙◌, ap, arith}
+use Rattle.volume_base.specs.Log.{Log, end_of, cut_to}
 use Rattle.volume_base.proofs.MomentLemmas.{log_moves_idle, log_moves_after_idle, log_moves_then_stays}
 use Rattle.volume_base.proofs.StepLemmas.{shrinks_same, cut_to_lesser}
+use Rattle.journal_base.specs.Items.{Spells}
+use Rattle.journal_base.proofs.ItemLemmas.{spells_cut}
 use Rattle.journal_base.proofs.recovery.RecoveryBackingRecovery.finish.Goals as goal
 
 pub returns-in_err-start-clause-images : goal.returns-in_err-start-clause-images
@@ -36,3 +38,8 @@ returns-clause-images g c told =
     let cut = rw (to_is, c.as_str-name.ensures.value) at (c.cut_down.ensures.images told) in
     let synced = rw (c.as_str-name.ensures.value) at (c.log_sync.ensures.images told) in
     log_moves_then_stays _ _ _ _ _ (log_moves_after_idle _ _ _ _ _ c.log_bounds.ensures.answers.clock (c.log_bounds.ensures.answers.past told) (shrinks_same _) cut) synced
+
+pub returns-clause-listed : goal.returns-clause-listed
+returns-clause-listed g c told list run =
+    let start_is = rw c.as_str-name.ensures.value at (c.in_ok-start.ensures.start told) in
+    subst (λ (l : Log). Spells g.T.Spelled.spelling (take c.args.size list) l) (sym (returns-clause-cut g c told)) (spells_cut _ list _ c.args.size (omega (arith, start_is)) run)
