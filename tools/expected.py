@@ -12,6 +12,8 @@ import re
 import sys
 from pathlib import Path
 
+import proofs
+
 VALUE_LIMIT = 1048576           # the standard configuration's
 FORWARD, BACKWARD = 0, 1        # the bagging bytes
 
@@ -224,6 +226,7 @@ def known_digests():
         for first, height in peaks(leaves + 1):
             known.add(node(ELEMENTS, first, height).hex())
         known.add(node(ELEMENTS, leaves, 0).hex())
+    known.update(one for _, one in proofs.rows())
     for floors in FLOORS:
         known.add(list_root([bytes([floor]) for floor in floors], floors[-1] if floors else 0))
     for _, limit, lines in RUNS:

@@ -98,13 +98,16 @@ def root(family, elements, inactive, forward):
 ROWS = [(Mmr, 3, 1, 3, 0, True), (Mmr, 3, 1, 2, 0, True), (Mmb, 5, 3, 5, 1, False), (Mmr, 7, 2, 3, 2, False)]
 
 
-def main():
+def rows():
+    """The lines of each row, the digest last."""
     for family, n, start, end, inactive, forward in ROWS:
         elements = [bytes([97 + i]) for i in range(n)]
-        print(family.__name__, n, "leaves", start, end, "inactive", inactive, "forward" if forward else "backward")
+        title = f"{family.__name__} of {n} leaves, {start} to {end}, {inactive} inactive, {'forward' if forward else 'backward'}"
         for name in cover(family, n, lambda leaf: start <= leaf < end):
-            print("  ", name, node(family, elements, *name).hex())
-        print("   root", root(family, elements, inactive, forward).hex())
+            yield f"{title}, cover node {name}", node(family, elements, *name).hex()
+        yield f"{title}, root", root(family, elements, inactive, forward).hex()
 
 
-main()
+if __name__ == "__main__":
+    for name, one in rows():
+        print(f"{one}  {name}")
