@@ -130,8 +130,8 @@ class Refused(Exception):
 class Machine:
     def __init__(self, limit=VALUE_LIMIT):
         self.limit = limit
-        self.operations = [commit(None, 0)]
-        self.batches = []       # (phase, list, pending, boundary), by number
+        self.operations, self.floor, self.metadata = [commit(None, 0)], 0, None
+        self.batches = []       # (phase, list, and what it needs there), by number
 
     def batch(self, b, phase):
         if b >= len(self.batches) or self.batches[b][0] != phase:
@@ -150,26 +150,35 @@ class Machine:
             pending.append(append(value))
             return "ok"
         if words[0] == "seal":
-            b = int(words[1])
+            b, floor = int(words[1]), int(words[3])
+            metadata = None if words[2] == "-" else b"" if words[2] == "." else bytes.fromhex(words[2])
             _, below, pending, _ = self.batch(b, "unsealed")
+            if len(metadata or b"") > self.limit:
+                raise Refused(f"ValueTooLong {len(metadata)}")
+            self.batches[b] = ("gone", [], [], None)
             if self.operations != below:
-                self.batches[b] = ("gone", [], [], None)
                 raise Refused("StaleBatch")
-            whole = below + pending + [commit(None, 0)]
-            self.batches[b] = ("sealed", whole, [], len(below))
-            return f"sealed {len(whole)} {list_root(whole, 0)}"
+            if floor < self.floor:
+                raise Refused(f"FloorRegressed {floor} {self.floor}")
+            if floor > len(below) + len(pending):
+                raise Refused(f"FloorBeyondSize {floor} {len(below) + len(pending)}")
+            whole = below + pending + [commit(metadata, floor)]
+            self.batches[b] = ("sealed", whole, len(below), (floor, metadata))
+            return f"sealed {len(whole)} {list_root(whole, floor)}"
         if words[0] == "apply":
-            _, whole, _, boundary = self.batch(int(words[1]), "sealed")
+            _, whole, boundary, last = self.batch(int(words[1]), "sealed")
             if self.operations != whole[:boundary]:
                 raise Refused("StaleBatch")
-            self.operations = list(whole)
+            self.operations, (self.floor, self.metadata) = list(whole), last
             return "applied"
         if words == ["size"]:
-            return f"size {len(self.operations)} start 0 floor 0"
+            return f"size {len(self.operations)} start 0 floor {self.floor}"
+        if words == ["metadata"]:
+            return "metadata " + ("-" if self.metadata is None else self.metadata.hex() or ".")
         raise ValueError(f"no such line: {words}")
 
     def reply(self, answer):
-        there = list_root(self.operations, 0)
+        there = list_root(self.operations, self.floor)
         return f"{answer} size={len(self.operations)} full={there} compact={there}\n"
 
 
@@ -199,7 +208,9 @@ RUNS = [
     ("first batch", VALUE_LIMIT, FIRST_BATCH + ["size", "size", "size"]),
     ("unequal siblings", VALUE_LIMIT, ["new", "new", "append 0 61", "append 1 62", "seal 0 - 0", "seal 1 - 0", "apply 0", "apply 1"]),
     ("apply again", VALUE_LIMIT, FIRST_BATCH + ["apply 0"]),
-    ("value limit", 4, ["new", "append 0 0102030405", "append 0 01020304", "seal 0 - 0"]),
+    ("value limit", 4, ["new", "append 0 0102030405", "append 0 01020304", "seal 0 0102030405 0", "seal 0 - 0", "apply 0"]),
+    ("floors and metadata", VALUE_LIMIT, ["new", "append 0 61", "append 0 62", "seal 0 - 4", "seal 0 - 3", "new", "append 1 61", "append 1 62",
+                                          "seal 1 6d 3", "metadata", "apply 1", "size", "metadata", "new", "seal 2 - 2", "new", "seal 3 . 4", "apply 3", "metadata"]),
 ]
 
 

@@ -1,12 +1,13 @@
 -- Lines that say commands.
-use Rattle.std.proofs.Common.{◌≡◌, ◌⊎◌, inl, inr, ℕ, ◌+◌, List, [], ◌∷◌, ◌++◌, length, refl, sym, ◌∙◌, ap, subst, append_assoc, arith}
+use Rattle.std.proofs.Common.{◌≡◌, ◌⊎◌, inl, inr, ℕ, ◌+◌, List, [], ◌∷◌, ◌++◌, length, Option, Some, None, refl, sym, ◌∙◌, ap, subst, append_assoc, arith}
+use Rattle.std.specs.Prelude.{codes}
 use Rattle.std.specs.List.{onto_first}
 use Rattle.std.proofs.lemmas.Fmt.{decimal_injective}
 use Rattle.std.proofs.lemmas.List.{append-nil, length-append}
 use Rattle.twins.specs.declared.command.Command.{Command}
-use Rattle.twins.specs.declared.command.Command.TheVariants.{New, Append, Seal, Apply, Size}
+use Rattle.twins.specs.declared.command.Command.TheVariants.{New, Append, Seal, Apply, Size, Metadata}
 use Rattle.twins.specs.Lines.{words_of}
-use Rattle.twins.specs.Grammar.{IsNumberWord, IsBytesWord, WordsSay, IsSkipped, Says, LinesSay}
+use Rattle.twins.specs.Grammar.{IsNumberWord, IsBytesWord, IsMetadataWord, WordsSay, IsSkipped, Says, LinesSay}
 use Rattle.twins.specs.declared.parse.LineError.{LineError}
 use Rattle.twins.specs.declared.parse.LineError.TheVariants.{Bad, Memory}
 use Rattle.twins.specs.Bad.{IsBad, IsFirstBad, IsCause, IsBadHere, Adds}
@@ -26,14 +27,32 @@ one_value text (x ∷ xs) (y ∷ ys) p q =
     let second = decodes text (y ∷ ys) q in
     cc
 
+first_of : List ℕ → ℕ
+first_of [] = 0
+first_of (b ∷ bytes) = b
+
+hyphen_is_no_stop : codes "-" ≡ codes "." → ⊥
+unfolding first_of
+hyphen_is_no_stop e = let f = ap first_of e in omega (arith, f)
+
+-- metadata is one word
+one_metadata : (text : List ℕ) (m n : Option (List ℕ)) → IsMetadataWord text m → IsMetadataWord text n → m ≡ n
+one_metadata text None None p q = refl
+one_metadata text None (Some []) p q = absurd (hyphen_is_no_stop (sym p ∙ q))
+one_metadata text None (Some (b ∷ bytes)) p q = absurd (rw p at q)
+one_metadata text (Some []) None p q = absurd (hyphen_is_no_stop (sym q ∙ p))
+one_metadata text (Some (b ∷ bytes)) None p q = absurd (rw q at p)
+one_metadata text (Some v) (Some w) p q = ap Some (one_value text v w p q)
+
 -- words say one command
 one_command : (words : List (List ℕ)) (a b : Command) → WordsSay words a → WordsSay words b → a ≡ b
 one_command words New New p q = refl
-one_command words New (Append b v) p q = absurd (let e = sym p ∙ q.2 in cc)
-one_command words New (Seal b) p q = absurd (let e = sym p ∙ q.1 in cc)
+one_command words New (Append b w) p q = absurd (let e = sym p ∙ q.2 in cc)
+one_command words New (Seal b n g) p q = absurd (let e = sym p ∙ q.3 in cc)
 one_command words New (Apply b) p q = absurd (let e = sym p ∙ q.1 in cc)
 one_command words New Size p q = absurd (let e = sym p ∙ q in cc)
-one_command words (Append a v) New p q = absurd (let e = sym q ∙ p.2 in cc)
+one_command words New Metadata p q = absurd (let e = sym p ∙ q in cc)
+one_command words (Append a v) New p q = absurd (let e = sym p.2 ∙ q in cc)
 one_command words (Append a v) (Append b w) p q =
     let same = sym p.2 ∙ q.2 in
     let numbers : p.0 ≡ q.0 = cc in
@@ -41,32 +60,46 @@ one_command words (Append a v) (Append b w) p q =
     let number = one_number q.0 a b (rw numbers at p.3) q.3 in
     let value = one_value q.1 v w (rw texts at p.4) q.4 in
     cc
-one_command words (Append a v) (Seal b) p q = absurd (let e = sym p.2 ∙ q.1 in cc)
+one_command words (Append a v) (Seal b n g) p q = absurd (let e = sym p.2 ∙ q.3 in cc)
 one_command words (Append a v) (Apply b) p q = absurd (let e = sym p.2 ∙ q.1 in cc)
 one_command words (Append a v) Size p q = absurd (let e = sym p.2 ∙ q in cc)
-one_command words (Seal a) New p q = absurd (let e = sym p.1 ∙ q in cc)
-one_command words (Seal a) (Append b w) p q = absurd (let e = sym p.1 ∙ q.2 in cc)
-one_command words (Seal a) (Seal b) p q =
-    let same = sym p.1 ∙ q.1 in
+one_command words (Append a v) Metadata p q = absurd (let e = sym p.2 ∙ q in cc)
+one_command words (Seal a m f) New p q = absurd (let e = sym p.3 ∙ q in cc)
+one_command words (Seal a m f) (Append b w) p q = absurd (let e = sym p.3 ∙ q.2 in cc)
+one_command words (Seal a m f) (Seal b n g) p q =
+    let same = sym p.3 ∙ q.3 in
     let numbers : p.0 ≡ q.0 = cc in
-    let number = one_number q.0 a b (rw numbers at p.2) q.2 in
+    let texts : p.1 ≡ q.1 = cc in
+    let floors : p.2 ≡ q.2 = cc in
+    let number = one_number q.0 a b (rw numbers at p.4) q.4 in
+    let metadata = one_metadata q.1 m n (rw texts at p.5) q.5 in
+    let floor = one_number q.2 f g (rw floors at p.6) q.6 in
     cc
-one_command words (Seal a) (Apply b) p q = absurd (let e = sym p.1 ∙ q.1 in cc)
-one_command words (Seal a) Size p q = absurd (let e = sym p.1 ∙ q in cc)
+one_command words (Seal a m f) (Apply b) p q = absurd (let e = sym p.3 ∙ q.1 in cc)
+one_command words (Seal a m f) Size p q = absurd (let e = sym p.3 ∙ q in cc)
+one_command words (Seal a m f) Metadata p q = absurd (let e = sym p.3 ∙ q in cc)
 one_command words (Apply a) New p q = absurd (let e = sym p.1 ∙ q in cc)
 one_command words (Apply a) (Append b w) p q = absurd (let e = sym p.1 ∙ q.2 in cc)
-one_command words (Apply a) (Seal b) p q = absurd (let e = sym p.1 ∙ q.1 in cc)
+one_command words (Apply a) (Seal b n g) p q = absurd (let e = sym p.1 ∙ q.3 in cc)
 one_command words (Apply a) (Apply b) p q =
     let same = sym p.1 ∙ q.1 in
     let numbers : p.0 ≡ q.0 = cc in
     let number = one_number q.0 a b (rw numbers at p.2) q.2 in
     cc
 one_command words (Apply a) Size p q = absurd (let e = sym p.1 ∙ q in cc)
+one_command words (Apply a) Metadata p q = absurd (let e = sym p.1 ∙ q in cc)
 one_command words Size New p q = absurd (let e = sym p ∙ q in cc)
 one_command words Size (Append b w) p q = absurd (let e = sym p ∙ q.2 in cc)
-one_command words Size (Seal b) p q = absurd (let e = sym p ∙ q.1 in cc)
+one_command words Size (Seal b n g) p q = absurd (let e = sym p ∙ q.3 in cc)
 one_command words Size (Apply b) p q = absurd (let e = sym p ∙ q.1 in cc)
 one_command words Size Size p q = refl
+one_command words Size Metadata p q = absurd (let e = sym p ∙ q in cc)
+one_command words Metadata New p q = absurd (let e = sym p ∙ q in cc)
+one_command words Metadata (Append b w) p q = absurd (let e = sym p ∙ q.2 in cc)
+one_command words Metadata (Seal b n g) p q = absurd (let e = sym p ∙ q.3 in cc)
+one_command words Metadata (Apply b) p q = absurd (let e = sym p ∙ q.1 in cc)
+one_command words Metadata Size p q = absurd (let e = sym p ∙ q in cc)
+one_command words Metadata Metadata p q = refl
 
 -- the first byte of words, or 0
 abbrev head_byte : List (List ℕ) → ℕ
@@ -85,17 +118,19 @@ other_head words others n e h = sym h ∙ sym (ap head_byte e) ∙ head_hash wor
 hash_says_nothing : (words : List (List ℕ)) (c : Command) → WordsSay (onto_first 35 words) c → ⊥
 hash_says_nothing words New p = absurd (let e = other_head words _ 110 p refl in omega (arith, e))
 hash_says_nothing words (Append b v) p = absurd (let e = other_head words _ 97 p.2 refl in omega (arith, e))
-hash_says_nothing words (Seal b) p = absurd (let e = other_head words _ 115 p.1 refl in omega (arith, e))
+hash_says_nothing words (Seal b m f) p = absurd (let e = other_head words _ 115 p.3 refl in omega (arith, e))
 hash_says_nothing words (Apply b) p = absurd (let e = other_head words _ 97 p.1 refl in omega (arith, e))
 hash_says_nothing words Size p = absurd (let e = other_head words _ 115 p refl in omega (arith, e))
+hash_says_nothing words Metadata p = absurd (let e = other_head words _ 109 p refl in omega (arith, e))
 
 -- the empty word is no command
 empty_says_nothing : (c : Command) → WordsSay ([] ∷ []) c → ⊥
 empty_says_nothing New p = cc
 empty_says_nothing (Append b v) p = let e = p.2 in cc
-empty_says_nothing (Seal b) p = let e = p.1 in cc
+empty_says_nothing (Seal b m f) p = let e = p.3 in cc
 empty_says_nothing (Apply b) p = let e = p.1 in cc
 empty_says_nothing Size p = cc
+empty_says_nothing Metadata p = cc
 
 -- a line that is skipped says no command
 skipped_says_nothing : (line : List ℕ) (c : Command) → IsSkipped line → Says line c → ⊥

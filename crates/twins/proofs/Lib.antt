@@ -9,3 +9,4 @@ pub mod RunLemmas
 pub mod Endings
 pub mod RunLaws
 pub mod RunGood
+pub mod HexText

@@ -1,26 +1,29 @@
 -- What a change of the batches in memory means.
-use Rattle.std.proofs.Common.{◌≡◌, ℕ, ◌+◌, ◌<◌, ◌≤◌, Bool, true, false, zero, suc, List, [], ◌∷◌, append-nil, ◌++◌, length, map, take, get_or, refl, sym, ◌∙◌, ap, subst, arith}
+use Rattle.std.proofs.Common.{◌≡◌, ◌⊎◌, inl, inr, ℕ, ◌+◌, ◌-◌, ◌<◌, ◌≤◌, Bool, true, false, zero, suc, List, [], ◌∷◌, append-nil, ◌++◌, length, map, take, get_or, Option, Some, None, refl, sym, ◌∙◌, ap, subst, arith}
 use Rattle.std.specs.Prelude.{nat_lt, nat_le, slice_set}
 use Rattle.std.specs.Bool.{Decides}
 use Rattle.std.specs.Cmp.Lexicographic.{pointwise}
 use Rattle.std.proofs.Math.ListN.{get_or-map}
 use Rattle.std.proofs.Math.Seq.{map-set_same, take-length, take-append_seam}
 use Rattle.std.proofs.lemmas.List.{map-set, length-take, length-append, length-take-le, take-append-le}
+use Rattle.std.proofs.lemmas.Bool.{cases_lt}
 use Rattle.std.proofs.lemmas.Bool.Decides.{nat_tests}
 use Rattle.std.proofs.lemmas.Slice.Eq.{slice_eq-Decides}
 use Rattle.log_model.specs.Batches as batches
+use Rattle.log_model.specs.Operations.{floor_of}
 use Rattle.log_model.specs.Machine.{State, batch_at, with_batch, stands_at, max_leaves}
 use Rattle.twins.specs.declared.batch.Batch.{Batch}
 use Rattle.twins.specs.declared.batch.Batch.TheVariants.{Unsealed, Sealed, Gone}
 use Rattle.twins.specs.declared.batch.UnsealedBatch.{UnsealedBatch}
 use Rattle.twins.specs.declared.batch.SealedBatch.{SealedBatch}
-use Rattle.op_codec.specs.declared.keyless.Operation.TheVariants.{Append}
+use Rattle.op_codec.specs.declared.keyless.Operation.TheVariants.{Append, Commit}
 use Rattle.twins.specs.declared.command.Answer.TheVariants as answer
-use Rattle.twins.specs.declared.command.Refusal.TheVariants.{StaleBatch, LocationOverflow}
-use Rattle.twins.specs.Step.{append_to, seal, apply, plain_commit, root_of_list}
+use Rattle.twins.specs.declared.command.Refusal.{Refusal}
+use Rattle.twins.specs.declared.command.Refusal.TheVariants.{ValueTooLong, StaleBatch, LocationOverflow, FloorRegressed, FloorBeyondSize}
+use Rattle.twins.specs.Step.{append_to, seal_refusal, metadata_length, seal, apply, root_of_list}
 use Rattle.std.proofs.lemmas.Option.{slice_get_read, get_or_from_slice_get}
-use Rattle.twins.specs.Operation.{Operation, meaning, operation_decide}
-use Rattle.twins.specs.StateOf.{batch_of, state_from, BatchKept}
+use Rattle.twins.specs.Operation.{Operation, meaning, last_value, operation_decide}
+use Rattle.twins.specs.StateOf.{unsealed_of, batch_of, state_from, BatchKept}
 
 pub batch_at-from : (ops : List Operation) (bs : List Batch) (b : ℕ) → batch_at (state_from ops bs) b ≡ batch_of ops (get_or bs b Gone)
 batch_at-from ops bs b = get_or-map (batch_of ops) bs b Gone
@@ -160,42 +163,128 @@ from-sets ops bs b x y = ap (state_from ops) (set_set bs b x y) ∙ from-set ops
 length-front : (ops : List Operation) (n : ℕ) → n ≤ length ops → length (take n (take n ops)) ≡ n
 length-front ops n le = length-take-le n (take n ops) (let l = length-take-le n ops le in omega (arith, l))
 
-pub seal_stale : (ops : List Operation) (bs : List Batch) (b : ℕ) (u : UnsealedBatch) (x : Batch) → get_or bs b Gone ≡ Unsealed u → BatchKept ops (Unsealed u) → (length ops ≡ u.base → ⊥)
-    → (answer.Refused StaleBatch, state_from ops (slice_set (slice_set bs b x) b Gone)) ≡ seal (state_from ops bs) b (batch_at (state_from ops bs) b)
-seal_stale ops bs b u x e kept differ =
+-- the refusals of a seal
+
+pub refused_stale : (ops : List Operation) (bs : List Batch) (u : UnsealedBatch) (floor : ℕ) → BatchKept ops (Unsealed u) → (length ops ≡ u.base → ⊥)
+    → Some StaleBatch ≡ seal_refusal (state_from ops bs) (unsealed_of ops u) floor
+refused_stale ops bs u floor kept differ =
     let stale : stands_at meaning (state_from ops bs) (take u.base ops) u.base ≡ false = stands_not (state_from ops bs) _ _ (λ same. differ (same ∙ length-front ops u.base kept.0)) in
-    rw (batch_at-from ops bs b, e, stale, from-sets ops bs b x Gone) refl
+    rw stale refl
 
 -- the log at the base of a batch is the list on which it stands
 at_base : (ops : List Operation) (bs : List Batch) (n : ℕ) → length ops ≡ n → stands_at meaning (state_from ops bs) (take n ops) n ≡ true
 at_base ops bs n e = stands (state_from ops bs) _ _ (sym (rw (sym e, take-length ops) (take-length ops)))
 
-pub seal_full : (ops : List Operation) (bs : List Batch) (b : ℕ) (u : UnsealedBatch) (x : Batch) (size : ℕ) → get_or bs b Gone ≡ Unsealed u → length ops ≡ u.base
-    → size ≡ u.base + length u.own.items + 1 → max_leaves < size
-    → (answer.Refused (LocationOverflow size), state_from ops (slice_set (slice_set bs b x) b Gone)) ≡ seal (state_from ops bs) b (batch_at (state_from ops bs) b)
-seal_full ops bs b u x size e at_end count over =
+pub refused_full : (ops : List Operation) (bs : List Batch) (u : UnsealedBatch) (floor size : ℕ) → length ops ≡ u.base → size ≡ u.base + length u.own.items + 1 → max_leaves < size
+    → Some (LocationOverflow size) ≡ seal_refusal (state_from ops bs) (unsealed_of ops u) floor
+refused_full ops bs u floor size at_end count over =
     let full : nat_lt max_leaves (u.base + length u.own.items + 1) ≡ true = lt_true max_leaves (u.base + length u.own.items + 1) (omega (arith, count, over)) in
-    rw (batch_at-from ops bs b, e, at_base ops bs u.base at_end, full, from-sets ops bs b x Gone, count) refl
+    rw (at_base ops bs u.base at_end, full, count) refl
 
-pub seal_done : (ops : List Operation) (bs : List Batch) (b : ℕ) (u : UnsealedBatch) (x : Batch) (size : ℕ) (c : SealedBatch) → get_or bs b Gone ≡ Unsealed u → length ops ≡ u.base
-    → size ≡ u.base + length u.own.items + 1 → size ≤ max_leaves → c.boundary ≡ u.base → c.shared ≡ u.base → c.own.items ≡ u.own.items ++ (plain_commit ∷ []) → c.root ≡ root_of_list (ops ++ c.own.items)
-    → (answer.Sealed size c.root, state_from ops (slice_set (slice_set bs b x) b (Sealed c))) ≡ seal (state_from ops bs) b (batch_at (state_from ops bs) b)
-seal_done ops bs b u x size c e at_end count fits boundary shared own root =
-    let room : nat_lt max_leaves (u.base + length u.own.items + 1) ≡ false = lt_false max_leaves (u.base + length u.own.items + 1) (omega (arith, count, fits)) in
+pub refused_fallen : (ops : List Operation) (bs : List Batch) (u : UnsealedBatch) (floor below : ℕ) → length ops ≡ u.base → u.base + length u.own.items + 1 ≤ max_leaves
+    → below ≡ floor_of meaning ops → floor < below → Some (FloorRegressed floor below) ≡ seal_refusal (state_from ops bs) (unsealed_of ops u) floor
+refused_fallen ops bs u floor below at_end fits is low =
+    let room : nat_lt max_leaves (u.base + length u.own.items + 1) ≡ false = lt_false max_leaves (u.base + length u.own.items + 1) fits in
+    let fallen : nat_lt floor (floor_of meaning ops) ≡ true = lt_true floor (floor_of meaning ops) (omega (arith, is, low)) in
+    rw (at_base ops bs u.base at_end, room, fallen, is) refl
+
+pub refused_past : (ops : List Operation) (bs : List Batch) (u : UnsealedBatch) (floor below location : ℕ) → length ops ≡ u.base → u.base + length u.own.items + 1 ≤ max_leaves
+    → below ≡ floor_of meaning ops → below ≤ floor → location ≡ u.base + length u.own.items → location < floor
+    → Some (FloorBeyondSize floor location) ≡ seal_refusal (state_from ops bs) (unsealed_of ops u) floor
+refused_past ops bs u floor below location at_end fits is high there past =
+    let room : nat_lt max_leaves (u.base + length u.own.items + 1) ≡ false = lt_false max_leaves (u.base + length u.own.items + 1) fits in
+    let risen : nat_lt floor (floor_of meaning ops) ≡ false = lt_false floor (floor_of meaning ops) (omega (arith, is, high)) in
+    let beyond : nat_lt (u.base + length u.own.items) floor ≡ true = lt_true (u.base + length u.own.items) floor (omega (arith, there, past)) in
+    rw (at_base ops bs u.base at_end, room, risen, beyond, there) refl
+
+pub refused_not : (ops : List Operation) (bs : List Batch) (u : UnsealedBatch) (floor below : ℕ) → length ops ≡ u.base → u.base + length u.own.items + 1 ≤ max_leaves
+    → below ≡ floor_of meaning ops → below ≤ floor → floor ≤ u.base + length u.own.items → None ≡ seal_refusal (state_from ops bs) (unsealed_of ops u) floor
+refused_not ops bs u floor below at_end fits is high within =
+    let room : nat_lt max_leaves (u.base + length u.own.items + 1) ≡ false = lt_false max_leaves (u.base + length u.own.items + 1) fits in
+    let risen : nat_lt floor (floor_of meaning ops) ≡ false = lt_false floor (floor_of meaning ops) (omega (arith, is, high)) in
+    let inside : nat_lt (u.base + length u.own.items) floor ≡ false = lt_false (u.base + length u.own.items) floor within in
+    rw (at_base ops bs u.base at_end, room, risen, inside) refl
+
+same_or_not : (m n : ℕ) → (m ≡ n) ⊎ (m ≡ n → ⊥)
+same_or_not m n = elim (cases_lt m n) [
+  | inl lt ↦ inr (λ e. omega (arith, lt, e))
+  | inr le ↦ elim (cases_lt n m) [
+    | inl lt ↦ inr (λ e. omega (arith, lt, e))
+    | inr ge ↦ inl (omega (arith, le, ge))
+  ]
+]
+
+-- a seal that isn't refused stands on the whole log, and fits
+stands_here : (ops : List Operation) (bs : List Batch) (u : UnsealedBatch) (floor : ℕ) → BatchKept ops (Unsealed u) → None ≡ seal_refusal (state_from ops bs) (unsealed_of ops u) floor → length ops ≡ u.base
+stands_here ops bs u floor kept none = elim (same_or_not (length ops) u.base) [
+  | inl same ↦ same
+  | inr differ ↦ let never = none ∙ sym (refused_stale ops bs u floor kept differ) in absurd (cc)
+]
+
+fits_here : (ops : List Operation) (bs : List Batch) (u : UnsealedBatch) (floor : ℕ) → BatchKept ops (Unsealed u) → None ≡ seal_refusal (state_from ops bs) (unsealed_of ops u) floor → u.base + length u.own.items + 1 ≤ max_leaves
+fits_here ops bs u floor kept none = elim (cases_lt max_leaves (u.base + length u.own.items + 1)) [
+  | inl over ↦ let never = none ∙ sym (refused_full ops bs u floor (u.base + length u.own.items + 1) (stands_here ops bs u floor kept none) refl over) in absurd (cc)
+  | inr fits ↦ fits
+]
+
+pub seals : (ops : List Operation) (bs : List Batch) (u : UnsealedBatch) (floor : ℕ) → BatchKept ops (Unsealed u) → None ≡ seal_refusal (state_from ops bs) (unsealed_of ops u) floor
+    → (length ops ≡ u.base) × (u.base + length u.own.items + 1 ≤ max_leaves)
+seals ops bs u floor kept none = (stands_here ops bs u floor kept none, fits_here ops bs u floor kept none)
+
+-- so it is for a batch in its place, whatever list holds the log
+pub seals_at : (ops now : List Operation) (bs : List Batch) (b : ℕ) (u : UnsealedBatch) (floor : ℕ) → now ≡ ops → get_or bs b Gone ≡ Unsealed u → ((q : ℕ) → BatchKept ops (get_or bs q Gone))
+    → None ≡ seal_refusal (state_from now bs) (unsealed_of now u) floor → (length ops ≡ u.base) × (u.base + length u.own.items + 1 ≤ max_leaves)
+seals_at ops now bs b u floor same e kept none =
+    let P : Batch → Type 0 = BatchKept ops in
+    seals ops bs u floor (subst P e (kept b)) (rw same at none)
+
+-- with the commit it is one longer
+pub length-ended : (own own' : List Operation) (commit : Operation) → own' ≡ own ++ (commit ∷ []) → length own' ≡ length own + 1
+length-ended own own' commit e = ap length e ∙ length-append own (commit ∷ [])
+
+pub seal_long : (limit : ℕ) (ops : List Operation) (bs : List Batch) (b : ℕ) (metadata : Option (List ℕ)) (floor : ℕ) (u : UnsealedBatch) → get_or bs b Gone ≡ Unsealed u → limit < metadata_length metadata
+    → (answer.Refused (ValueTooLong (metadata_length metadata)), state_from ops (slice_set bs b (Unsealed u))) ≡ seal limit (state_from ops bs) b metadata floor (batch_at (state_from ops bs) b)
+seal_long limit ops bs b metadata floor u e long =
+    let still : map (batch_of ops) (slice_set bs b (Unsealed u)) ≡ map (batch_of ops) bs = map-set_same (batch_of ops) bs b (Unsealed u) Gone (ap (batch_of ops) (sym e)) in
+    rw (batch_at-from ops bs b, e, lt_true limit (metadata_length metadata) long, still) refl
+
+pub seal_lost : (limit : ℕ) (ops : List Operation) (bs : List Batch) (b : ℕ) (metadata : Option (List ℕ)) (floor : ℕ) (u : UnsealedBatch) (x : Batch) (refusal : Refusal) → get_or bs b Gone ≡ Unsealed u
+    → metadata_length metadata ≤ limit → Some refusal ≡ seal_refusal (state_from ops bs) (unsealed_of ops u) floor
+    → (answer.Refused refusal, state_from ops (slice_set (slice_set bs b x) b Gone)) ≡ seal limit (state_from ops bs) b metadata floor (batch_at (state_from ops bs) b)
+seal_lost limit ops bs b metadata floor u x refusal e short why =
+    rw (batch_at-from ops bs b, e, lt_false limit (metadata_length metadata) short, sym why, from-sets ops bs b x Gone) refl
+
+pub seal_done : (limit : ℕ) (ops : List Operation) (bs : List Batch) (b : ℕ) (metadata : Option (List ℕ)) (floor : ℕ) (u : UnsealedBatch) (x : Batch) (size : ℕ) (c : SealedBatch) → get_or bs b Gone ≡ Unsealed u
+    → metadata_length metadata ≤ limit → None ≡ seal_refusal (state_from ops bs) (unsealed_of ops u) floor → length ops ≡ u.base
+    → size ≡ u.base + length c.own.items → c.boundary ≡ u.base → c.shared ≡ u.base → c.own.items ≡ u.own.items ++ (Commit metadata floor ∷ []) → c.root ≡ root_of_list (ops ++ c.own.items)
+    → (answer.Sealed size c.root, state_from ops (slice_set (slice_set bs b x) b (Sealed c))) ≡ seal limit (state_from ops bs) b metadata floor (batch_at (state_from ops bs) b)
+seal_done limit ops bs b metadata floor u x size c e short none at_end count boundary shared own root =
     let front : take u.base ops ≡ ops = rw (sym at_end) (take-length ops) in
-    let long : length (ops ++ (u.own.items ++ (plain_commit ∷ []))) ≡ size = omega (arith, at_end, count, length-append ops (u.own.items ++ (plain_commit ∷ [])), length-append u.own.items (plain_commit ∷ [])) in
-    rw (batch_at-from ops bs b, e, at_base ops bs u.base at_end, room, from-sets ops bs b x (Sealed c), boundary, shared, root, own, front, long) refl
+    let long : length (ops ++ (u.own.items ++ (Commit metadata floor ∷ []))) ≡ size = rw (sym own) (omega (arith, at_end, count, length-append ops c.own.items)) in
+    rw (batch_at-from ops bs b, e, lt_false limit (metadata_length metadata) short, sym none, from-sets ops bs b x (Sealed c), boundary, shared, root, own, front, long) refl
 
-pub kept_sealed : (ops : List Operation) (bs : List Batch) (b : ℕ) (u : UnsealedBatch) (x : Batch) (size : ℕ) (c : SealedBatch) → ((q : ℕ) → BatchKept ops (get_or bs q Gone)) → length ops ≡ u.base
-    → size ≡ u.base + length u.own.items + 1 → size ≤ max_leaves → c.boundary ≡ u.base → c.shared ≡ u.base → c.own.items ≡ u.own.items ++ (plain_commit ∷ []) → c.root ≡ root_of_list (ops ++ c.own.items)
+pub kept_sealed : (ops : List Operation) (bs : List Batch) (b : ℕ) (u : UnsealedBatch) (x : Batch) (commit : Operation) (c : SealedBatch) → ((q : ℕ) → BatchKept ops (get_or bs q Gone)) → length ops ≡ u.base
+    → u.base + length u.own.items + 1 ≤ max_leaves → c.boundary ≡ u.base → c.shared ≡ u.base → c.own.items ≡ u.own.items ++ (commit ∷ []) → c.root ≡ root_of_list (ops ++ c.own.items)
     → (q : ℕ) → BatchKept ops (get_or (slice_set (slice_set bs b x) b (Sealed c)) q Gone)
-kept_sealed ops bs b u x size c kept at_end count fits boundary shared own root =
+kept_sealed ops bs b u x commit c kept at_end fits boundary shared own root =
     let P : Batch → Type 0 = BatchKept ops in
     let front : take c.shared ops ≡ ops = rw (shared, sym at_end) (take-length ops) in
-    let l : length c.own.items ≡ length u.own.items + 1 = ap length own ∙ length-append u.own.items (plain_commit ∷ []) in
-    let this : BatchKept ops (Sealed c) = (omega (arith, boundary, shared), omega (arith, shared, at_end), omega (arith, shared, l, count, fits), rw front root) in
+    let l : length c.own.items ≡ length u.own.items + 1 = ap length own ∙ length-append u.own.items (commit ∷ []) in
+    let this : BatchKept ops (Sealed c) = (omega (arith, boundary, shared), omega (arith, shared, at_end), omega (arith, shared, l, fits), rw front root) in
     rw (set_set bs b x (Sealed c)) (set_keeps P bs b (Sealed c) kept this)
+
+-- the list that stands at a place of another
+pub stood_on : (s : State Operation) (list : List Operation) (n : ℕ) → stands_at meaning s list n ≡ true → s.ops ≡ take n list
+stood_on s list n e = (lists_decide s.ops (take n list)).0 e
 
 -- a list that stands within another isn't longer
 pub shorter : (s : State Operation) (list : List Operation) (n : ℕ) → stands_at meaning s list n ≡ true → length s.ops ≤ length list
 shorter s list n e = let same : s.ops ≡ take n list = (lists_decide s.ops (take n list)).0 e in rw same (omega (arith, length-take n list))
+
+-- the value that ends a list is that of its last operation
+pub last_value-last : (ops : List Operation) (d : Operation) → 0 < length ops → last_value ops ≡ meaning.value (get_or ops (length ops - 1) d)
+last_value-last [] d lt = absurd (omega arith)
+last_value-last (op ∷ []) d lt = refl
+last_value-last (op ∷ next ∷ ops) d lt =
+    let e : length (op ∷ next ∷ ops) - 1 ≡ suc (length (next ∷ ops) - 1) = omega arith in
+    rw e (last_value-last (next ∷ ops) d (omega arith))

@@ -1,16 +1,17 @@
 -- The laws of whole runs.
-use Rattle.std.proofs.Common.{◌≡◌, ◌⊎◌, inl, inr, ℕ, zero, suc, ◌+◌, ◌<◌, ◌≤◌, Bool, true, false, cond, List, [], ◌∷◌, ◌++◌, length, take, get_or, Some, refl, ap, subst, arith}
+use Rattle.std.proofs.Common.{◌≡◌, ◌⊎◌, inl, inr, ℕ, zero, suc, ◌+◌, ◌<◌, ◌≤◌, Bool, true, false, cond, List, [], ◌∷◌, ◌++◌, length, take, get_or, Option, Some, None, refl, ap, subst, arith}
 use Rattle.std.specs.Prelude.{nat_lt, nat_le, slice_get, unwrap_or}
 use Rattle.std.specs.List.Sorted.{IsNonDecreasingBy}
-use Rattle.log_model.specs.Batches.{Batch, Unsealed, Sealed, Gone, size_of, effective_boundary}
+use Rattle.log_model.specs.Batches.{Batch, UnsealedBatch, Unsealed, Sealed, Gone, size_of}
 use Rattle.log_model.specs.Machine.{State, max_leaves, batch_at, with_batch, stands_at}
 use Rattle.twins.specs.Operation.{Operation, meaning}
+use Rattle.op_codec.specs.declared.keyless.Operation.TheVariants.{Commit}
 use Rattle.twins.specs.declared.command.Command.{Command}
 use Rattle.twins.specs.declared.command.Command.TheVariants as command
 use Rattle.twins.specs.declared.command.Answer.TheVariants as answer
 use Rattle.twins.specs.declared.command.Refusal.{Refusal}
 use Rattle.twins.specs.declared.command.Reply.{Reply}
-use Rattle.twins.specs.Step.{Outcome, step, reply, append_to, seal, apply}
+use Rattle.twins.specs.Step.{Outcome, step, reply, append_to, seal_refusal, metadata_length, sealed_or_lost, seal, apply}
 use Rattle.twins.specs.Trace.{trace, replies_from, state_after, fresh_state}
 use Rattle.twins.specs.Laws.{SizesNeverFall, TellsList, RepliesTellLists, RunsContinue, RefusalsKeep}
 use Rattle.twins.proofs.Representation.{shorter}
@@ -30,10 +31,14 @@ append_grows limit s b v (Unsealed u) = either (Grows s) (nat_lt limit (length v
 append_grows limit s b v (Sealed c) = omega arith
 append_grows limit s b v Gone = omega arith
 
-seal_grows : (s : State Operation) (b : ℕ) (x : Batch Operation) → Grows s (seal s b x)
-seal_grows s b (Unsealed u) = either (Grows s) (stands_at meaning s u.list (effective_boundary u)) _ _ (λ e. either (Grows s) (nat_lt max_leaves (size_of u + 1)) _ _ (λ f. omega arith) (λ f. omega arith)) (λ e. omega arith)
-seal_grows s b (Sealed c) = omega arith
-seal_grows s b Gone = omega arith
+ended_grows : (s : State Operation) (b : ℕ) (u : UnsealedBatch Operation) (commit : Operation) (r : Option Refusal) → Grows s (sealed_or_lost s b u commit r)
+ended_grows s b u commit (Some refusal) = omega arith
+ended_grows s b u commit None = omega arith
+
+seal_grows : (limit : ℕ) (s : State Operation) (b : ℕ) (metadata : Option (List ℕ)) (floor : ℕ) (x : Batch Operation) → Grows s (seal limit s b metadata floor x)
+seal_grows limit s b metadata floor (Unsealed u) = either (Grows s) (nat_lt limit (metadata_length metadata)) _ _ (λ e. omega arith) (λ e. ended_grows s b u (Commit metadata floor) (seal_refusal s u floor))
+seal_grows limit s b metadata floor (Sealed c) = omega arith
+seal_grows limit s b metadata floor Gone = omega arith
 
 apply_grows : (s : State Operation) (b : ℕ) (x : Batch Operation) → Grows s (apply s b x)
 apply_grows s b (Sealed c) = either (Grows s) (stands_at meaning s c.list c.boundary) _ _ (λ e. shorter s c.list c.boundary e) (λ e. omega arith)
@@ -43,9 +48,10 @@ apply_grows s b Gone = omega arith
 step_grows : (limit : ℕ) (s : State Operation) (c : Command) → Grows s (step limit s c)
 step_grows limit s command.New = omega arith
 step_grows limit s (command.Append b v) = append_grows limit s b v (batch_at s b)
-step_grows limit s (command.Seal b) = seal_grows s b (batch_at s b)
+step_grows limit s (command.Seal b metadata floor) = seal_grows limit s b metadata floor (batch_at s b)
 step_grows limit s (command.Apply b) = apply_grows s b (batch_at s b)
 step_grows limit s command.Size = omega arith
+step_grows limit s command.Metadata = omega arith
 
 -- no later reply tells a smaller size
 later_larger : (limit : ℕ) (s : State Operation) (cs : List Command) (j : ℕ) (d : Reply) → j < length (replies_from limit s cs) → length s.ops ≤ (get_or (replies_from limit s cs) j d).size
@@ -98,19 +104,23 @@ continues limit cs ds = ap (λ (rs : List Reply). reply (answer.Opened 1 0, fres
 -- ---- refusals
 
 abbrev Keeps : State Operation → Command → Outcome → Type 0
-Keeps s c o = (r : Refusal) → o.0 ≡ answer.Refused r → (o.1 ≡ s) ⊎ ((b : ℕ) × (c ≡ command.Seal b) × (o.1 ≡ with_batch s b Gone))
+Keeps s c o = (r : Refusal) → o.0 ≡ answer.Refused r → (o.1 ≡ s) ⊎ ((b : ℕ) × (metadata : Option (List ℕ)) × (floor : ℕ) × (c ≡ command.Seal b metadata floor) × (o.1 ≡ with_batch s b Gone))
 
 append_keeps : (limit : ℕ) (s : State Operation) (b : ℕ) (v : List ℕ) (c : Command) (x : Batch Operation) → Keeps s c (append_to limit s b v x)
 append_keeps limit s b v c (Unsealed u) = either (Keeps s c) (nat_lt limit (length v)) _ _ (λ e r is. inl refl) (λ e. either (Keeps s c) (nat_le max_leaves (size_of u)) _ _ (λ f r is. inl refl) (λ f r is. absurd (cc)))
 append_keeps limit s b v c (Sealed d) = λ r is. inl refl
 append_keeps limit s b v c Gone = λ r is. inl refl
 
-seal_keeps : (s : State Operation) (b : ℕ) (x : Batch Operation) → Keeps s (command.Seal b) (seal s b x)
-seal_keeps s b (Unsealed u) = either (Keeps s (command.Seal b)) (stands_at meaning s u.list (effective_boundary u)) _ _
-    (λ e. either (Keeps s (command.Seal b)) (nat_lt max_leaves (size_of u + 1)) _ _ (λ f r is. inr (b, refl, refl)) (λ f r is. absurd (cc)))
-    (λ e r is. inr (b, refl, refl))
-seal_keeps s b (Sealed c) = λ r is. inl refl
-seal_keeps s b Gone = λ r is. inl refl
+ended_keeps : (s : State Operation) (b : ℕ) (metadata : Option (List ℕ)) (floor : ℕ) (u : UnsealedBatch Operation) (why : Option Refusal)
+    → Keeps s (command.Seal b metadata floor) (sealed_or_lost s b u (Commit metadata floor) why)
+ended_keeps s b metadata floor u (Some refusal) = λ r is. inr (b, metadata, floor, refl, refl)
+ended_keeps s b metadata floor u None = λ r is. absurd (cc)
+
+seal_keeps : (limit : ℕ) (s : State Operation) (b : ℕ) (metadata : Option (List ℕ)) (floor : ℕ) (x : Batch Operation) → Keeps s (command.Seal b metadata floor) (seal limit s b metadata floor x)
+seal_keeps limit s b metadata floor (Unsealed u) = either (Keeps s (command.Seal b metadata floor)) (nat_lt limit (metadata_length metadata)) _ _
+    (λ e r is. inl refl) (λ e. ended_keeps s b metadata floor u (seal_refusal s u floor))
+seal_keeps limit s b metadata floor (Sealed c) = λ r is. inl refl
+seal_keeps limit s b metadata floor Gone = λ r is. inl refl
 
 apply_keeps : (s : State Operation) (b : ℕ) (c : Command) (x : Batch Operation) → Keeps s c (apply s b x)
 apply_keeps s b c (Sealed d) = either (Keeps s c) (stands_at meaning s d.list d.boundary) _ _ (λ e r is. absurd (cc)) (λ e r is. inl refl)
@@ -120,6 +130,7 @@ apply_keeps s b c Gone = λ r is. inl refl
 pub keep : RefusalsKeep
 keep limit s command.New r is = absurd (cc)
 keep limit s (command.Append b v) r is = append_keeps limit s b v (command.Append b v) (batch_at s b) r is
-keep limit s (command.Seal b) r is = seal_keeps s b (batch_at s b) r is
+keep limit s (command.Seal b metadata floor) r is = seal_keeps limit s b metadata floor (batch_at s b) r is
 keep limit s (command.Apply b) r is = apply_keeps s b (command.Apply b) (batch_at s b) r is
 keep limit s command.Size r is = absurd (cc)
+keep limit s command.Metadata r is = absurd (cc)

@@ -2,7 +2,7 @@
 use Rattle.std.specs.Prelude.{◌≡◌, ◌⊎◌, ℕ, ◌/◌, ◌%◌, ◌^◌, ◌<◌, List, [], ◌∷◌, Option, Some, None, codes, decimal}
 use Rattle.hex.specs.Hex.{hex_digit_value}
 use Rattle.twins.specs.declared.command.Command.{Command}
-use Rattle.twins.specs.declared.command.Command.TheVariants.{New, Append, Seal, Apply, Size}
+use Rattle.twins.specs.declared.command.Command.TheVariants.{New, Append, Seal, Apply, Size, Metadata}
 use Rattle.twins.specs.Lines.{lines_of, words_of}
 
 -- each byte stands in two digits, of either case, the high half first
@@ -18,6 +18,11 @@ abbrev pub IsBytesWord : List ℕ → List ℕ → Type 0
 IsBytesWord text [] = text ≡ codes "."
 IsBytesWord text (b ∷ bytes) = IsHex text (b ∷ bytes)
 
+-- a hyphen stands for no metadata
+abbrev pub IsMetadataWord : List ℕ → Option (List ℕ) → Type 0
+IsMetadataWord text None = text ≡ codes "-"
+IsMetadataWord text (Some bytes) = IsBytesWord text bytes
+
 -- the word is the number, in decimal
 pub record IsNumberWord (text : List ℕ) (n : ℕ) : Type 0 where
   pub digits : text ≡ decimal n
@@ -27,9 +32,10 @@ pub record IsNumberWord (text : List ℕ) (n : ℕ) : Type 0 where
 abbrev pub WordsSay : List (List ℕ) → Command → Type 0
 WordsSay words New = words ≡ codes "new" ∷ []
 WordsSay words (Append b value) = (number : List ℕ) × (text : List ℕ) × (words ≡ codes "append" ∷ number ∷ text ∷ []) × IsNumberWord number b × IsBytesWord text value
-WordsSay words (Seal b) = (number : List ℕ) × (words ≡ codes "seal" ∷ number ∷ codes "-" ∷ codes "0" ∷ []) × IsNumberWord number b
+WordsSay words (Seal b metadata floor) = (number : List ℕ) × (text : List ℕ) × (last : List ℕ) × (words ≡ codes "seal" ∷ number ∷ text ∷ last ∷ []) × IsNumberWord number b × IsMetadataWord text metadata × IsNumberWord last floor
 WordsSay words (Apply b) = (number : List ℕ) × (words ≡ codes "apply" ∷ number ∷ []) × IsNumberWord number b
 WordsSay words Size = words ≡ codes "size" ∷ []
+WordsSay words Metadata = words ≡ codes "metadata" ∷ []
 
 abbrev pub SayNothing : List (List ℕ) → Type 0
 SayNothing words = (command : Command) → WordsSay words command → ⊥

@@ -1,5 +1,5 @@
 -- Laws of whole runs, and of a refusal.
-use Rattle.std.specs.Prelude.{◌≡◌, ◌⊎◌, ℕ, List, ◌++◌, length, take, slice_get, Some}
+use Rattle.std.specs.Prelude.{◌≡◌, ◌⊎◌, ℕ, List, Option, ◌++◌, length, take, slice_get, Some}
 use Rattle.std.specs.List.Sorted.{IsNonDecreasingBy}
 use Rattle.log_model.specs.Batches.{Gone}
 use Rattle.log_model.specs.Machine.{State, with_batch}
@@ -37,4 +37,4 @@ RunsContinue = (limit : ℕ) (cs ds : List Command) → trace limit (cs ++ ds) �
 -- A refused command changes nothing, or is a seal and loses its batch.
 abbrev pub RefusalsKeep : Type 0
 RefusalsKeep = (limit : ℕ) (s : State Operation) (c : Command) (r : Refusal) → (step limit s c).0 ≡ answer.Refused r
-    → ((step limit s c).1 ≡ s) ⊎ ((b : ℕ) × (c ≡ command.Seal b) × ((step limit s c).1 ≡ with_batch s b Gone))
+    → ((step limit s c).1 ≡ s) ⊎ ((b : ℕ) × (metadata : Option (List ℕ)) × (floor : ℕ) × (c ≡ command.Seal b metadata floor) × ((step limit s c).1 ≡ with_batch s b Gone))

@@ -4,13 +4,17 @@ use Rattle.log_model.specs.Batches as batches
 use Rattle.log_model.specs.Machine.{State, max_leaves}
 use Rattle.twins.specs.Operation.{Operation}
 use Rattle.twins.specs.declared.batch.Batch.{Batch}
+use Rattle.twins.specs.declared.batch.UnsealedBatch.{UnsealedBatch}
 use Rattle.twins.specs.declared.batch.Batch.TheVariants.{Unsealed, Sealed, Gone}
 use Rattle.twins.specs.declared.machine.Machine.{Machine}
 use Rattle.twins.specs.Step.{root_of_list}
 
 -- A batch over the log's list, of which it keeps only how much it shares, and its own operations.
+abbrev pub unsealed_of : List Operation → UnsealedBatch → batches.UnsealedBatch Operation
+unsealed_of ops u = record { list = take u.base ops; base = u.base; pending = u.own.items }
+
 abbrev pub batch_of : List Operation → Batch → batches.Batch Operation
-batch_of ops (Unsealed u) = batches.Unsealed (record { list = take u.base ops; base = u.base; pending = u.own.items })
+batch_of ops (Unsealed u) = batches.Unsealed (unsealed_of ops u)
 batch_of ops (Sealed c) = batches.Sealed (record { list = take c.shared ops ++ c.own.items; boundary = c.boundary })
 batch_of ops Gone = batches.Gone
 

@@ -1,25 +1,25 @@
 -- The list machine's step: what each command answers, and the state that it leaves.
-use Rattle.std.specs.Prelude.{ℕ, ◌+◌, nat_lt, nat_le, List, length, None, if◌then◌else◌}
+use Rattle.std.specs.Prelude.{ℕ, ◌+◌, nat_lt, nat_le, List, length, Option, Some, None, if◌then◌else◌}
 use Rattle.tree_shape.specs.declared.sha256.Sha256Digest.{Sha256Digest}
 use Rattle.tree_shape.specs.Mmr.{mmr}
 use Rattle.log_model.specs.Operations.{floor_of, root_of}
-use Rattle.log_model.specs.Batches.{Batch, Unsealed, Sealed, Gone, size_of, appended, sealed, effective_boundary}
+use Rattle.log_model.specs.Batches.{Batch, UnsealedBatch, Unsealed, Sealed, Gone, size_of, appended, sealed, effective_boundary}
 use Rattle.log_model.specs.Machine.{State, max_leaves, batch_at, with_batch, begun, applied, stands_at}
-use Rattle.twins.specs.Operation.{Operation, meaning, sha}
+use Rattle.twins.specs.Operation.{Operation, meaning, last_value, sha}
 use Rattle.op_codec.specs.declared.keyless.Operation.TheVariants.{Append, Commit}
 use Rattle.twins.specs.declared.command.Command.{Command}
 use Rattle.twins.specs.declared.command.Command.TheVariants as command
 use Rattle.twins.specs.declared.command.Answer.{Answer}
 use Rattle.twins.specs.declared.command.Answer.TheVariants as answer
 use Rattle.twins.specs.declared.command.Refusal.{Refusal}
-use Rattle.twins.specs.declared.command.Refusal.TheVariants.{NoBatch, ValueTooLong, StaleBatch, LocationOverflow}
+use Rattle.twins.specs.declared.command.Refusal.TheVariants.{NoBatch, ValueTooLong, StaleBatch, LocationOverflow, FloorRegressed, FloorBeyondSize}
 use Rattle.twins.specs.declared.command.Reply.{Reply}
 
 -- The root of the run's tree: an MMR over SHA-256.
 abbrev pub root_of_list : List Operation → Sha256Digest
 root_of_list ops = root_of mmr sha meaning ops
 
--- The commit that ends a batch, and that a log begins with.
+-- The commit that a log begins with.
 abbrev pub plain_commit : Operation
 plain_commit = Commit None 0
 
@@ -44,15 +44,33 @@ append_to limit s b v (Unsealed u) =
 append_to limit s b v (Sealed c) = refused s (NoBatch b)
 append_to limit s b v Gone = refused s (NoBatch b)
 
--- A commit ends batch b where the list is the one on which it stands. From StaleBatch on a refusal loses it.
-abbrev pub seal : State Operation → ℕ → Batch Operation → Outcome
-seal s b (Unsealed u) =
+-- Why a seal of this floor loses an unsealed batch, if it does: the list isn't the one on which the batch stands, or it would be too long, or the floor falls or is past the commit.
+abbrev pub seal_refusal : State Operation → UnsealedBatch Operation → ℕ → Option Refusal
+seal_refusal s u floor =
     if stands_at meaning s u.list (effective_boundary u) then
-    (if nat_lt max_leaves (size_of u + 1) then lost s b (LocationOverflow (size_of u + 1))
-    else (answer.Sealed (length (sealed u plain_commit).list) (root_of_list (sealed u plain_commit).list), with_batch s b (Sealed (sealed u plain_commit))))
-    else lost s b StaleBatch
-seal s b (Sealed c) = refused s (NoBatch b)
-seal s b Gone = refused s (NoBatch b)
+    (if nat_lt max_leaves (size_of u + 1) then Some (LocationOverflow (size_of u + 1))
+    else (if nat_lt floor (floor_of meaning s.ops) then Some (FloorRegressed floor (floor_of meaning s.ops))
+    else (if nat_lt (size_of u) floor then Some (FloorBeyondSize floor (size_of u))
+    else None)))
+    else Some StaleBatch
+
+-- The length of metadata, 0 where there is none.
+abbrev pub metadata_length : Option (List ℕ) → ℕ
+metadata_length None = 0
+metadata_length (Some metadata) = length metadata
+
+-- The batch is ended by this commit, or lost.
+abbrev pub sealed_or_lost : State Operation → ℕ → UnsealedBatch Operation → Operation → Option Refusal → Outcome
+sealed_or_lost s b u commit (Some refusal) = lost s b refusal
+sealed_or_lost s b u commit None = (answer.Sealed (length (sealed u commit).list) (root_of_list (sealed u commit).list), with_batch s b (Sealed (sealed u commit)))
+
+-- A commit ends batch b, where nothing refuses it. Metadata that is too long leaves the batch; each other refusal loses it.
+abbrev pub seal : ℕ → State Operation → ℕ → Option (List ℕ) → ℕ → Batch Operation → Outcome
+seal limit s b metadata floor (Unsealed u) =
+    if nat_lt limit (metadata_length metadata) then refused s (ValueTooLong (metadata_length metadata))
+    else sealed_or_lost s b u (Commit metadata floor) (seal_refusal s u floor)
+seal limit s b metadata floor (Sealed c) = refused s (NoBatch b)
+seal limit s b metadata floor Gone = refused s (NoBatch b)
 
 -- The list becomes that of batch b where it is the first of that list, up to the boundary.
 abbrev pub apply : State Operation → ℕ → Batch Operation → Outcome
@@ -66,9 +84,10 @@ apply s b Gone = refused s (NoBatch b)
 abbrev pub step : ℕ → State Operation → Command → Outcome
 step limit s command.New = (answer.Batch (length s.batches), begun s)
 step limit s (command.Append b v) = append_to limit s b v (batch_at s b)
-step limit s (command.Seal b) = seal s b (batch_at s b)
+step limit s (command.Seal b metadata floor) = seal limit s b metadata floor (batch_at s b)
 step limit s (command.Apply b) = apply s b (batch_at s b)
 step limit s command.Size = (answer.Size (length s.ops) 0 (floor_of meaning s.ops), s)
+step limit s command.Metadata = (answer.Metadata (last_value s.ops), s)
 
 -- The reply: the answer, with the size and the root of the list after the step.
 abbrev pub reply : Outcome → Reply

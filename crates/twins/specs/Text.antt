@@ -1,14 +1,14 @@
 -- The text of replies.
-use Rattle.std.specs.Prelude.{ℕ, List, codes, decimal}
+use Rattle.std.specs.Prelude.{ℕ, List, [], ◌∷◌, Option, Some, None, codes, decimal}
 use Rattle.std.specs.List.{flat_map}
 use Rattle.stream_base.specs.Writing.{text_then}
 use Rattle.hex.specs.Hex.{encode_lower}
 use Rattle.tree_shape.specs.declared.sha256.Sha256Digest.{Sha256Digest}
 use Rattle.tree_shape.specs.Sha256Codec.{bytes_of}
 use Rattle.twins.specs.declared.command.Answer.{Answer}
-use Rattle.twins.specs.declared.command.Answer.TheVariants.{Opened, Batch, Done, Sealed, Applied, Size, Refused}
+use Rattle.twins.specs.declared.command.Answer.TheVariants.{Opened, Batch, Done, Sealed, Applied, Size, Metadata, Refused}
 use Rattle.twins.specs.declared.command.Refusal.{Refusal}
-use Rattle.twins.specs.declared.command.Refusal.TheVariants.{NoBatch, ValueTooLong, StaleBatch, LocationOverflow}
+use Rattle.twins.specs.declared.command.Refusal.TheVariants.{NoBatch, ValueTooLong, StaleBatch, LocationOverflow, FloorRegressed, FloorBeyondSize}
 use Rattle.twins.specs.declared.command.Reply.{Reply}
 
 -- a word and a number behind it, in decimal
@@ -24,6 +24,14 @@ refusal_text (NoBatch n) = numbered (codes "NoBatch ") n
 refusal_text (ValueTooLong n) = numbered (codes "ValueTooLong ") n
 refusal_text StaleBatch = codes "StaleBatch"
 refusal_text (LocationOverflow n) = numbered (codes "LocationOverflow ") n
+refusal_text (FloorRegressed floor below) = text_then (numbered (codes "FloorRegressed ") floor) (numbered (codes " ") below)
+refusal_text (FloorBeyondSize floor location) = text_then (numbered (codes "FloorBeyondSize ") floor) (numbered (codes " ") location)
+
+-- no value is a hyphen, and no bytes a full stop
+abbrev pub value_text : Option (List ℕ) → List ℕ
+value_text None = codes "-"
+value_text (Some []) = codes "."
+value_text (Some (b ∷ bytes)) = encode_lower (b ∷ bytes)
 
 abbrev pub answer_text : Answer → List ℕ
 answer_text (Opened size start) = numbered (codes "opened start=") start
@@ -32,6 +40,7 @@ answer_text Done = codes "ok"
 answer_text (Sealed size root) = text_then (numbered (codes "sealed ") size) (titled (codes " ") root)
 answer_text Applied = codes "applied"
 answer_text (Size size start floor) = text_then (numbered (codes "size ") size) (text_then (numbered (codes " start ") start) (numbered (codes " floor ") floor))
+answer_text (Metadata metadata) = text_then (codes "metadata ") (value_text metadata)
 answer_text (Refused refusal) = text_then (codes "refused ") (refusal_text refusal)
 
 -- both roots, and the end of the line

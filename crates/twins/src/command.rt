@@ -8,12 +8,14 @@ pub enum Command {
     New,
     /// Adds a value to an unsealed batch.
     Append(u64, Bytes),
-    /// Closes an unsealed batch by a commit.
-    Seal(u64),
+    /// Closes an unsealed batch by a commit, with metadata or without, and a floor.
+    Seal(u64, Option<Bytes>, u64),
     /// Makes the list of a sealed batch the list.
     Apply(u64),
     /// Asks for the size.
     Size,
+    /// Asks for the metadata of the last commit.
+    Metadata,
 }
 
 /// Why a command is refused.
@@ -27,10 +29,14 @@ pub enum Refusal {
     StaleBatch,
     /// This size would be above the greatest.
     LocationOverflow(u64),
+    /// The floor, and the floor of the present list, which is above it.
+    FloorRegressed(u64, u64),
+    /// The floor, and the location of the commit, which is below it.
+    FloorBeyondSize(u64, u64),
 }
 
 /// What a command answers.
-#[derive(Clone, Copy, Debug, PartialEq, Eq)]
+#[derive(Debug, PartialEq, Eq, Drop)]
 pub enum Answer {
     /// The opening: the size and the first location that is kept.
     Opened { size: u64, start: u64 },
@@ -44,12 +50,14 @@ pub enum Answer {
     Applied,
     /// The size, the first location that is kept and the floor of the last commit.
     Size { size: u64, start: u64, floor: u64 },
+    /// The metadata of the last commit.
+    Metadata(Option<Bytes>),
     /// Nothing was done, for this reason.
     Refused(Refusal),
 }
 
 /// An answer, with the size and both roots after the command.
-#[derive(Clone, Copy, Debug, PartialEq, Eq)]
+#[derive(Debug, PartialEq, Eq, Drop)]
 pub struct Reply {
     pub answer: Answer,
     pub size: u64,

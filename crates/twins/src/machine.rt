@@ -1,8 +1,13 @@
-ghost use Rattle.std.specs.Prelude.{◌≡◌, ◌≤◌, ◌<◌, ◌+◌, ◌^◌, ◌++◌, [], ◌∷◌, length, IfOk, OnOk, OnErr, IsOkUnless};
+ghost use Rattle.std.specs.Prelude.{◌≡◌, ◌≤◌, ◌<◌, ◌+◌, ◌^◌, ◌++◌, [], ◌∷◌, List, length, IfOk, OnOk, OnErr, IsOkUnless};
 ghost use Rattle.log_model.specs.Machine.{batch_at, max_leaves};
-ghost use Rattle.twins.specs.Step.{append_to, seal, apply, step, reply, plain_commit, root_of_list};
+ghost use Rattle.twins.specs.Step.{append_to, seal_refusal, metadata_length, seal, apply, step, reply, root_of_list};
 ghost use Rattle.twins.specs.Trace.{fresh_state};
-ghost use Rattle.twins.specs.StateOf.{IsKept, state_of};
+ghost use Rattle.twins.specs.StateOf.{BatchKept, IsKept, unsealed_of, state_from, state_of};
+ghost use Rattle.op_codec.specs.Keyless.{value_of};
+ghost use Rattle.op_codec.specs.declared.keyless.Operation.TheVariants.{Commit};
+ghost use Rattle.twins.specs.Operation.{last_value};
+ghost use Rattle.twins.specs.declared.batch.Batch.{Batch};
+ghost use Rattle.twins.specs.declared.batch.Batch.TheVariants.{Unsealed};
 
 use crate::batch::{Batch, SealedBatch, UnsealedBatch};
 use crate::command::{Answer, Command, Refusal, Reply};
@@ -36,22 +41,77 @@ fn root_of(
     root_of_operations::<Mmr, Sha256Hasher, Operation>(alloc, first, others)
 }
 
+/// Why a seal of this floor loses a batch on the log, if it does.
+fn seal_refusal(ops: &[Operation], batch: &UnsealedBatch, floor: u64) -> Option<Refusal>
+    requires { BatchKept ops.now (Unsealed batch.now) }
+    ensures { (bs : List Batch) → result ≡ seal_refusal (state_from ops.now bs) (unsealed_of ops.now batch.now) floor }
+{
+    if ops.len() as u64 != batch.base {
+        return Some(Refusal::StaleBatch);
+    }
+    let location = batch.base + batch.own.len() as u64;
+    if location >= MAX_LEAVES {
+        return Some(Refusal::LocationOverflow(location + 1));
+    }
+    let below = floor_of_operations(ops);
+    if floor < below {
+        return Some(Refusal::FloorRegressed(floor, below));
+    }
+    if floor > location {
+        return Some(Refusal::FloorBeyondSize(floor, location));
+    }
+    None
+}
+
+/// The length of metadata, 0 where there is none.
+fn metadata_length(metadata: &Option<Bytes>) -> u64
+    ensures { result ≡ metadata_length metadata.now }
+{
+    match metadata {
+        Some(bytes) => bytes.len(),
+        None => 0,
+    }
+}
+
+/// A copy of the value of an operation; of a commit, of its metadata.
+fn copied_value(op: &Operation) -> Result<Option<Bytes>, CodecError>
+    ensures value { IfOk result (λ v. v ≡ value_of op.now) }
+    ensures memory { IsOkUnless result CodecError.Memory }
+{
+    match op {
+        keyless::Operation::Append(value) => Ok(Some(value.duplicate()?)),
+        keyless::Operation::Commit(metadata, _) => metadata.duplicate(),
+    }
+}
+
+/// The value of the operation that ends the log; of a commit, its metadata.
+fn last_value(ops: &[Operation]) -> Result<Option<Bytes>, CodecError>
+    ensures value { IfOk result (λ v. v ≡ last_value ops.now) }
+    ensures memory { IsOkUnless result CodecError.Memory }
+{
+    match ops {
+        [.., last] => copied_value(last),
+        [] => Ok(None),
+    }
+}
+
 /// A batch on the whole log, ended by a commit. Its own operations move to the result.
 fn ended(
     alloc: Global,
     ops: &[Operation],
     batch: &mut UnsealedBatch,
+    metadata: &Option<Bytes>,
+    floor: u64,
 ) -> Result<SealedBatch, CodecError>
     requires { length ops.now + length batch.old.own.items < 2 ^ 62 }
     ensures boundary { IfOk result (λ c. c.boundary ≡ batch.old.base) }
     ensures shared { IfOk result (λ c. c.shared ≡ batch.old.base) }
-    ensures own { IfOk result (λ c. c.own.items ≡ batch.old.own.items ++ plain_commit ∷ []) }
+    ensures own { IfOk result (λ c. c.own.items ≡ batch.old.own.items ++ Commit metadata.now floor ∷ []) }
     ensures root { IfOk result (λ c. c.root ≡ root_of_list (ops.now ++ c.own.items)) }
     ensures memory { IsOkUnless result CodecError.Memory }
 {
-    batch
-        .own
-        .push(keyless::Operation::Commit(None, Location::new(0)))?;
+    let commit = keyless::Operation::Commit(metadata.duplicate()?, Location::new(floor));
+    batch.own.push(commit)?;
     let root = root_of(alloc, ops, &batch.own)?;
     Ok(SealedBatch {
         boundary: batch.base,
@@ -126,9 +186,15 @@ impl Machine {
     }
 
     /// Ends an unsealed batch by a commit.
-    fn seal(&mut self, alloc: Global, b: u64) -> Result<Answer, CodecError>
+    fn seal(
+        &mut self,
+        alloc: Global,
+        b: u64,
+        metadata: &Option<Bytes>,
+        floor: u64,
+    ) -> Result<Answer, CodecError>
         requires { IsKept self.old }
-        ensures ok { IfOk result (λ a. (a, state_of self.new) ≡ seal (state_of self.old) b (batch_at (state_of self.old) b)) }
+        ensures ok { IfOk result (λ a. (a, state_of self.new) ≡ seal self.old.limit (state_of self.old) b metadata.now floor (batch_at (state_of self.old) b)) }
         ensures kept { OnOk result (IsKept self.new) }
         ensures limit { self.new.limit ≡ self.old.limit }
         ensures memory { IsOkUnless result CodecError.Memory }
@@ -138,17 +204,17 @@ impl Machine {
         }
         match &mut self.batches[b as usize] {
             Batch::Unsealed(batch) => {
-                if self.ops.len() as u64 != batch.base {
-                    self.batches[b as usize] = Batch::Gone;
-                    return Ok(Answer::Refused(Refusal::StaleBatch));
+                let long = metadata_length(metadata);
+                if long > self.limit {
+                    return Ok(Answer::Refused(Refusal::ValueTooLong(long)));
                 }
-                let size = batch.base + batch.own.len() as u64 + 1;
-                if size > MAX_LEAVES {
+                if let Some(refusal) = seal_refusal(&self.ops, batch, floor) {
                     self.batches[b as usize] = Batch::Gone;
-                    return Ok(Answer::Refused(Refusal::LocationOverflow(size)));
+                    return Ok(Answer::Refused(refusal));
                 }
-                let sealed = ended(alloc, &self.ops, batch)?;
+                let sealed = ended(alloc, &self.ops, batch, metadata, floor)?;
                 let root = sealed.root;
+                let size = sealed.shared + sealed.own.len() as u64;
                 self.batches[b as usize] = Batch::Sealed(sealed);
                 Ok(Answer::Sealed { size, root })
             }
@@ -192,13 +258,14 @@ impl Machine {
         match command {
             Command::New => self.begin(alloc),
             Command::Append(b, value) => self.append(*b, value),
-            Command::Seal(b) => self.seal(alloc, *b),
+            Command::Seal(b, metadata, floor) => self.seal(alloc, *b, metadata, *floor),
             Command::Apply(b) => self.apply(*b),
             Command::Size => Ok(Answer::Size {
                 size: self.ops.len() as u64,
                 start: 0,
                 floor: floor_of_operations(&self.ops),
             }),
+            Command::Metadata => Ok(Answer::Metadata(last_value(&self.ops)?)),
         }
     }
 

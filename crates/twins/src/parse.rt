@@ -1,9 +1,9 @@
-ghost use Rattle.std.specs.Prelude.{◌≡◌, [], ◌∷◌, ◌++◌, ℕ, List, codes, IfOk, IfErr, OnOk, IsOkUnless, MatchOption, MatchBool, MatchResult, ◌↔◌, IsTrue};
+ghost use Rattle.std.specs.Prelude.{◌≡◌, [], ◌∷◌, ◌++◌, ℕ, List, Option, codes, IfOk, IfErr, OnOk, IsOkUnless, MatchOption, MatchResult, ◌↔◌, IsTrue};
 ghost use Rattle.twins.specs.declared.command.Command.{Command};
 ghost use Rattle.twins.specs.Lines.{words_of};
 ghost use Rattle.twins.specs.declared.parse.LineError.TheVariants.{Memory};
 ghost use Rattle.twins.specs.Lines.{lines_of};
-ghost use Rattle.twins.specs.Grammar.{IsNumberWord, IsBytesWord, IsReading, IsSkipped, InputSays};
+ghost use Rattle.twins.specs.Grammar.{IsNumberWord, IsBytesWord, IsMetadataWord, IsReading, IsSkipped, InputSays};
 ghost use Rattle.twins.specs.Bad.{IsCause, IsBadHere, Adds};
 
 use crate::command::Command;
@@ -90,13 +90,17 @@ fn next_number(words: &mut Words<'_>) -> Option<u64>
     number_of(word)
 }
 
-/// Whether the next word is this one.
-fn next_is(words: &mut Words<'_>, word: &[u8]) -> bool
-    ensures { MatchBool result (words.old ≡ word.now ∷ words.new) ((rest : List (List ℕ)) → words.old ≡ word.now ∷ rest → ⊥) }
+/// Reads the next word as metadata: a hyphen for none, or bytes.
+fn metadata_of(alloc: Global, word: &[u8]) -> Result<Option<Option<Bytes>>, CodecError>
+    ensures metadata { IfOk result (λ o. MatchOption o ((metadata : Option (List ℕ)) → IsMetadataWord word.now metadata → ⊥) (IsMetadataWord word.now)) }
+    ensures memory { IsOkUnless result CodecError.Memory }
 {
-    match words.next_word() {
-        Some(next) => next == word,
-        None => false,
+    if word == b"-".as_slice() {
+        return Ok(Some(None));
+    }
+    match bytes_of(alloc, word)? {
+        Some(bytes) => Ok(Some(Some(bytes))),
+        None => Ok(None),
     }
 }
 
@@ -121,22 +125,26 @@ fn read_append(alloc: Global, mut words: Words<'_>) -> Result<Option<Command>, C
 }
 
 /// Reads the words behind `seal`.
-fn read_seal(mut words: Words<'_>) -> Option<Command>
-    ensures { IsReading (codes "seal" ∷ words.entry) result }
+fn read_seal(alloc: Global, mut words: Words<'_>) -> Result<Option<Command>, CodecError>
+    ensures command { IfOk result (IsReading (codes "seal" ∷ words.entry)) }
+    ensures memory { IsOkUnless result CodecError.Memory }
 {
     let Some(b) = next_number(&mut words) else {
-        return None;
+        return Ok(None);
     };
-    if !next_is(&mut words, b"-") {
-        return None;
-    }
-    if !next_is(&mut words, b"0") {
-        return None;
-    }
+    let Some(word) = words.next_word() else {
+        return Ok(None);
+    };
+    let Some(floor) = next_number(&mut words) else {
+        return Ok(None);
+    };
     if !words.is_empty() {
-        return None;
+        return Ok(None);
     }
-    Some(Command::Seal(b))
+    match metadata_of(alloc, word)? {
+        Some(metadata) => Ok(Some(Command::Seal(b, metadata, floor))),
+        None => Ok(None),
+    }
 }
 
 /// Reads the words behind `apply`.
@@ -161,7 +169,7 @@ fn read_words(alloc: Global, name: &[u8], words: Words<'_>) -> Result<Option<Com
         return read_append(alloc, words);
     }
     if name == b"seal".as_slice() {
-        return Ok(read_seal(words));
+        return read_seal(alloc, words);
     }
     if name == b"apply".as_slice() {
         return Ok(read_apply(words));
@@ -174,6 +182,9 @@ fn read_words(alloc: Global, name: &[u8], words: Words<'_>) -> Result<Option<Com
     }
     if name == b"size".as_slice() {
         return Ok(Some(Command::Size));
+    }
+    if name == b"metadata".as_slice() {
+        return Ok(Some(Command::Metadata));
     }
     Ok(None)
 }

@@ -1,11 +1,13 @@
 ghost use Rattle.std.specs.Prelude.{◌≡◌, ◌∷◌, [], codes, decimal};
 ghost use Rattle.codec_base.specs.Causes.{HasCause};
 ghost use Rattle.stream_base.specs.Writing.{Writes, text_then};
+ghost use Rattle.hex.specs.Hex.{encode_lower};
 ghost use Rattle.twins.specs.Pending.{Puts};
-ghost use Rattle.twins.specs.Text.{numbered, titled, refusal_text, answer_text, roots_text, reply_text, text_of};
+ghost use Rattle.twins.specs.Text.{numbered, titled, value_text, refusal_text, answer_text, roots_text, reply_text, text_of};
 
 use crate::command::{Answer, Refusal, Replies, Reply};
 use crate::piece::Piece;
+use codec_base::Bytes;
 use stream_base::{Sink, WriteFailed};
 use tree_shape::{Digest, Sha256Digest};
 
@@ -55,6 +57,70 @@ fn put_digest<O: Sink>(
     piece.put(out, &digits)
 }
 
+/// Puts bytes, in hexadecimal.
+fn put_hex<O: Sink>(piece: &mut Piece, out: &mut O, bytes: &[u8]) -> Result<(), WriteFailed>
+    ensures text { Puts (O.written out.old) piece.old (O.written out.new) piece.new result (encode_lower bytes.now) }
+    ensures cause { HasCause (O.faults out.old) (O.faults out.new) result }
+{
+    for byte in bytes {
+        let mut pair = [0u8; 2];
+        if hex::encode_to_slice(&[*byte], &mut pair).is_err() {
+            unreachable!()
+        }
+        piece.put(out, &pair)?;
+    }
+    Ok(())
+}
+
+/// Puts a value, a hyphen for none and a full stop for one without bytes.
+fn put_value<O: Sink>(
+    piece: &mut Piece,
+    out: &mut O,
+    value: &Option<Bytes>,
+) -> Result<(), WriteFailed>
+    ensures text { Puts (O.written out.old) piece.old (O.written out.new) piece.new result (value_text value.now) }
+    ensures cause { HasCause (O.faults out.old) (O.faults out.new) result }
+{
+    match value {
+        None => piece.put(out, b"-"),
+        Some(bytes) => {
+            if bytes.len() == 0 {
+                return piece.put(out, b".");
+            }
+            put_hex(piece, out, bytes.as_slice())
+        }
+    }
+}
+
+/// Puts the name of a refusal, and two numbers behind it.
+#[tactic(auto, using(crate::specs::Pending::putting))]
+fn put_two<O: Sink>(
+    piece: &mut Piece,
+    out: &mut O,
+    word: &[u8],
+    first: u64,
+    second: u64,
+) -> Result<(), WriteFailed>
+    ensures text { Puts (O.written out.old) piece.old (O.written out.new) piece.new result (text_then (numbered word.now first) (numbered (codes " ") second)) }
+    ensures cause { HasCause (O.faults out.old) (O.faults out.new) result }
+{
+    put_number(piece, out, word, first)?;
+    put_number(piece, out, b" ", second)
+}
+
+#[tactic(auto, using(crate::specs::Pending::putting))]
+fn put_metadata<O: Sink>(
+    piece: &mut Piece,
+    out: &mut O,
+    metadata: &Option<Bytes>,
+) -> Result<(), WriteFailed>
+    ensures text { Puts (O.written out.old) piece.old (O.written out.new) piece.new result (text_then (codes "metadata ") (value_text metadata.now)) }
+    ensures cause { HasCause (O.faults out.old) (O.faults out.new) result }
+{
+    piece.put(out, b"metadata ")?;
+    put_value(piece, out, metadata)
+}
+
 fn put_refusal<O: Sink>(piece: &mut Piece, out: &mut O, refusal: Refusal) -> Result<(), WriteFailed>
     ensures text { Puts (O.written out.old) piece.old (O.written out.new) piece.new result (refusal_text refusal) }
     ensures cause { HasCause (O.faults out.old) (O.faults out.new) result }
@@ -64,6 +130,12 @@ fn put_refusal<O: Sink>(piece: &mut Piece, out: &mut O, refusal: Refusal) -> Res
         Refusal::ValueTooLong(n) => put_number(piece, out, b"ValueTooLong ", n),
         Refusal::StaleBatch => piece.put(out, b"StaleBatch"),
         Refusal::LocationOverflow(n) => put_number(piece, out, b"LocationOverflow ", n),
+        Refusal::FloorRegressed(floor, below) => {
+            put_two(piece, out, b"FloorRegressed ", floor, below)
+        }
+        Refusal::FloorBeyondSize(floor, location) => {
+            put_two(piece, out, b"FloorBeyondSize ", floor, location)
+        }
     }
 }
 
@@ -117,6 +189,7 @@ fn put_answer<O: Sink>(piece: &mut Piece, out: &mut O, answer: &Answer) -> Resul
         Answer::Sealed { size, root } => put_sealed(piece, out, *size, root),
         Answer::Applied => piece.put(out, b"applied"),
         Answer::Size { size, start, floor } => put_size(piece, out, *size, *start, *floor),
+        Answer::Metadata(metadata) => put_metadata(piece, out, metadata),
         Answer::Refused(refusal) => put_refused(piece, out, *refusal),
     }
 }

@@ -6,15 +6,19 @@ use std::test::Fail;
 #[test]
 fn reads_each_command(rt: HostRuntime) -> Result<(), Fail> {
     let alloc = rt.alloc();
-    let input = b"new\nappend 18446744073709551615 aBCd\nappend 0 .\nseal 10 - 0\napply 7\nsize";
+    let input =
+        b"new\nappend 18446744073709551615 aBCd\nappend 0 .\nseal 10 - 0\nseal 2 . 18446744073709551615\nseal 3 6D 4\napply 7\nsize\nmetadata";
     let commands = parse_commands(alloc, input)?;
     let wanted = vec![in alloc;
         Command::New,
         Command::Append(18446744073709551615, Bytes::from_slice(alloc, b"\xab\xcd")?),
         Command::Append(0, Bytes::new(alloc)),
-        Command::Seal(10),
+        Command::Seal(10, None, 0),
+        Command::Seal(2, Some(Bytes::new(alloc)), 18446744073709551615),
+        Command::Seal(3, Some(Bytes::from_slice(alloc, b"m")?), 4),
         Command::Apply(7),
         Command::Size,
+        Command::Metadata,
     ]?;
     assert!(rt; commands == wanted);
     Ok(())
@@ -37,7 +41,7 @@ fn skips_comments_and_empty_lines(rt: HostRuntime) -> Result<(), Fail> {
 #[test]
 fn names_the_first_bad_line(rt: HostRuntime) -> Result<(), Fail> {
     let alloc = rt.alloc();
-    let cases: [(&[u8], u64); 25] = [
+    let cases: [(&[u8], u64); 29] = [
         (b"size\nfoo\nfoo", 2),
         (b"\n# one\n\nsize\nfoo\n# two\nfoo", 5),
         (b" # new\n", 1),
@@ -60,8 +64,12 @@ fn names_the_first_bad_line(rt: HostRuntime) -> Result<(), Fail> {
         (b"append 18446744073709551616 61\n", 1),
         (b"append \xff 61\n", 1),
         (b"append 0 \xff\xff\n", 1),
-        (b"seal 0 - 1\n", 1),
-        (b"seal 0 61 0\n", 1),
+        (b"seal 0 -\n", 1),
+        (b"seal 0 -- 0\n", 1),
+        (b"seal 0 - 00\n", 1),
+        (b"seal 0 6 0\n", 1),
+        (b"seal 0 - 0 0\n", 1),
+        (b"metadata 0\n", 1),
         (b"apply\n", 1),
     ];
     for (input, line) in cases {

@@ -18,6 +18,10 @@ const FIRST_VALUE: &str = "d5777e06b8b06315af2f1cd14fe605c39b312a2917452f4bae1a7
 
 const LONG_VALUE: &str = "9449ace6cd3c80b65698158aba167a7196b4c02ee7f152faa6064faf4b0f2eb9";
 
+const FLOOR_THREE: &str = "b73119d13c1c31d43e6bd3fff7af90c339f626a50c1a6d89ac973e60e71dea29";
+
+const FLOOR_FOUR: &str = "246b131a53ed770d0d697b2b02706136fe5008be5a0d163056239dab4df364c7";
+
 fn run_lines(
     rt: &(impl Abort + AllocGlobal),
     limit: u64,
@@ -146,16 +150,56 @@ fn refused_seal_loses_its_batch(rt: HostRuntime) -> Result<(), Fail> {
 }
 
 #[test]
+fn floors_and_metadata(rt: HostRuntime) -> Result<(), Fail> {
+    compare(
+        &rt,
+        1048576,
+        b"new\nappend 0 61\nappend 0 62\nseal 0 - 4\nseal 0 - 3\nnew\nappend 1 61\nappend 1 62\nseal 1 6d 3\nmetadata\napply 1\nsize\nmetadata\nnew\nseal 2 - 2\nnew\nseal 3 . 4\napply 3\nmetadata\n",
+        &[
+            ("opened start=0", 1, COMMIT),
+            ("batch 0", 1, COMMIT),
+            ("ok", 1, COMMIT),
+            ("ok", 1, COMMIT),
+            ("refused FloorBeyondSize 4 3", 1, COMMIT),
+            ("refused NoBatch 0", 1, COMMIT),
+            ("batch 1", 1, COMMIT),
+            ("ok", 1, COMMIT),
+            ("ok", 1, COMMIT),
+            (
+                "sealed 4 b73119d13c1c31d43e6bd3fff7af90c339f626a50c1a6d89ac973e60e71dea29",
+                1,
+                COMMIT,
+            ),
+            ("metadata -", 1, COMMIT),
+            ("applied", 4, FLOOR_THREE),
+            ("size 4 start 0 floor 3", 4, FLOOR_THREE),
+            ("metadata 6d", 4, FLOOR_THREE),
+            ("batch 2", 4, FLOOR_THREE),
+            ("refused FloorRegressed 2 3", 4, FLOOR_THREE),
+            ("batch 3", 4, FLOOR_THREE),
+            (
+                "sealed 5 246b131a53ed770d0d697b2b02706136fe5008be5a0d163056239dab4df364c7",
+                4,
+                FLOOR_THREE,
+            ),
+            ("applied", 5, FLOOR_FOUR),
+            ("metadata .", 5, FLOOR_FOUR),
+        ],
+    )
+}
+
+#[test]
 fn value_limit(rt: HostRuntime) -> Result<(), Fail> {
     compare(
         &rt,
         4,
-        b"new\nappend 0 0102030405\nappend 0 01020304\nseal 0 - 0\napply 0\n",
+        b"new\nappend 0 0102030405\nappend 0 01020304\nseal 0 0102030405 0\nseal 0 - 0\napply 0\n",
         &[
             ("opened start=0", 1, COMMIT),
             ("batch 0", 1, COMMIT),
             ("refused ValueTooLong 5", 1, COMMIT),
             ("ok", 1, COMMIT),
+            ("refused ValueTooLong 5", 1, COMMIT),
             (
                 "sealed 3 9449ace6cd3c80b65698158aba167a7196b4c02ee7f152faa6064faf4b0f2eb9",
                 1,

@@ -6,11 +6,11 @@ use Rattle.twins.proofs.text.write_replies.Goals as goal
 pub returns-in_err-put_reply-clause-text : goal.returns-in_err-put_reply-clause-text
 returns-in_err-put_reply-clause-text g c =
     writes_err _ _ c.from_residual.result _ c.from_residual.ensures.0
-    (rw (← c.as_slice-reply-items.ensures) (lines_front _ _ c.loop-reply.piece _ c.as_slice-reply-items.result.now c.loop-reply.reply-index _ c.loop-reply-test.true c.loop-reply.invariant.sent c.in_err-put_reply.ensures.text))
+    (rw (← c.as_slice-reply-items.ensures) (lines_front _ _ c.loop-reply.piece _ c.as_slice-reply-items.result.now c.loop-reply.reply-index _ c.loop-reply-test.true c.loop-reply.invariant.sent (rw c.reply-item.is at c.in_err-put_reply.ensures.text)))
 
 pub loop-reply-preserved : goal.loop-reply-preserved
 loop-reply-preserved g c = record {
-  sent = lines_more _ _ c.loop-reply.piece _ c.put_reply.new.piece c.as_slice-reply-items.result.now c.loop-reply.reply-index _ c.loop-reply-test.true c.loop-reply.invariant.sent c.in_ok-put_reply.ensures.text;
+  sent = lines_more _ _ c.loop-reply.piece _ c.put_reply.new.piece c.as_slice-reply-items.result.now c.loop-reply.reply-index _ c.loop-reply-test.true c.loop-reply.invariant.sent (rw c.reply-item.is at c.in_ok-put_reply.ensures.text);
   later = omega (arith, c.loop-reply.invariant.later, c.put_reply.ensures.cause.later);
 }
 
