@@ -1,0 +1,89 @@
+#!/usr/bin/env python3
+"""Measures the program twins, whose path it is given, beside plain programs on the same input.
+
+Times are medians of several runs, peak memory is that of the child. The outside program, this one with the word
+`--hashes`, does the hashes that the program does today: all of a list's tree at each seal, by hashlib.
+"""
+import os
+import statistics
+import subprocess
+import sys
+import tempfile
+import time
+
+sys.path.insert(0, os.path.join(os.path.dirname(os.path.abspath(__file__)), "..", "tools"))
+import expected  # noqa: E402
+
+HASHES = [sys.executable, os.path.abspath(__file__), "--hashes"]
+RUNS = 5
+
+
+def hashes(lines):
+    """The root of the list at each seal, where each batch is sealed on the present list and then applied."""
+    operations, pending = [expected.commit(None, 0)], []
+    for line in lines:
+        words = line.split(" ")
+        if words[0] == "append":
+            pending.append(expected.append(bytes.fromhex(words[2])))
+        elif words[0] == "seal":
+            operations += pending + [expected.commit(None, 0)]
+            pending = []
+            print(expected.list_root(operations, 0))
+
+
+def measure(command, path):
+    """Median seconds and peak KiB of a command on a file as its standard input."""
+    times, peak = [], 0
+    for _ in range(RUNS):
+        with open(path, "rb") as source, open(os.devnull, "wb") as sink:
+            before = time.perf_counter()
+            child = subprocess.Popen(command, stdin=source, stdout=sink, env={**os.environ, "LC_ALL": "C"})
+            _, status, usage = os.wait4(child.pid, 0)
+            times.append(time.perf_counter() - before)
+            if status != 0:
+                sys.exit(f"{command[0]} ended with status {status}")
+            peak = max(peak, usage.ru_maxrss)
+    return statistics.median(times), peak
+
+
+def batch(appends):
+    return ["new"] + [f"append 0 {i:016x}" for i in range(appends)] + ["seal 0 - 0", "apply 0"]
+
+
+def chain(batches):
+    lines = []
+    for b in range(batches):
+        lines += ["new"] + [f"append {b} {i:016x}" for i in range(4)] + [f"seal {b} - 0", f"apply {b}"]
+    return lines
+
+
+def written(folder, name, text):
+    path = os.path.join(folder, name)
+    with open(path, "w", encoding="ascii") as out:
+        out.write(text)
+    return path
+
+
+def main(program):
+    with tempfile.TemporaryDirectory() as folder:
+        empty = written(folder, "empty", "")
+        start, least = measure([program], empty)
+        python, _ = measure(HASHES, empty)
+        print(f"start-up {start * 1000:.1f} ms, {least} KiB")
+        for title, sizes, lines_of in (("one batch of {} appends", (100, 1000, 10000), batch), ("{} batches of 4 appends", (10, 100, 1000), chain)):
+            for size in sizes:
+                path = written(folder, "lines", "\n".join(lines_of(size)) + "\n")
+                ours, peak = measure([program], path)
+                theirs, _ = measure(HASHES, path)
+                print(f"{title.format(size)}: {ours * 1000:.1f} ms, {peak} KiB, {(ours - start) / max(theirs - python, 1e-9):.2f} times the outside program")
+        comments = written(folder, "comments", ("#" + "c" * 62 + "\n") * (16777216 // 64))
+        ours, peak = measure([program], comments)
+        plain = measure(["wc"], comments)[0] + measure(["cat"], comments)[0]
+        print(f"16 MiB of comments: {ours * 1000:.1f} ms, {peak} KiB, {ours / plain:.2f} times wc and cat together")
+
+
+if __name__ == "__main__":
+    if sys.argv[1] == "--hashes":
+        hashes(sys.stdin.read().splitlines())
+    else:
+        main(sys.argv[1])
