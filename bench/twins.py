@@ -1,10 +1,12 @@
 #!/usr/bin/env python3
 """Measures the program twins, whose path it is given, beside plain programs on the same input.
 
-Times are medians of several runs, peak memory is that of the child. The outside program, this one with the word
+Times are medians of several runs. The peak memory of a child can't be told where it is below this program's own, from
+which the child is made; then that is shown as a bound. The outside program, this one with the word
 `--hashes`, does the hashes that the program does today: all of a list's tree at each seal, by hashlib.
 """
 import os
+import resource
 import statistics
 import subprocess
 import sys
@@ -15,7 +17,7 @@ sys.path.insert(0, os.path.join(os.path.dirname(os.path.abspath(__file__)), ".."
 import expected  # noqa: E402
 
 HASHES = [sys.executable, os.path.abspath(__file__), "--hashes"]
-RUNS = 5
+RUNS = 3
 
 
 def hashes(lines):
@@ -46,6 +48,11 @@ def measure(command, path):
     return statistics.median(times), peak
 
 
+def memory(peak):
+    own = resource.getrusage(resource.RUSAGE_SELF).ru_maxrss
+    return f"{peak} KiB" if peak > own else f"at most {own} KiB"
+
+
 def batch(appends):
     return ["new"] + [f"append 0 {i:016x}" for i in range(appends)] + ["seal 0 - 0", "apply 0"]
 
@@ -69,17 +76,17 @@ def main(program):
         empty = written(folder, "empty", "")
         start, least = measure([program], empty)
         python, _ = measure(HASHES, empty)
-        print(f"start-up {start * 1000:.1f} ms, {least} KiB")
+        print(f"start-up {start * 1000:.1f} ms, {memory(least)}")
         for title, sizes, lines_of in (("one batch of {} appends", (100, 1000, 10000), batch), ("{} batches of 4 appends", (10, 100, 1000), chain)):
             for size in sizes:
                 path = written(folder, "lines", "\n".join(lines_of(size)) + "\n")
                 ours, peak = measure([program], path)
                 theirs, _ = measure(HASHES, path)
-                print(f"{title.format(size)}: {ours * 1000:.1f} ms, {peak} KiB, {(ours - start) / max(theirs - python, 1e-9):.2f} times the outside program")
+                print(f"{title.format(size)}: {ours * 1000:.1f} ms, {memory(peak)}, {(ours - start) / max(theirs - python, 1e-9):.2f} times the outside program")
         comments = written(folder, "comments", ("#" + "c" * 62 + "\n") * (16777216 // 64))
         ours, peak = measure([program], comments)
         plain = measure(["wc"], comments)[0] + measure(["cat"], comments)[0]
-        print(f"16 MiB of comments: {ours * 1000:.1f} ms, {peak} KiB, {ours / plain:.2f} times wc and cat together")
+        print(f"16 MiB of comments: {ours * 1000:.1f} ms, {memory(peak)}, {ours / plain:.2f} times wc and cat together")
 
 
 if __name__ == "__main__":
