@@ -1,4 +1,4 @@
-ghost use Rattle.std.specs.Prelude.{◌≡◌, ◌↔◌, ◌+◌, ◌-◌, ◌<◌, ◌≤◌, ◌^◌, ℕ, List, [], ◌∷◌, ◌++◌, map, min, length, true, false, IsTrue, IfOk, IfErr, OnOk, IsErrOf};
+ghost use Rattle.std.specs.Prelude.{◌≡◌, ◌↔◌, ◌⊎◌, ◌+◌, ◌-◌, ◌<◌, ◌≤◌, ◌^◌, ℕ, List, [], ◌∷◌, ◌++◌, map, min, length, true, false, IsTrue, IfOk, IfErr, OnOk, IsErrOf};
 ghost use Rattle.codec_base.specs.Causes.{Rose};
 ghost use Rattle.journal_base.specs.Blobs.{blob_start};
 ghost use Rattle.journal_base.specs.Items.{Spells};
@@ -93,10 +93,10 @@ pub trait Mutable: Contiguous {
     fn prune<V: Volume>(self, vol: &mut V, least: u64) -> Result<(Self, bool), JournalError>
         ensures kept { (Self.view self).failed ≡ true → IsErrOf result Volume × (vol.new ≡ vol.old) }
         ensures made { IfOk result (λ made. Self.view made.0 ≡ at_bounds (Self.view self) (Self.view made.0).start (Self.view made.0).end) }
-        ensures held { IfOk result (λ made. V.tells → IsHeld (Self.view self) (V.state vol.old) → IsHeld (Self.view made.0) (V.state vol.new)) }
+        ensures held { IfOk result (λ made. V.tells → one_log ⊎ IsHeld (Self.view self) (V.state vol.old) → IsHeld (Self.view made.0) (V.state vol.new)) }
         ensures moved { IfOk result (λ made. one_log → V.tells → (IsTrue made.1 ↔ (((V.state vol.old).log (Self.view self).name).start < blob_start (Self.view self).blob (min least (end_of ((V.state vol.old).log (Self.view self).name)))))) }
-        ensures pruned { OnOk result (V.tells → IsHeld (Self.view self) (V.state vol.old) → (V.state vol.new).log (Self.view self).name ≡ pruned_to ((V.state vol.old).log (Self.view self).name) (blob_start (Self.view self).blob (min least (end_of ((V.state vol.old).log (Self.view self).name))))) }
-        ensures listed { OnOk result (V.tells → IsHeld (Self.view self) (V.state vol.old) → (list : List Self.Item) → Spells Self.Item.spelling list ((V.state vol.old).log (Self.view self).name) → Spells Self.Item.spelling list ((V.state vol.new).log (Self.view self).name)) }
+        ensures pruned { OnOk result (V.tells → one_log ⊎ IsHeld (Self.view self) (V.state vol.old) → (V.state vol.new).log (Self.view self).name ≡ pruned_to ((V.state vol.old).log (Self.view self).name) (blob_start (Self.view self).blob (min least (end_of ((V.state vol.old).log (Self.view self).name))))) }
+        ensures listed { OnOk result (V.tells → one_log ⊎ IsHeld (Self.view self) (V.state vol.old) → (list : List Self.Item) → Spells Self.Item.spelling list ((V.state vol.old).log (Self.view self).name) → Spells Self.Item.spelling list ((V.state vol.new).log (Self.view self).name)) }
         ensures others { one_log → V.tells → OnlyLog (Self.view self).name (V.state vol.old) (V.state vol.new) }
         ensures images { one_log → V.tells → LogMoves (Self.view self).name (Advances (blob_start (Self.view self).blob (min least (end_of ((V.state vol.old).log (Self.view self).name))))) (V.state vol.old) (V.state vol.new) }
         ensures errors { one_log → IfErr result IsOfVolume }

@@ -23,6 +23,7 @@ fn answer_all(
     requires { replies.old ≡ [] }
     ensures ok { OnOk result (replies.new ≡ trace limit commands.now) }
     ensures err { OnErr result (IsBegun replies.new (trace limit commands.now)) }
+    ensures memory { IsOkUnless result CodecError.Memory }
 {
     let mut machine = Machine::new(alloc, limit)?;
     let opening = machine.reply(Answer::Opened { size: 1, start: 0 });

@@ -2,7 +2,7 @@ use Rattle.std.proofs.Common.{rules, ℕ, ◌-◌, arith, refl, sym, subst}
 use Rattle.volume_base.specs.Log.{Log, IsItemAt}
 use Rattle.journal_base.specs.Items.{IsCorrupt}
 use Rattle.journal_base.proofs.MatchLemmas.{within_later, none_more}
-use Rattle.journal_base.proofs.ReadLemmas.{only_read_none, only_read_joins, reads_joins, reads_of}
+use Rattle.volume_base.proofs.ReadLemmas.{only_read_none, only_read_joins, reads_joins, reads_of}
 use Rattle.journal_base.proofs.matching.match_below.Goals as goal
 
 pub loop-end-init : goal.loop-end-init

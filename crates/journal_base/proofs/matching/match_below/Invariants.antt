@@ -1,7 +1,7 @@
 use Rattle.std.proofs.Common.{◌+◌, ◌≤◌, min}
 use Rattle.std.specs.Fn.{FnReturnsAt}
 use Rattle.journal_base.specs.Matches.{NoneMatches}
-use Rattle.journal_base.proofs.ReadLemmas.{OnlyRead}
+use Rattle.volume_base.proofs.ReadLemmas.{OnlyRead}
 use Rattle.journal_base.proofs.matching.match_below.Given as goal
 
 abbrev pub invariant-loop-end : goal.invariant-loop-end

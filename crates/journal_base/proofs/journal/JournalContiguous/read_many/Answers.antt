@@ -2,7 +2,7 @@ use Rattle.std.proofs.Common.{rules, ◌≡◌, ℕ, List, [], ◌∷◌, ◌++�
 use Rattle.volume_base.specs.Log.{Log, IsItemAt, end_of}
 use Rattle.journal_base.specs.Items.{IsCorrupt}
 use Rattle.journal_base.specs.Reads.{AreItemsAt}
-use Rattle.journal_base.proofs.ReadLemmas.{only_read_joins}
+use Rattle.volume_base.proofs.ReadLemmas.{only_read_joins}
 use Rattle.journal_base.proofs.ReadsLemmas.{items_more, take_more, first_failing}
 use Rattle.journal_base.proofs.journal.JournalContiguous.read_many.Goals as goal
 

@@ -1,6 +1,6 @@
 use Rattle.std.proofs.Common.{◌+◌, ◌≤◌, take, string_bytes}
 use Rattle.journal_base.specs.Reads.{AreItemsAt}
-use Rattle.journal_base.proofs.ReadLemmas.{OnlyRead}
+use Rattle.volume_base.proofs.ReadLemmas.{OnlyRead}
 use Rattle.journal_base.proofs.journal.JournalContiguous.read_many.Given as goal
 
 abbrev pub invariant-loop-position : goal.invariant-loop-position
