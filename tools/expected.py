@@ -7,79 +7,29 @@ usage: tools/expected.py roots          the roots of the example elements, for e
 
 Everything is made from hashlib's SHA-256 and the rules in docs/MODEL.md. Nothing is taken from the product's output.
 """
-import hashlib
 import re
 import sys
 from pathlib import Path
 
 import proofs
+import trees
+from trees import Mmr, digest, node, number, peaks
 
 VALUE_LIMIT = 1048576           # the standard configuration's
-FORWARD, BACKWARD = 0, 1        # the bagging bytes
 
 
 # ---- the tree
 
-def digest(*parts):
-    return hashlib.sha256(b"".join(parts)).digest()
-
-
-def number(n):
-    return n.to_bytes(8, "big")
-
-
-def size(leaves):
-    """How many nodes the MMR of that many leaves has."""
-    return 2 * leaves - bin(leaves).count("1")
-
-
-def peaks(leaves):
-    """The peaks from the left: first leaf and height. Their heights are the ones of the number of leaves in binary."""
-    first, out = 0, []
-    for height in range(leaves.bit_length() - 1, -1, -1):
-        if leaves >> height & 1:
-            out.append((first, height))
-            first += 1 << height
-    return out
-
-
-def node(elements, first, height):
-    """The digest of the node over the leaves from `first` on, from the leaves."""
-    position = size(first + (1 << height) - 1) + height
-    if height == 0:
-        return digest(b"\0", number(position), elements[first])
-    half = 1 << (height - 1)
-    return digest(b"\1", number(position), node(elements, first, height - 1), node(elements, first + half, height - 1))
-
-
-def fold(digests, bagging):
-    """One digest from several, from the left or from the right."""
-    if bagging == FORWARD:
-        out = digests[0]
-        for one in digests[1:]:
-            out = digest(b"\2", out, one)
-    else:
-        out = digests[-1]
-        for one in reversed(digests[:-1]):
-            out = digest(b"\2", one, out)
-    return out
-
-
-def root(elements, inactive=0, bagging=FORWARD):
-    leaves = len(elements)
-    digests = [node(elements, first, height) for first, height in peaks(leaves)]
-    if inactive:
-        digests = [fold(digests[:inactive], FORWARD)] + digests[inactive:]
-    folded = fold(digests, bagging) if digests else b""
-    return digest(b"\3", number(leaves), number(inactive), bytes([bagging]), folded)
+def root(elements, inactive=0, forward=True):
+    return trees.root(Mmr, elements, inactive, forward)
 
 
 def inactive_peaks(leaves, floor):
     """How many leading peaks end at or below the floor."""
-    return sum(1 for first, height in peaks(leaves) if first + (1 << height) <= floor)
+    return sum(1 for first, height in peaks(Mmr, leaves) if first + (1 << height) <= floor)
 
 
-def appended_root(elements, inactive=0, bagging=FORWARD):
+def appended_root(elements, inactive, forward):
     """The same root by appending leaf after leaf, which the recursion from the leaves is compared with."""
     made, tops = 0, []
     for element in elements:
@@ -89,12 +39,8 @@ def appended_root(elements, inactive=0, bagging=FORWARD):
             one = digest(b"\1", number(made), tops.pop()[1], one)
             made, height = made + 1, height + 1
         tops.append((height, one))
-    assert made == size(len(elements))
-    digests = [one for _, one in tops]
-    if inactive:
-        digests = [fold(digests[:inactive], FORWARD)] + digests[inactive:]
-    folded = fold(digests, bagging) if digests else b""
-    return digest(b"\3", number(len(elements)), number(inactive), bytes([bagging]), folded)
+    assert made == Mmr.size(len(elements))
+    return trees.root_over([one for _, one in tops], len(elements), inactive, forward)
 
 
 # ---- operations
@@ -221,12 +167,12 @@ FLOORS = [[], [0], [7, 7, 3], [7, 7, 2], [1, 2, 3, 4, 5]]
 def example_roots():
     """Name and root of each example."""
     for leaves in range(len(ELEMENTS) + 1):
-        for inactive in range(len(peaks(leaves)) + 1):
-            for bagging in (FORWARD, BACKWARD):
+        for inactive in range(len(Mmr.heights(leaves)) + 1):
+            for forward in (True, False):
                 elements = ELEMENTS[:leaves]
-                one = root(elements, inactive, bagging)
-                assert one == appended_root(elements, inactive, bagging)
-                yield f"{leaves} leaves, {inactive} inactive, {'forward' if bagging == FORWARD else 'backward'}", one.hex()
+                one = root(elements, inactive, forward)
+                assert one == appended_root(elements, inactive, forward)
+                yield f"{leaves} leaves, {inactive} inactive, {'forward' if forward else 'backward'}", one.hex()
 
 
 def known_digests():
@@ -234,9 +180,9 @@ def known_digests():
     known = {one for _, one in example_roots()}
     known.update(digest(text).hex() for text in (b"", b"abc"))
     for leaves in range(len(ELEMENTS)):
-        for first, height in peaks(leaves + 1):
-            known.add(node(ELEMENTS, first, height).hex())
-        known.add(node(ELEMENTS, leaves, 0).hex())
+        for first, height in peaks(Mmr, leaves + 1):
+            known.add(node(Mmr, ELEMENTS, first, height).hex())
+        known.add(node(Mmr, ELEMENTS, leaves, 0).hex())
     known.update(one for _, one in proofs.rows())
     for floors in FLOORS:
         known.add(list_root([bytes([floor]) for floor in floors], floors[-1] if floors else 0))
