@@ -16,7 +16,7 @@ use Rattle.tree_shape.specs.Root.{root, root_over}
 use Rattle.tree_proof.specs.declared.proof.Proof.{Proof}
 use Rattle.tree_proof.specs.Cover.{Met, meets}
 use Rattle.tree_proof.specs.Check.{next_of, joined_by, rebuilt, before, rebuilt_over, all_used, wholly_rebuilt, item_leaf, Checks}
-use Rattle.tree_proof.specs.Inputs.{input_of, element_of, slow_inputs, tree_inputs, from_some, leaf_by, rebuilt_inputs, rebuilt_over_inputs, item_of, proof_inputs, root_inputs, HasDigestsOf, ShowsElements}
+use Rattle.tree_proof.specs.Inputs.{input_of, element_of, slow_inputs, tree_inputs, from_some, leaf_by, rebuilt_inputs, rebuilt_over_inputs, item_of, proof_inputs, root_inputs, ShowsElements}
 use Rattle.tree_proof.proofs.Complete.{length-leaf_digests, leaf_digests-at}
 use Rattle.tree_proof.proofs.CoverCount.{some_bind, some_map}
 use Rattle.tree_proof.proofs.RebuildLemmas.{meets_leaf, length-wholly_rebuilt}
@@ -248,7 +248,7 @@ module _ {D : Type 0} (s : Shape) (h : Hashing D) (size : ℕ) (exact : (a b : D
       ap (λ j. get_or items j []) (sym back) ∙ e ∙ sym there)
 
   pub sound : {F : Type 0} (b : Bagging) (elements : List (List ℕ)) (k : ℕ) (proof : Proof F D) (a : ℕ) (items : List (List ℕ)) → length elements ≤ 2 ^ 62 → k ≤ length (s.heights (length elements))
-      → HasDigestsOf h size proof → Checks s h b proof a items (root s h (leaf_digests s h elements) k b) → ShowsElements s h b elements k proof a items
+      → AllByRecursion (λ d. length (h.bytes d) ≡ size) proof.digests → Checks s h b proof a items (root s h (leaf_digests s h elements) k b) → ShowsElements s h b elements k proof a items
   sound b elements k proof a items few le_k whole c =
       let n = length elements in
       let met = meets a (a + length items) in

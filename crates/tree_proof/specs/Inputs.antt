@@ -1,6 +1,6 @@
 -- What is hashed in a tree and in the check of a proof, and two inputs with one digest.
 use Rattle.std.specs.Prelude.{◌≡◌, ◌⊎◌, ℕ, zero, suc, ◌+◌, ◌-◌, ◌^◌, List, [], ◌∷◌, ◌++◌, length, map, take, drop, Option, Some, None, slice_index_or, slice_range, if◌then◌else◌}
-use Rattle.std.specs.List.{AllByRecursion, Contains, flat_map}
+use Rattle.std.specs.List.{Contains, flat_map}
 use Rattle.tree_shape.specs.declared.bagging.Bagging.{Bagging}
 use Rattle.tree_shape.specs.declared.bagging.Bagging.TheVariants.{ForwardFold, BackwardFold}
 use Rattle.tree_shape.specs.Hashing.{Hashing, leaf_input, node_input, fold_input}
@@ -103,10 +103,6 @@ module _ {D : Type 0} (s : Shape) (h : Hashing D) where
       rebuilt_over_inputs (meets a (a + length items)) (item_of a items) (peaks s proof.leaves) proof.digests
       ++ from_some (root_inputs h proof.leaves proof.inactive_peaks b)
       (wholly_rebuilt s h (meets a (a + length items)) (item_leaf s h a items) (peaks s proof.leaves) proof.digests)
-
--- each of the proof's digests has this many bytes
-abbrev pub HasDigestsOf : {F D : Type 0} → Hashing D → ℕ → Proof F D → Type 0
-HasDigestsOf h size proof = AllByRecursion (λ d. length (h.bytes d) ≡ size) proof.digests
 
 -- the items stand from leaf a on among the elements of a tree with so many inactive peaks, or two inputs of the tree and of the proof's check clash
 abbrev pub ShowsElements : {F D : Type 0} → Shape → Hashing D → Bagging → List (List ℕ) → ℕ → Proof F D → ℕ → List (List ℕ) → Type 0

@@ -1,9 +1,9 @@
 //! Whether a proof shows that items stand in a tree.
-ghost use Rattle.std.specs.Prelude.{◌≡◌, ◌↔◌, ℕ, List, ◌+◌, ◌≤◌, ◌^◌, length, IfOk, IsTrue};
+ghost use Rattle.std.specs.Prelude.{◌≡◌, ◌↔◌, ℕ, List, ◌+◌, ◌≤◌, ◌^◌, length, All, IfOk, IsTrue};
 ghost use Rattle.tree_shape.specs.Slow.{leaf_digests};
 ghost use Rattle.tree_shape.specs.Root.{root as root_of};
 ghost use Rattle.tree_proof.specs.Check.{Checks, IsInBounds, rebuilt_root};
-ghost use Rattle.tree_proof.specs.Inputs.{HasDigestsOf, ShowsElements};
+ghost use Rattle.tree_proof.specs.Inputs.{ShowsElements};
 
 use crate::Proof;
 use crate::peaks::rebuild_peaks;
@@ -52,6 +52,17 @@ fn is_same<D: Digest>(a: &D, b: &D) -> bool
     a.as_slice() == b.as_slice()
 }
 
+/// Looks at the digests one by one: each has the length of digests.
+fn look_at_all<D: Digest>(digests: &[D])
+    ensures sized { All (λ d. length (D.bytes d) ≡ D.FixedSize.width) digests.now }
+{
+    let mut i = 0;
+    while i < digests.len() {
+        let _bytes = digests[i].as_slice();
+        i += 1;
+    }
+}
+
 /// Whether the proof is within its bounds and gives this root.
 fn is_shown<F: Family, H: Hasher>(
     alloc: Global,
@@ -85,10 +96,11 @@ pub fn verify<F: Family, H: Hasher>(
     ensures checks { IfOk result (λ shown. IsTrue shown ↔ Checks F.shape H.hash hasher.now proof.now start elements.now root.now) }
 
     // Against the root of any list of elements, they are those of the list, or two different hash inputs have one digest.
-    ensures sound { IfOk result (λ shown. IsTrue shown → HasDigestsOf H.hash H.Digest.FixedSize.width proof.now →
+    ensures sound { IfOk result (λ shown. IsTrue shown →
         (all : List (List ℕ)) (inactive : ℕ) → length all ≤ 2 ^ 62 → inactive ≤ length (F.shape.heights (length all)) →
         root.now ≡ root_of F.shape H.hash (leaf_digests F.shape H.hash all) inactive hasher.now → ShowsElements F.shape H.hash hasher.now all inactive proof.now start elements.now) }
 {
+    look_at_all(proof.digests.as_slice());
     let shown = is_shown(alloc, hasher, proof, start.as_u64(), elements, root)?;
     Ok(shown)
 }
