@@ -1,4 +1,4 @@
-ghost use Rattle.std.specs.Prelude.{◌≡◌, ℕ, List, [], ◌∷◌, length, take, drop, IfOk, OnErr, ◌<◌, ◌^◌};
+ghost use Rattle.std.specs.Prelude.{◌≡◌, ℕ, List, [], ◌∷◌, length, take, drop, IfOk, OnErr, IsErrOf, ◌<◌, ◌^◌};
 ghost use Rattle.codec_base.specs.Codec.{Takes, TakesAs};
 ghost use Rattle.codec_base.specs.Numbers.{byte_at, slice_at, u64_at};
 
@@ -43,6 +43,7 @@ impl<'a> Cursor<'a> {
     /// Takes a byte.
     pub fn byte(&mut self) -> Result<u8, CodecError>
         ensures taken { Takes result self.new (byte_at self.old) }
+        ensures no_memory { IsErrOf result CodecError.Memory → ⊥ }
         ensures err { OnErr result (self.new ≡ self.old) }
     {
         match self.bytes {
@@ -57,6 +58,7 @@ impl<'a> Cursor<'a> {
     /// Takes this many bytes.
     pub fn slice(&mut self, count: usize) -> Result<&'a [u8], CodecError>
         ensures taken { TakesAs (λ s. s.now) result self.new (slice_at count self.old) }
+        ensures no_memory { IsErrOf result CodecError.Memory → ⊥ }
         ensures count { IfOk result (λ s. length s.now ≡ count) }
         ensures err { OnErr result (self.new ≡ self.old) }
     {
@@ -71,6 +73,7 @@ impl<'a> Cursor<'a> {
     /// Takes eight bytes, the high one first.
     pub fn number(&mut self) -> Result<u64, CodecError>
         ensures taken { Takes result self.new (u64_at self.old) }
+        ensures no_memory { IsErrOf result CodecError.Memory → ⊥ }
         ensures err { OnErr result (self.new ≡ self.old) }
     {
         if self.bytes.len() < 8 {

@@ -1,5 +1,5 @@
 //! Numbers in groups of seven bits.
-ghost use Rattle.std.specs.Prelude.{◌≡◌, ℕ, ◌+◌, ◌<◌, ◌≤◌, ◌^◌, List, [], ◌∷◌, ◌++◌, length, take, OnOk, OnErr, IfOk, IsOkUnless};
+ghost use Rattle.std.specs.Prelude.{◌≡◌, ℕ, ◌+◌, ◌<◌, ◌≤◌, ◌^◌, List, [], ◌∷◌, ◌++◌, length, take, OnOk, OnErr, IfOk, IsErrOf, IsOkUnless};
 ghost use Rattle.codec_base.specs.Codec.{Takes};
 ghost use Rattle.codec_base.specs.Varint.{limit, groups, last_group, groups_at, varint, varint_at};
 
@@ -11,6 +11,7 @@ fn groups_of(buf: &mut Cursor<'_>, more: u8, low: u8) -> Result<u64, CodecError>
     requires few { more ≤ 9 }
     requires low { low ≤ 1 }
     ensures taken { Takes result buf.new (groups_at more low buf.old) }
+    ensures no_memory { IsErrOf result CodecError.Memory → ⊥ }
     ensures below { IfOk result (λ n. n < limit more) }
 {
     let byte = buf.byte()?;
@@ -29,6 +30,7 @@ fn groups_of(buf: &mut Cursor<'_>, more: u8, low: u8) -> Result<u64, CodecError>
 fn last_of(byte: u8, more: u8, low: u8) -> Result<u64, CodecError>
     requires last { byte < 128 }
     ensures taken { (rest : List ℕ) → Takes result rest (last_group more low byte rest) }
+    ensures no_memory { IsErrOf result CodecError.Memory → ⊥ }
     ensures below { IfOk result (λ n. n < limit more) }
 {
     if byte < low {
@@ -77,6 +79,7 @@ fn count_groups(value: u64, more: u8) -> u64
 #[tactic(auto, unfolding(crate::specs::Varint::varint_at))]
 pub fn read_varint(buf: &mut Cursor<'_>) -> Result<u64, CodecError>
     ensures taken { Takes result buf.new (varint_at buf.old) }
+    ensures no_memory { IsErrOf result CodecError.Memory → ⊥ }
     ensures err { OnErr result (buf.new ≡ buf.old) }
 {
     let mut ahead = buf.copy();

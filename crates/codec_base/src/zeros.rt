@@ -1,5 +1,5 @@
 //! Zeros behind a value that is shorter than its place.
-ghost use Rattle.std.specs.Prelude.{◌≡◌, ◌<◌, ◌^◌, ℕ, List, ◌++◌, length, take, OnOk, OnErr, IsOkUnless};
+ghost use Rattle.std.specs.Prelude.{◌≡◌, ◌<◌, ◌^◌, ℕ, List, ◌++◌, length, take, OnOk, OnErr, IsErrOf, IsOkUnless};
 ghost use Rattle.codec_base.specs.Codec.{TakesAs};
 ghost use Rattle.codec_base.specs.Combine.{zeros, zeros_at};
 
@@ -9,6 +9,7 @@ use crate::{Bytes, CodecError, Cursor, undo_on_err};
 /// Takes this many zeros.
 pub fn read_zeros(buf: &mut Cursor<'_>, count: u64) -> Result<(), CodecError>
     ensures taken { TakesAs (λ _. tt) result buf.new (zeros_at count buf.old) }
+    ensures no_memory { IsErrOf result CodecError.Memory → ⊥ }
     ensures err { OnErr result (buf.new ≡ buf.old) }
 {
     let mut ahead = buf.copy();

@@ -1,5 +1,7 @@
-ghost use Rattle.std.specs.Prelude.{◌≡◌, ◌≤◌};
-ghost use Rattle.codec_base.specs.Causes.{Rose};
+ghost use Rattle.std.specs.Prelude.{◌≡◌, ◌<◌, ◌≤◌, length, IfOk, OnOk};
+ghost use Rattle.std.specs.Io.{WritesAtMost};
+ghost use Rattle.std.specs.Io.KnownBytes.{WriteAppends, Keeps};
+ghost use Rattle.codec_base.specs.Causes.{HasCause, Rose};
 
 use std::io::{self, ErrorKind};
 use stream_base::{Sink, WriteFailed};
@@ -16,7 +18,9 @@ pub struct StdSink<W> {
 impl<W: io::Write> StdSink<W> {
     /// A sink that has not failed.
     pub fn new(writer: W) -> Self
-        ensures { ⟦<StdSink<W> as Sink>⟧.faults result ≡ 0 }
+        ensures faults { ⟦<StdSink<W> as Sink>⟧.faults result ≡ 0 }
+        ensures written { ⟦<StdSink<W> as Sink>⟧.written result ≡ W.contents writer }
+        ensures flushed { ⟦<StdSink<W> as Sink>⟧.flushed result }
     {
         StdSink {
             writer,
@@ -44,7 +48,14 @@ impl<W: io::Write> Sink for StdSink<W> {
 
     ghost faults = { λ s. s.faults };
 
-    fn write(&mut self, buf: &[u8]) -> Result<usize, WriteFailed> {
+    fn write(&mut self, buf: &[u8]) -> Result<usize, WriteFailed>
+        ensures bound { WritesAtMost result buf.now }
+        ensures some { 0 < length buf.now → IfOk result (λ n. 0 < n) }
+        ensures bytes { WriteAppends (W.contents self.old.writer) (W.contents self.new.writer) result buf.now }
+        ensures cause { HasCause self.old.faults self.new.faults result }
+        // A write that succeeds counts nothing, whatever interrupted it.
+        ensures counted { OnOk result (self.new.faults ≡ self.old.faults) }
+    {
         self.waits = true;
         for _ in 0..u64::MAX {
             match self.writer.write(buf) {
@@ -57,7 +68,12 @@ impl<W: io::Write> Sink for StdSink<W> {
         Err(self.failed())
     }
 
-    fn flush(&mut self) -> Result<(), WriteFailed> {
+    fn flush(&mut self) -> Result<(), WriteFailed>
+        ensures passed { OnOk result (IsFalse self.new.waits) }
+        ensures bytes { Keeps (W.contents self.old.writer) (W.contents self.new.writer) }
+        ensures cause { HasCause self.old.faults self.new.faults result }
+        ensures counted { OnOk result (self.new.faults ≡ self.old.faults) }
+    {
         for _ in 0..u64::MAX {
             match self.writer.flush() {
                 Ok(()) => {

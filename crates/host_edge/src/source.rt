@@ -1,4 +1,7 @@
-ghost use Rattle.std.specs.Prelude.{◌≡◌};
+ghost use Rattle.std.specs.Prelude.{◌≡◌, OnOk};
+ghost use Rattle.std.specs.Io.{ReadsAtMost};
+ghost use Rattle.std.specs.Io.KnownBytes.{ReadConsumes};
+ghost use Rattle.codec_base.specs.Causes.{HasCause};
 
 use std::io::{self, ErrorKind};
 use stream_base::{ReadFailed, Source};
@@ -14,7 +17,8 @@ pub struct StdSource<R> {
 impl<R: io::Read> StdSource<R> {
     /// A source that has not failed.
     pub fn new(reader: R) -> Self
-        ensures { ⟦<StdSource<R> as Source>⟧.faults result ≡ 0 }
+        ensures faults { ⟦<StdSource<R> as Source>⟧.faults result ≡ 0 }
+        ensures left { ⟦<StdSource<R> as Source>⟧.left result ≡ R.remaining reader }
     {
         StdSource { reader, faults: 0 }
     }
@@ -25,7 +29,13 @@ impl<R: io::Read> Source for StdSource<R> {
 
     ghost faults = { λ s. s.faults };
 
-    fn read(&mut self, buf: &mut [u8]) -> Result<usize, ReadFailed> {
+    fn read(&mut self, buf: &mut [u8]) -> Result<usize, ReadFailed>
+        ensures bound { ReadsAtMost result buf.new }
+        ensures bytes { ReadConsumes (R.remaining self.old.reader) (R.remaining self.new.reader) result buf.new }
+        ensures cause { HasCause self.old.faults self.new.faults result }
+        // A read that succeeds counts nothing, whatever interrupted it.
+        ensures counted { OnOk result (self.new.faults ≡ self.old.faults) }
+    {
         for _ in 0..u64::MAX {
             match self.reader.read(buf) {
                 Ok(count) => return Ok(count),

@@ -1,5 +1,5 @@
 //! Streams in memory.
-ghost use Rattle.std.specs.Prelude.{◌≡◌, ◌↔◌, ◌⊎◌, ℕ, ◌+◌, ◌<◌, ◌≤◌, List, [], ◌∷◌, ◌++◌, length, take, drop, min, Some, Contains, IsErr, IfOk, OnOk, OnErr, vec_len, vec_capacity};
+ghost use Rattle.std.specs.Prelude.{◌≡◌, ◌↔◌, ◌⊎◌, ℕ, ◌+◌, ◌-◌, ◌^◌, ◌<◌, ◌≤◌, List, [], ◌∷◌, ◌++◌, length, take, drop, min, Some, Contains, IsErr, IfOk, OnOk, OnErr, vec_len, vec_capacity};
 ghost use Rattle.std.specs.Io.{ReadsAtMost, WritesAtMost};
 ghost use Rattle.std.specs.Io.KnownBytes.{ReadConsumes, WriteAppends, Keeps};
 ghost use Rattle.codec_base.specs.Causes.{HasCause};
@@ -61,6 +61,9 @@ impl Source for MemorySource {
         ensures bound { ReadsAtMost result buf.new }
         ensures bytes { ReadConsumes (Some self.old.left) (Some self.new.left) result buf.new }
         ensures cause { HasCause self.old.failing.faults self.new.failing.faults result }
+        // A failure is counted once, and nothing else is.
+        ensures counted { OnErr result (self.new.failing.faults ≡ min (self.old.failing.faults + 1) (2 ^ 64 - 1)) }
+        ensures kept { OnOk result (self.new.failing.faults ≡ self.old.failing.faults) }
         // It fails exactly where it was set to, and else gives all that has room.
         ensures planned { IsErr result ↔ Contains self.old.failing.ahead 1 }
         ensures ahead { self.new.failing.ahead ≡ after_call self.old.failing.ahead }
@@ -147,6 +150,9 @@ impl Sink for MemorySink {
         ensures some { 0 < length buf.now → IfOk result (λ n. 0 < n) }
         ensures bytes { WriteAppends (Some self.old.written) (Some self.new.written) result buf.now }
         ensures cause { HasCause self.old.failing.faults self.new.failing.faults result }
+        // A failure is counted once, and nothing else is.
+        ensures counted { OnErr result (self.new.failing.faults ≡ min (self.old.failing.faults + 1) (2 ^ 64 - 1)) }
+        ensures kept { OnOk result (self.new.failing.faults ≡ self.old.failing.faults) }
         // It fails exactly where it was set to, or has no room for any of the bytes, and else takes what fits.
         ensures fails { IsErr result ↔ (Contains self.old.failing.ahead 1 ⊎ ((0 < length buf.now) × (self.old.room ≡ 0))) }
         ensures ahead { self.new.failing.ahead ≡ after_call self.old.failing.ahead }
@@ -171,6 +177,9 @@ impl Sink for MemorySink {
         ensures passed { OnOk result (Unit {0}) }
         ensures bytes { Keeps (Some self.old.written) (Some self.new.written) }
         ensures cause { HasCause self.old.failing.faults self.new.failing.faults result }
+        // A failure is counted once, and nothing else is.
+        ensures counted { OnErr result (self.new.failing.faults ≡ min (self.old.failing.faults + 1) (2 ^ 64 - 1)) }
+        ensures kept { OnOk result (self.new.failing.faults ≡ self.old.failing.faults) }
         ensures planned { IsErr result ↔ Contains self.old.failing.ahead 1 }
         ensures ahead { self.new.failing.ahead ≡ after_call self.old.failing.ahead }
         ensures room { self.new.room ≡ self.old.room }
