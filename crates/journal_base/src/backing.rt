@@ -1,4 +1,4 @@
-ghost use Rattle.std.specs.Prelude.{◌≡◌, ◌↔◌, ◌⊎◌, ◌+◌, ◌-◌, ◌<◌, ◌≤◌, ◌^◌, ℕ, List, Some, min, take, slice_get, IfOk, IfErr, OnOk, IsErrOf};
+ghost use Rattle.std.specs.Prelude.{◌≡◌, ◌↔◌, ◌⊎◌, ◌+◌, ◌-◌, ◌<◌, ◌≤◌, ◌^◌, ℕ, List, Some, false, min, take, slice_get, IfOk, IfErr, OnOk, IsErrOf};
 ghost use Rattle.std.specs.Fn.{FnReturnsAt};
 ghost use Rattle.journal_base.specs.Answers.{IsRefusal, IsOfVolume, IsOfSize, IsOfStart, IsOfRead};
 ghost use Rattle.journal_base.specs.Items.{IsCorrupt, Spells};
@@ -146,6 +146,9 @@ pub trait Backing: Mutable {
 
     /// It is one log alone.
     ghost is_one_log: { Self.one_log };
+
+    /// What is opened keeps no failure.
+    ghost fresh: { (cfg : Self.Config) → (config cfg).failed ≡ false };
 
     /// What a recovery says of an opened journal is what the journal tells.
     ghost opened_is: { (journal : Self) → Self.Recovery.opened journal ≡ Self.view journal };

@@ -1,5 +1,5 @@
 //! What holds of every journal and every list of items, for callers that are generic over them.
-ghost use Rattle.std.specs.Prelude.{◌≡◌, ◌++◌, ◌≤◌, ℕ, List, Some, length, map, take, slice_get};
+ghost use Rattle.std.specs.Prelude.{◌≡◌, ◌++◌, ◌≤◌, ℕ, List, Some, false, length, map, take, slice_get};
 ghost use Rattle.journal_base.specs.Items.{Spells};
 ghost use Rattle.volume_base.specs.Log.{Log, IsItemAt, appended, cut_to, pruned_to, cleared_at};
 
@@ -9,6 +9,7 @@ use codec_base::Read;
 /// The laws of journals that are one log.
 pub fn backing_laws<C: Backing>()
     ensures one_log { C.one_log }
+    ensures fresh { (cfg : C.Config) → (C.config cfg).failed ≡ false }
     ensures opened { (journal : C) → C.Recovery.opened journal ≡ C.view journal }
 {}
 

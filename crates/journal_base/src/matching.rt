@@ -23,7 +23,7 @@ pub(crate) fn match_below<J: Contiguous, V: Volume, P: Fn(&J::Item) -> bool>(
     ensures found { IfOk result (λ found. V.tells → MatchOption found (NoneMatches J.Item.spelling (J.Item.admits (J.view journal.now).codec) (FnReturnsAt P.Fn predicate) ((V.state vol.old).log (J.view journal.now).name) (J.view journal.now).start top) (λ end. IsLastMatch J.Item.spelling (J.Item.admits (J.view journal.now).codec) (FnReturnsAt P.Fn predicate) ((V.state vol.old).log (J.view journal.now).name) (J.view journal.now).start top end)) }
     ensures not_pruned { V.tells → IsWithin (J.view journal.now) (V.state vol.old) → (p : ℕ) → IsErrOf result (ItemPruned p) → ⊥ }
     ensures not_out_of_range { V.tells → IsWithin (J.view journal.now) (V.state vol.old) → (p : ℕ) → IsErrOf result (ItemOutOfRange p) → ⊥ }
-    ensures corrupt { V.tells → (p : ℕ) → IsErrOf result (Corruption p) → ((J.view journal.now).start ≤ p) × (p < top) × IsCorrupt J.Item.spelling (J.Item.admits (J.view journal.now).codec) ((V.state vol.old).log (J.view journal.now).name) p }
+    ensures corrupt { V.tells → (p : ℕ) → IsErrOf result (Corruption p) → ((J.view journal.now).start ≤ p) × (p < top) × IsCorrupt J.Item.spelling (J.Item.admits (J.view journal.now).codec) ((V.state vol.old).log (J.view journal.now).name) p × NoneMatches J.Item.spelling (J.Item.admits (J.view journal.now).codec) (FnReturnsAt P.Fn predicate) ((V.state vol.old).log (J.view journal.now).name) (p + 1) top }
     ensures errors { IfErr result IsOfRead }
     ensures answers { Reads V.tells JournalError.Volume (V.state vol.old) (V.state vol.new) result }
     ensures reads { (V.state vol.new).reads ≤ (V.state vol.old).reads + (top - (J.view journal.now).start) }

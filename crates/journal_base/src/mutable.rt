@@ -95,11 +95,15 @@ pub trait Mutable: Contiguous {
         ensures made { IfOk result (λ made. Self.view made.0 ≡ at_bounds (Self.view self) (Self.view made.0).start (Self.view made.0).end) }
         ensures held { IfOk result (λ made. V.tells → one_log ⊎ IsHeld (Self.view self) (V.state vol.old) → IsHeld (Self.view made.0) (V.state vol.new)) }
         ensures moved { IfOk result (λ made. one_log → V.tells → (IsTrue made.1 ↔ (((V.state vol.old).log (Self.view self).name).start < blob_start (Self.view self).blob (min least (end_of ((V.state vol.old).log (Self.view self).name)))))) }
+        ensures moved_true { IfOk result (λ made. V.tells → one_log ⊎ IsHeld (Self.view self) (V.state vol.old) → ((V.state vol.old).log (Self.view self).name).start < blob_start (Self.view self).blob (min least (end_of ((V.state vol.old).log (Self.view self).name))) → IsTrue made.1) }
         ensures pruned { OnOk result (V.tells → one_log ⊎ IsHeld (Self.view self) (V.state vol.old) → (V.state vol.new).log (Self.view self).name ≡ pruned_to ((V.state vol.old).log (Self.view self).name) (blob_start (Self.view self).blob (min least (end_of ((V.state vol.old).log (Self.view self).name))))) }
         ensures listed { OnOk result (V.tells → one_log ⊎ IsHeld (Self.view self) (V.state vol.old) → (list : List Self.Item) → Spells Self.Item.spelling list ((V.state vol.old).log (Self.view self).name) → Spells Self.Item.spelling list ((V.state vol.new).log (Self.view self).name)) }
         ensures others { one_log → V.tells → OnlyLog (Self.view self).name (V.state vol.old) (V.state vol.new) }
         ensures images { one_log → V.tells → LogMoves (Self.view self).name (Advances (blob_start (Self.view self).blob (min least (end_of ((V.state vol.old).log (Self.view self).name))))) (V.state vol.old) (V.state vol.new) }
         ensures errors { one_log → IfErr result IsOfVolume }
+        ensures later { (V.state vol.old).clock ≤ (V.state vol.new).clock }
+        ensures faults { (V.state vol.old).faults ≤ (V.state vol.new).faults }
+        ensures cause { (Self.view self).failed ≡ false → IsErrOf result Volume → Rose (V.state vol.old).faults (V.state vol.new).faults }
         ensures writes { one_log → (Self.view self).failed ≡ false → Writes V.tells Volume (V.state vol.old) (V.state vol.new) result };
 
     /// Takes the log away.
@@ -109,5 +113,8 @@ pub trait Mutable: Contiguous {
         ensures others { one_log → V.tells → OnlyLog (Self.view self).name (V.state vol.old) (V.state vol.new) }
         ensures images { one_log → V.tells → LogMoves (Self.view self).name Vanishes (V.state vol.old) (V.state vol.new) }
         ensures errors { one_log → IfErr result IsOfVolume }
+        ensures later { (V.state vol.old).clock ≤ (V.state vol.new).clock }
+        ensures faults { (V.state vol.old).faults ≤ (V.state vol.new).faults }
+        ensures cause { IsErrOf result Volume → Rose (V.state vol.old).faults (V.state vol.new).faults }
         ensures writes { one_log → Writes V.tells Volume (V.state vol.old) (V.state vol.new) result };
 }

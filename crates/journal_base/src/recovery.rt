@@ -223,6 +223,8 @@ impl<T: Write + EncodeSize + Read + Duplicate + Drop, K: Kind<T>> Backing for Jo
 
     ghost is_one_log = { tt };
 
+    ghost fresh = { λ _. refl };
+
     ghost opened_is = { λ journal. refl };
 
     fn recover<V: Volume>(

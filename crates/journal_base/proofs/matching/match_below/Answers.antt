@@ -32,8 +32,12 @@ returns-in_err-item-clause-corrupt g c told p is =
     let same = (c.loop-end.invariant.so_far.contents told).logs name in
     let why = c.read.ensures.corrupt told p (search rules) in
     let there = subst (λ (l : Log). IsCorrupt g.J.Item.Spelled.spelling (g.J.Item.Read.admits (g.J.Contiguous.view c.args.journal.now).codec) l (c.loop-end.end - 1)) same why.1 in
-    let here = subst (λ (q : ℕ). IsCorrupt g.J.Item.Spelled.spelling (g.J.Item.Read.admits (g.J.Contiguous.view c.args.journal.now).codec) ((g.V.Volume.state c.args.vol.now).log name) q) (sym why.0) there in
-    (omega (arith, why.0, c.bounds-start.ensures.start), omega (arith, why.0), here)
+    let here = subst (λ (q : ℕ). IsCorrupt g.J.Item.Spelled.spelling (g.J.Item.Read.admits (g.J.Contiguous.view c.args.journal.now).codec) ((g.V.Volume.state c.args.vol.now).log name) q) (sym why.0) there in (
+      omega (arith, why.0, c.bounds-start.ensures.start),
+      omega (arith, why.0),
+      here,
+      λ q lo hi. c.loop-end.invariant.none told q (omega (arith, why.0)) hi,
+    )
 
 pub returns-in_err-item-clause-answers : goal.returns-in_err-item-clause-answers
 returns-in_err-item-clause-answers g c = reads_joins _ _ _ _ _ _ _ c.loop-end.invariant.so_far c.read.ensures.answers (λ is. search rules)
