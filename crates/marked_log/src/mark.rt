@@ -1,4 +1,4 @@
-ghost use Rattle.std.specs.Prelude.{◌≡◌, ◌+◌, ◌<◌, ◌^◌, length, OnOk};
+ghost use Rattle.std.specs.Prelude.{◌≡◌, ◌≢◌, ◌⊎◌, ◌+◌, ◌<◌, ◌^◌, ℕ, List, length, IfErr, OnOk};
 ghost use Rattle.marked_log.specs.MarkedLog.{IsUnmarked, IsMarkedAfter};
 ghost use Rattle.volume_base.specs.Log.{end_of, appended};
 ghost use Rattle.volume_base.specs.Moments.{PairHas, PairKeeps};
@@ -20,6 +20,10 @@ pub fn append_and_mark<V: Volume>(
     ensures marked { OnOk result (V.tells → (V.state vol.new).map map.now ≡ mark.now) }
     // At each moment a crash leaves another map than the old one only beside the whole log.
     ensures each_moment { V.tells → PairHas (V.state vol.old) log.now map.now (IsUnmarked ((V.state vol.old).log log.now) ((V.state vol.old).map map.now)) → PairKeeps log.now map.now (IsMarkedAfter ((V.state vol.old).log log.now) items.now ((V.state vol.old).map map.now)) (V.state vol.old) (V.state vol.new) }
+    // Every other log and map stays.
+    ensures logs { V.tells → (other : List ℕ) → other ≢ log.now → (V.state vol.new).log other ≡ (V.state vol.old).log other }
+    ensures maps { V.tells → (other : List ℕ) → other ≢ map.now → (V.state vol.new).map other ≡ (V.state vol.old).map other }
+    ensures errors { IfErr result (λ e. (e ≡ VolumeError.Failed) ⊎ (e ≡ VolumeError.Memory)) }
     ensures writes { Writes V.tells VolumeError.Failed (V.state vol.old) (V.state vol.new) result }
 {
     vol.log_append(log, items)?;

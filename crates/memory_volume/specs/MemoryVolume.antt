@@ -1,5 +1,5 @@
 -- The meanings of a volume in memory.
-use Rattle.std.specs.Prelude.{◌≡◌, List, [], ◌∷◌, ◌++◌, Result, OnOk, OnErr, IsErrOf, Contains}
+use Rattle.std.specs.Prelude.{◌≡◌, ◌+◌, ◌-◌, ◌^◌, List, [], ◌∷◌, ◌++◌, min, Result, OnOk, OnErr, IsErrOf, Contains}
 use Rattle.volume_base.specs.Volume.{State}
 use Rattle.volume_base.specs.declared.error.VolumeError.{VolumeError}
 use Rattle.volume_base.specs.declared.error.VolumeError.TheVariants.{Failed}
@@ -25,8 +25,10 @@ pub record Records {T E : Type 0} (call : Entry) (old new : MemoryVolume) (resul
   pub err : OnErr result (calls_of new ≡ calls_of old)
   pub reads : (state_of new).reads ≡ (state_of old).reads
 
--- A call fails where it is set to, and there alone.
+-- A call fails where it is set to, and there alone; a failure is counted once, and nothing else is.
 pub record FailsAsSet {T : Type 0} (old new : MemoryVolume) (result : Result T VolumeError) : Type 0 where
   pub set : Contains (failing_of old).ahead 1 → IsErrOf result Failed
   pub only_set : IsErrOf result Failed → Contains (failing_of old).ahead 1
   pub ahead : (failing_of new).ahead ≡ after_call (failing_of old).ahead
+  pub counted : IsErrOf result Failed → (failing_of new).faults ≡ min ((failing_of old).faults + 1) (2 ^ 64 - 1)
+  pub kept : (IsErrOf result Failed → ⊥) → (failing_of new).faults ≡ (failing_of old).faults

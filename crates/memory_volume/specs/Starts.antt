@@ -1,5 +1,5 @@
 -- How a call begins, which may be one that is set to fail.
-use Rattle.std.specs.Prelude.{◌≡◌, ◌↔◌, ◌≤◌, Result, Contains, IsErr, IfErr, OnErr}
+use Rattle.std.specs.Prelude.{◌≡◌, ◌↔◌, ◌+◌, ◌-◌, ◌^◌, ◌≤◌, min, Result, Contains, IsErr, IfErr, OnOk, OnErr}
 use Rattle.codec_base.specs.Causes.{Rose}
 use Rattle.volume_base.specs.declared.error.VolumeError.{VolumeError}
 use Rattle.volume_base.specs.declared.error.VolumeError.TheVariants.{Failed}
@@ -11,5 +11,7 @@ pub record Starts {T : Type 0} (old new : Failing) (result : Result T VolumeErro
   pub ahead : new.ahead ≡ after_call old.ahead
   pub only_failed : IfErr result (λ e. e ≡ Failed)
   pub later : old.faults ≤ new.faults
+  pub counted : OnErr result (new.faults ≡ min (old.faults + 1) (2 ^ 64 - 1))
+  pub kept : OnOk result (new.faults ≡ old.faults)
   pub failed : OnErr result (Rose old.faults new.faults)
   pub steady : IsSteady old → IsSteady new × (new.faults ≡ old.faults)
