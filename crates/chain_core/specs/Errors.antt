@@ -1,8 +1,8 @@
 -- How an error is passed on to the layer above.
 use Rattle.volume_base.specs.declared.error.JournalError.{JournalError}
 use Rattle.volume_base.specs.declared.error.JournalError.TheVariants as journal_error
-use Rattle.tree_core.specs.declared.error.Error as tree
-use Rattle.tree_core.specs.declared.error.Error.TheVariants as tree_error
+use Rattle.tree_store.specs.declared.error.Error as tree
+use Rattle.tree_store.specs.declared.error.Error.TheVariants as tree_error
 use Rattle.chain_core.specs.declared.error.Error.{Error}
 use Rattle.chain_core.specs.declared.error.Error.TheVariants.{Journal, Merkle, Volume, Memory}
 

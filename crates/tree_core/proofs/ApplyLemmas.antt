@@ -3,7 +3,7 @@ use Rattle.std.proofs.Common.{◌≡◌, inl, inr, ℕ, ◌-◌, ◌≤◌, ◌+
 use Rattle.tree_shape.specs.Hashing.{Hashing}
 use Rattle.tree_shape.specs.Shape.{Shape, made, IsLawful}
 use Rattle.tree_shape.specs.Kept.{KeepsPeaks}
-use Rattle.tree_core.specs.declared.error.Error.{Error}
+use Rattle.tree_store.specs.declared.error.Error.{Error}
 use Rattle.tree_core.specs.Pruned.{made_from, peaks_at}
 use Rattle.tree_core.specs.Links.{HasMark, joined_nodes}
 use Rattle.tree_core.specs.Tree.{Tree, node_at, IsOf, IsGrown}

@@ -11,7 +11,8 @@ use Rattle.tree_shape.specs.MmrPlaces.{append_nil}
 use Rattle.tree_shape.specs.Kept.{PeakIn, PeakOf, AtHand, KeepsPeaks}
 use Rattle.tree_shape.specs.Slow.{leaf_at, node, node_of, nodes, peak_digests}
 use Rattle.tree_core.proofs.MemLemmas.{node-append, map-nodes-append}
-use Rattle.tree_core.specs.Pruned.{made_from, peaks_at, nodes_from, IsTreeOf}
+use Rattle.tree_core.specs.Pruned.{made_from, peaks_at, nodes_from}
+use Rattle.tree_store.specs.Stores.{IsTreeOf}
 
 pub get_past : {X : Type 0} (xs ys : List X) (i : ℕ) → slice_get (xs ++ ys) (length xs + i) ≡ slice_get ys i
 get_past [] ys i = let e : 0 + i ≡ i = omega arith in rw e refl

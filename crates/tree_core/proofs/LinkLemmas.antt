@@ -14,7 +14,8 @@ use Rattle.tree_shape.specs.Shape.{Shape, made, PeaksStand, IsLawful}
 use Rattle.tree_shape.specs.Kept.{KeepsPeaks}
 use Rattle.tree_shape.specs.Slow.{leaf_at, node_of, peak_digests}
 use Rattle.tree_core.proofs.MemLemmas.{take-next, node-append, map-nodes-append}
-use Rattle.tree_core.specs.Pruned.{made_from, nodes_from, peaks_at, IsTreeOf, Extends, Continues}
+use Rattle.tree_core.specs.Pruned.{made_from, nodes_from, peaks_at, Extends, Continues}
+use Rattle.tree_store.specs.Stores.{IsTreeOf}
 use Rattle.tree_core.specs.Links.{Link, IsLinked, IsLinkedOf, joined_nodes, HasMark, IsBatchOf, first_leaves}
 use Rattle.tree_core.proofs.Later.{stands_since, get_past, get_front, made_from-split, nodes_same, peaks_at-append, tree_grown}
 

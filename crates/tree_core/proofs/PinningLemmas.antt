@@ -10,7 +10,7 @@ use Rattle.std.proofs.lemmas.Map.Entries.{lookup-filter-keys}
 use Rattle.tree_shape.specs.Hashing.{Hashing}
 use Rattle.tree_shape.specs.Shape.{Shape}
 use Rattle.tree_shape.specs.Slow.{nodes}
-use Rattle.tree_core.specs.Pruned.{IsTreeOf}
+use Rattle.tree_store.specs.Stores.{IsTreeOf}
 use Rattle.tree_core.specs.Tree.{either}
 use Rattle.tree_core.proofs.MapLemmas.{key_apart, key_same}
 

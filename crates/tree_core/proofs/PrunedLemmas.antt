@@ -8,7 +8,8 @@ use Rattle.tree_shape.specs.Hashing.{Hashing}
 use Rattle.tree_shape.specs.Shape.{Shape, made, Stands, PeaksStand, IsLawful}
 use Rattle.tree_shape.specs.Kept.{PeakIn, PeakOf, KeepsPeaks}
 use Rattle.tree_shape.specs.Slow.{node, node_of, nodes}
-use Rattle.tree_core.specs.Pruned.{made_from, IsTreeOf, IsPruned, is_peak_at, keeps, pruned, Extends}
+use Rattle.tree_core.specs.Pruned.{made_from, IsPruned, is_peak_at, keeps, pruned, Extends}
+use Rattle.tree_store.specs.Stores.{IsTreeOf}
 use Rattle.tree_core.proofs.Held.{get_is_some}
 use Rattle.tree_core.proofs.Later.{leaf_position, made_le, at_hand_back, length-split}
 

@@ -5,7 +5,7 @@ use Rattle.std.specs.Option.{option_map}
 use Rattle.std.proofs.lemmas.Option.{slice_get-map, same_Some}
 use Rattle.volume_base.specs.Volume.{State, SameContents}
 use Rattle.volume_base.specs.Moments.{present}
-use Rattle.tree_core.specs.Stores.{IsFirstAbsent}
+use Rattle.tree_store.specs.Stores.{IsFirstAbsent}
 use Rattle.tree_core.proofs.MemLemmas.{get-take}
 
 -- a volume with the same contents is the same, as far as it is told

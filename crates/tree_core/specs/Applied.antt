@@ -2,8 +2,8 @@
 use Rattle.std.specs.Prelude.{◌≡◌, ◌⊎◌, ℕ, ◌<◌, List, length}
 use Rattle.tree_shape.specs.Hashing.{Hashing}
 use Rattle.tree_shape.specs.Shape.{Shape, made}
-use Rattle.tree_core.specs.declared.error.Error.{Error}
-use Rattle.tree_core.specs.declared.error.Error.TheVariants.{StaleBatch, AncestorDropped, Memory}
+use Rattle.tree_store.specs.declared.error.Error.{Error}
+use Rattle.tree_store.specs.declared.error.Error.TheVariants.{StaleBatch, AncestorDropped, Memory}
 use Rattle.tree_core.specs.Pruned.{peaks_at}
 use Rattle.tree_core.specs.Links.{HasMark}
 use Rattle.tree_core.specs.Tree.{Tree, node_at}

@@ -7,11 +7,12 @@ pub use Rattle.tree_shape.specs.Root
 pub use Rattle.tree_shape.specs.Mmr
 pub use Rattle.tree_shape.specs.Mmb
 pub use Rattle.tree_shape.specs.Table
-pub mod Errors
+pub use Rattle.tree_store.specs.Errors
+pub use Rattle.tree_store.specs.Stores
+pub use Rattle.tree_store.specs.declared.error.Error as TreeErrors
 pub mod Pruned
 pub mod Links
 pub mod Reading
 pub mod Tree
 pub mod Batches
 pub mod Applied
-pub mod Stores

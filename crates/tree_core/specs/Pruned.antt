@@ -3,7 +3,7 @@ use Rattle.std.specs.Prelude.{◌≡◌, ℕ, zero, suc, ◌+◌, ◌-◌, ◌^�
 use Rattle.tree_shape.specs.Hashing.{Hashing}
 use Rattle.tree_shape.specs.Shape.{Shape, made}
 use Rattle.tree_shape.specs.Kept.{PeakOf}
-use Rattle.tree_shape.specs.Slow.{nodes, node_of, peak_digests}
+use Rattle.tree_shape.specs.Slow.{node_of, peak_digests}
 
 -- the nodes that the j appends after b leaves make, in order
 unfoldable pub made_from : Shape → ℕ → ℕ → List (ℕ × ℕ)
@@ -17,11 +17,6 @@ peaks_at s h leaves b = peak_digests s h leaves b (s.heights b)
 -- the nodes that the leaves after the first b made
 abbrev pub nodes_from : {D : Type 0} → Shape → Hashing D → List D → ℕ → ℕ → List D
 nodes_from s h leaves b j = map (node_of s h leaves) (made_from s b j)
-
--- the tree of n leaves whose node at a position is what g gives, is that of this list
-pub record IsTreeOf {D : Type 0} (s : Shape) (h : Hashing D) (leaves : List D) (n : ℕ) (g : ℕ → Option D) : Type 0 where
-  pub count : n ≡ length leaves
-  pub right : (p : ℕ) (d : D) → g p ≡ Some d → slice_get (nodes s h leaves) p ≡ Some d
 
 -- of n leaves, pruned at b: which nodes are there
 pub record IsPruned {D : Type 0} (s : Shape) (n b : ℕ) (g : ℕ → Option D) : Type 0 where

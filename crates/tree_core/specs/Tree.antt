@@ -5,10 +5,11 @@ use Rattle.std.specs.BTreeMap.{is_at}
 use Rattle.std.specs.Ordering.{nat_cmp}
 use Rattle.tree_shape.specs.Hashing.{Hashing}
 use Rattle.tree_shape.specs.Shape.{Shape, made}
-use Rattle.tree_core.specs.declared.error.Error.{Error}
-use Rattle.tree_core.specs.declared.error.Error.TheVariants.{LocationOverflow, LeafOutOfBounds, InvalidPinnedNodes, MissingNode, Memory}
+use Rattle.tree_store.specs.declared.error.Error.{Error}
+use Rattle.tree_store.specs.declared.error.Error.TheVariants.{LocationOverflow, LeafOutOfBounds, InvalidPinnedNodes, MissingNode, Memory}
 use Rattle.tree_shape.specs.Sizes.{HasSize}
-use Rattle.tree_core.specs.Pruned.{IsPruned, IsTreeOf, keeps, pruned, Extends}
+use Rattle.tree_core.specs.Pruned.{IsPruned, keeps, pruned, Extends}
+use Rattle.tree_store.specs.Stores.{IsTreeOf}
 use Rattle.tree_core.specs.Reading.{ArePeaks}
 
 -- the number of leaves, where it is pruned, and the kept nodes with their positions

@@ -1,7 +1,6 @@
 //! Append-only trees over lists of leaf digests, and batches of nodes.
 #![tactic(auto)]
 
-mod error;
 mod growth;
 mod kept;
 mod laws;
@@ -11,18 +10,16 @@ mod peaks;
 mod pinning;
 mod sealed;
 mod segment;
-mod stores;
 mod unsealed;
 
-pub use error::{Error, TreeData};
 pub use laws::rebuilt_roots;
 pub use mem::Mem;
 pub use sealed::MerkleizedBatch;
-pub use stores::{Readable, Storage};
 pub use tree_shape::{
     Bagging, Digest, Family, Hasher, Location, MAX_LEAVES, Mmb, Mmr, Pins, Position, Sha256Digest,
     Sha256Hasher, Standard, slow_node, slow_peaks, slow_root, table_laws,
 };
+pub use tree_store::{Error, Readable, Storage, TreeData};
 pub use unsealed::UnmerkleizedBatch;
 
 #[cfg(test)]

@@ -294,7 +294,7 @@ impl<F: Family, D: Digest> Storage<F> for Mem<F, D> {
     ghost use Rattle.std.specs.Prelude.{◌≡◌, ◌<◌, length, map, Some, All, AllPairs, IfOk, IfErr};
     ghost use Rattle.tree_shape.specs.Shape.{made};
     ghost use Rattle.volume_base.specs.Volume.{Reads};
-    ghost use Rattle.tree_core.specs.Stores.{IsReadFault, IsReadRefusal, IsOutside, IsOutsideOr};
+    ghost use Rattle.tree_store.specs.Stores.{IsReadFault, IsReadRefusal, IsOutside, IsOutsideOr};
     ghost use Rattle.tree_core.specs.Tree.{node_at};
 
     type Digest = D;

@@ -1,8 +1,8 @@
 -- What a journal's error becomes.
 use Rattle.volume_base.specs.declared.error.JournalError.{JournalError}
 use Rattle.volume_base.specs.declared.error.JournalError.TheVariants as journal
-use Rattle.tree_core.specs.declared.error.Error.{Error}
-use Rattle.tree_core.specs.declared.error.Error.TheVariants as tree
+use Rattle.tree_store.specs.declared.error.Error.{Error}
+use Rattle.tree_store.specs.declared.error.Error.TheVariants as tree
 
 -- want of memory and a failure of the volume stay what they are, and every other error is wrapped
 abbrev pub from_journal : {F : Type 0} → JournalError → Error F

@@ -1,6 +1,6 @@
 ghost use Rattle.std.specs.Prelude.{◌≡◌, codes};
-ghost use Rattle.tree_core.specs.Errors.{from_journal};
-ghost use Rattle.tree_core.specs.declared.error.Error.TheVariants.{Memory};
+ghost use Rattle.tree_store.specs.Errors.{from_journal};
+ghost use Rattle.tree_store.specs.declared.error.Error.TheVariants.{Memory};
 
 use std::alloc::{AllocError, AllocFailed};
 use tree_shape::{Location, Position};

@@ -1,7 +1,15 @@
--- What stores of nodes answer.
-use Rattle.std.specs.Prelude.{◌≡◌, ℕ, ◌<◌, List, Option, Some, None, IsSome, slice_get}
-use Rattle.tree_core.specs.declared.error.Error.{Error}
-use Rattle.tree_core.specs.declared.error.Error.TheVariants.{Volume, Memory, Journal, ElementPruned}
+-- What stores of nodes answer, and of which list their tree is.
+use Rattle.std.specs.Prelude.{◌≡◌, ℕ, ◌<◌, List, length, Option, Some, None, IsSome, slice_get}
+use Rattle.tree_shape.specs.Hashing.{Hashing}
+use Rattle.tree_shape.specs.Shape.{Shape}
+use Rattle.tree_shape.specs.Slow.{nodes}
+use Rattle.tree_store.specs.declared.error.Error.{Error}
+use Rattle.tree_store.specs.declared.error.Error.TheVariants.{Volume, Memory, Journal, ElementPruned}
+
+-- the tree of n leaves whose node at a position is what g gives, is that of this list
+pub record IsTreeOf {D : Type 0} (s : Shape) (h : Hashing D) (leaves : List D) (n : ℕ) (g : ℕ → Option D) : Type 0 where
+  pub count : n ≡ length leaves
+  pub right : (p : ℕ) (d : D) → g p ≡ Some d → slice_get (nodes s h leaves) p ≡ Some d
 
 -- a read was refused for want of memory, or by the volume, or by the journal below
 abbrev pub IsReadFault : {F : Type 0} → Error F → Type 0

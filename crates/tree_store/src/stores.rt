@@ -3,7 +3,7 @@ ghost use Rattle.std.specs.Prelude.{◌≡◌, ℕ, ◌<◌, ◌≤◌, ◌^◌,
 ghost use Rattle.tree_shape.specs.Shape.{made};
 ghost use Rattle.volume_base.specs.Volume.{Reads};
 ghost use Rattle.volume_base.specs.Moments.{Image, present};
-ghost use Rattle.tree_core.specs.Stores.{IsReadFault, IsReadRefusal, IsOutside, IsOutsideOr};
+ghost use Rattle.tree_store.specs.Stores.{IsReadFault, IsReadRefusal, IsOutside, IsOutsideOr};
 
 use crate::Error;
 use tree_shape::{Digest, Family, Position};

@@ -1,0 +1,8 @@
+//! What generic callers ask of a tree's nodes: the stores that have them, and the errors of trees.
+#![tactic(auto)]
+
+mod error;
+mod stores;
+
+pub use error::{Error, TreeData};
+pub use stores::{Readable, Storage};
