@@ -8,5 +8,6 @@ pub mod Text
 pub mod KeylessText
 pub mod ImmutableText
 pub mod Same
+pub mod Compared
 pub mod Meanings
 pub mod ImmutableMeanings

@@ -7,6 +7,7 @@ use codec_base::{
     Bytes, CodecError, Duplicate, EncodeSize, FixedSize, InvalidAt, LengthCfg, Read, U64, Write,
     decode, encode,
 };
+use std::hash::{DefaultHasher, Hash, Hasher};
 use std::num::NonZeroU64;
 use std::process::Abort;
 use std::test::Fail;
@@ -129,6 +130,48 @@ fn operations_of_a_mountain_belt_go_both_ways(rt: HostRuntime) -> Result<(), Fai
     immutable::variable_laws::<Mmb, Bytes, Bytes>(&keyed);
     immutable::fixed_laws::<Mmb, U64, U64>(&((), ()));
     Ok(())
+}
+
+/// What a hasher makes of a value.
+fn hash_of<T: Hash>(value: &T) -> u64 {
+    let mut hasher = DefaultHasher::new();
+    value.hash(&mut hasher);
+    hasher.finish()
+}
+
+/// Whether each of these is below the next, and its hash another.
+fn rise<T: Ord + Hash>(values: &[T]) -> bool {
+    for i in 1..values.len() {
+        if values[i - 1] >= values[i] || hash_of(&values[i - 1]) == hash_of(&values[i]) {
+            return false;
+        }
+    }
+    true
+}
+
+#[test]
+fn operations_are_ordered_and_hashed_by_their_fields(rt: HostRuntime) {
+    let keyless: [Numbers; 6] = [
+        keyless::Operation::Append(U64::new(8)),
+        keyless::Operation::Append(U64::new(9)),
+        keyless::Operation::Commit(None, Location::new(3)),
+        keyless::Operation::Commit(None, Location::new(4)),
+        keyless::Operation::Commit(Some(U64::new(1)), Location::new(3)),
+        keyless::Operation::Commit(Some(U64::new(2)), Location::new(0)),
+    ];
+    assert!(rt; rise(&keyless));
+    keyless::order_laws::<Mmr, FixedEncoding<U64>>();
+    keyless::hash_laws::<Mmr, FixedEncoding<U64>>();
+    let immutable: [KeyedNumbers; 5] = [
+        immutable::Operation::Set(U64::new(1), U64::new(9)),
+        immutable::Operation::Set(U64::new(2), U64::new(8)),
+        immutable::Operation::Set(U64::new(2), U64::new(9)),
+        immutable::Operation::Commit(None, Location::new(3)),
+        immutable::Operation::Commit(None, Location::new(4)),
+    ];
+    assert!(rt; rise(&immutable));
+    immutable::order_laws::<Mmr, U64, FixedEncoding<U64>>();
+    immutable::hash_laws::<Mmr, U64, FixedEncoding<U64>>();
 }
 
 #[test]
