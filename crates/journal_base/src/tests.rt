@@ -227,43 +227,196 @@ fn opens_by_steps(rt: HostRuntime) -> Result<(), Fail> {
     Ok(())
 }
 
-/// What a call answers where one of its calls of the volume fails.
-fn answer_of(alloc: Global, call: usize, failing: u64) -> Result<Option<JournalError>, Fail> {
+/// The positions at which a log that begins at 3 and has these bytes is read as corrupt.
+fn corrupt_in<J: Backing>(
+    alloc: Global,
+    cfg: J::Config,
+    texts: &[&[u8]],
+) -> Result<Vec<u64>, Fail> {
+    let mut vol = MemoryVolume::new(alloc);
+    put_texts(alloc, &mut vol, texts)?;
+    let journal: J = open(&mut vol, cfg)?;
+    let (start, end) = journal.bounds();
+    let mut corrupt = Vec::new(alloc);
+    for position in start..end {
+        match journal.read(&mut vol, position) {
+            Ok(_) => {}
+            Err(JournalError::Corruption(at)) => corrupt.push(at)?,
+            Err(error) => return Err(error.into()),
+        }
+    }
+    Ok(corrupt)
+}
+
+/// Puts a log that begins at 3 and has these bytes.
+fn put_texts(alloc: Global, vol: &mut MemoryVolume, texts: &[&[u8]]) -> Result<(), Fail> {
+    let mut items = Vec::new(alloc);
+    for text in texts {
+        items.push(Bytes::from_slice(alloc, text)?)?;
+    }
+    if items.len() < 100 {
+        vol.put_log("log", 3, &items)?;
+    }
+    Ok(())
+}
+
+#[test]
+fn names_where_bytes_are_no_item(rt: HostRuntime) -> Result<(), Fail> {
+    let alloc = rt.alloc();
+    // Numbers are eight bytes: one is right, one is short, one is long, one is empty, one is right.
+    let numbers: [&[u8]; 5] = [&[0; 8], &[0; 7], &[0; 9], &[], &[255; 8]];
+    let corrupt = corrupt_in::<FixedJournal<U64>>(alloc, config(alloc, ())?, &numbers)?;
+    assert_eq!(rt; corrupt.as_slice(), [4, 5, 6].as_slice());
+    // Words of at most two bytes: one is right, one is short, one has a byte more, one has a length of two spellings,
+    // one is too long, one is right.
+    let words: [&[u8]; 6] = [
+        &[2, 7, 7],
+        &[2, 7],
+        &[0, 7],
+        &[0x80, 0],
+        &[3, 7, 7, 7],
+        &[0],
+    ];
+    let cfg = config(alloc, LengthCfg { max: 2 })?;
+    let corrupt = corrupt_in::<VariableJournal<Bytes>>(alloc, cfg, &words)?;
+    assert_eq!(rt; corrupt.as_slice(), [4, 5, 6, 7].as_slice());
+    Ok(())
+}
+
+#[test]
+fn stops_at_bytes_that_are_no_item(rt: HostRuntime) -> Result<(), Fail> {
+    let alloc = rt.alloc();
+    let mut vol = MemoryVolume::new(alloc);
+    put_texts(alloc, &mut vol, &[&[1; 8], &[1; 7], &[1; 8]])?;
+    let journal: FixedJournal<U64> = open(&mut vol, config(alloc, ())?)?;
+    let corrupt = Some(JournalError::Corruption(4));
+    assert_eq!(rt; journal.read_many(&mut vol, &[3, 4, 5]).err(), corrupt);
+    let mut replay = journal.replay(3, 6)?;
+    assert!(rt; matches!(replay.next(&mut vol), Some(Ok(_))));
+    let stopped = match replay.next(&mut vol) {
+        Some(Err(error)) => Some(error),
+        _ => None,
+    };
+    assert_eq!(rt; stopped, Some(JournalError::Corruption(4)));
+    assert!(rt; replay.next(&mut vol).is_none());
+    Ok(())
+}
+
+/// A journal of five numbers, on a volume of which the n-th call from now on fails.
+fn failing(alloc: Global, n: u64) -> Result<(MemoryVolume, FixedJournal<U64>), Fail> {
     let mut vol = MemoryVolume::new(alloc);
     let journal = numbered(alloc, &mut vol)?;
-    let cfg = config(alloc, ())?;
+    vol.fail_call(n)?;
+    Ok((vol, journal))
+}
+
+/// The same, while the journal is being opened.
+fn failing_recovery(alloc: Global, n: u64) -> Result<(MemoryVolume, Recovery<U64, Fixed>), Fail> {
+    let mut vol = MemoryVolume::new(alloc);
+    let _journal = numbered(alloc, &mut vol)?;
     let recovery = FixedJournal::<U64>::recover(&mut vol, config(alloc, ())?, None)?;
-    vol.fail_call(failing)?;
+    vol.fail_call(n)?;
+    Ok((vol, recovery))
+}
+
+/// What is answered where the n-th call of the volume fails, by a call that makes `count` of them.
+fn wanted(n: u64, count: u64) -> Option<JournalError> {
+    if n <= count {
+        Some(JournalError::Volume)
+    } else {
+        None
+    }
+}
+
+/// Ends a journal's work where the n-th call of the volume fails.
+fn kept_with(alloc: Global, call: u64, n: u64) -> Result<Option<JournalError>, Fail> {
+    let (mut vol, journal) = failing(alloc, n)?;
     Ok(match call {
         0 => journal.commit(&mut vol).err(),
-        1 => journal.destroy(&mut vol).err(),
-        2 => journal.read(&mut vol, 3).err(),
-        3 => FixedJournal::<U64>::recover(&mut vol, cfg, None).err(),
-        4 => FixedJournal::<U64>::clear(&mut vol, cfg, 3).err(),
-        5 => journal.append(&mut vol, &U64::new(5)).err(),
-        6 => journal.append_many(&mut vol, &numbers(alloc, 2)?).err(),
-        7 => journal.prune(&mut vol, 4).err(),
-        8 => recovery.truncate(&mut vol, 3).err(),
-        9 => recovery.prune(&mut vol, 4).err(),
-        10 => recovery
+        1 => journal.sync(&mut vol).err(),
+        2 => journal.clear_to_size(&mut vol, 9).err(),
+        _ => journal.destroy(&mut vol).err(),
+    })
+}
+
+/// Writes items, or takes some away, where the n-th call of the volume fails.
+fn changed_with(alloc: Global, call: u64, n: u64) -> Result<Option<JournalError>, Fail> {
+    let (mut vol, journal) = failing(alloc, n)?;
+    Ok(match call {
+        0 => journal.append(&mut vol, &U64::new(5)).err(),
+        1 => journal.append_many(&mut vol, &numbers(alloc, 2)?).err(),
+        _ => journal.prune(&mut vol, 4).err(),
+    })
+}
+
+/// Reads two items where the n-th call of the volume fails.
+fn read_with(alloc: Global, n: u64) -> Result<Option<JournalError>, Fail> {
+    let (mut vol, journal) = failing(alloc, n)?;
+    match journal.read(&mut vol, 3) {
+        Ok(_) => Ok(journal.read_many(&mut vol, &[4]).err()),
+        Err(error) => Ok(Some(error)),
+    }
+}
+
+/// Begins to open a journal where the n-th call of the volume fails.
+fn opened_with(alloc: Global, call: u64, n: u64) -> Result<Option<JournalError>, Fail> {
+    let (mut vol, _journal) = failing(alloc, n)?;
+    let cfg = config(alloc, ())?;
+    Ok(match call {
+        0 => FixedJournal::<U64>::recover(&mut vol, cfg, None).err(),
+        1 => FixedJournal::<U64>::clear(&mut vol, cfg, 3).err(),
+        _ => FixedJournal::<U64>::span(&mut vol, &cfg).err(),
+    })
+}
+
+/// Cuts or empties a log that is being opened, where the n-th call of the volume fails.
+fn cut_with(alloc: Global, call: u64, n: u64) -> Result<Option<JournalError>, Fail> {
+    let (mut vol, recovery) = failing_recovery(alloc, n)?;
+    Ok(match call {
+        0 => recovery.truncate(&mut vol, 3).err(),
+        1 => recovery.prune(&mut vol, 4).err(),
+        _ => recovery.clear_to_size(&mut vol, 3).err(),
+    })
+}
+
+/// Looks at a log that is being opened, or ends its opening, where the n-th call of the volume fails.
+fn finished_with(alloc: Global, call: u64, n: u64) -> Result<Option<JournalError>, Fail> {
+    let (mut vol, recovery) = failing_recovery(alloc, n)?;
+    Ok(match call {
+        0 => recovery.read(&mut vol, 3).err(),
+        1 => recovery
             .last_matching(&mut vol, 5, |item: &U64| item.get() < 4)
             .err(),
+        2 => recovery.unbounded(&mut vol).err(),
         _ => recovery.finish(&mut vol, 3).err(),
     })
 }
 
 #[test]
 fn answers_a_failed_call_of_the_volume(rt: HostRuntime) -> Result<(), Fail> {
-    let counts = [1, 1, 1, 1, 1, 2, 2, 2, 2, 2, 2, 3];
-    for (call, count) in counts.iter().enumerate() {
-        for failing in 1..4 {
-            let error = answer_of(rt.alloc(), call, failing)?;
-            let want = if failing <= *count {
-                Some(JournalError::Volume)
-            } else {
-                None
-            };
-            assert_eq!(rt; error, want);
+    let alloc = rt.alloc();
+    for n in 1..4 {
+        for call in 0..4 {
+            assert_eq!(rt; kept_with(alloc, call, n)?, wanted(n, 1));
+        }
+        for call in 0..3 {
+            assert_eq!(rt; changed_with(alloc, call, n)?, wanted(n, 2));
+            assert_eq!(rt; opened_with(alloc, call, n)?, wanted(n, 1));
+        }
+        assert_eq!(rt; read_with(alloc, n)?, wanted(n, 2));
+    }
+    Ok(())
+}
+
+#[test]
+fn answers_a_failed_call_while_it_is_opened(rt: HostRuntime) -> Result<(), Fail> {
+    let alloc = rt.alloc();
+    for n in 1..5 {
+        for (call, count) in [(0, 2), (1, 2), (2, 1)] {
+            assert_eq!(rt; cut_with(alloc, call, n)?, wanted(n, count));
+        }
+        for (call, count) in [(0, 1), (1, 2), (2, 1), (3, 3)] {
+            assert_eq!(rt; finished_with(alloc, call, n)?, wanted(n, count));
         }
     }
     Ok(())
