@@ -1,5 +1,6 @@
-use super::MemoryVolume;
+use super::{LogChoice, MemoryVolume};
 use codec_base::Bytes;
+use std::alloc::Global;
 use std::test::Fail;
 use volume_base::{MetaMap, Volume, VolumeError};
 
@@ -44,5 +45,57 @@ fn calls_fail_where_they_are_set_to(rt: HostRuntime) -> Result<(), Fail> {
     assert!(rt; vol.map_get("m")?.get(b"key").is_some());
     vol.map_replace("m", &MetaMap::new(alloc))?;
     assert!(rt; vol.map_get("m")?.get(b"key").is_none());
+    Ok(())
+}
+
+/// Appends these words to a short log.
+fn append(alloc: Global, vol: &mut MemoryVolume, words: &[&[u8]]) -> Result<(), Fail> {
+    let mut items = Vec::new(alloc);
+    for word in words {
+        items.push(Bytes::from_slice(alloc, word)?)?;
+    }
+    let (_, end) = vol.log_bounds("log")?;
+    if end < 100 && items.len() < 100 {
+        vol.log_append("log", &items)?;
+    }
+    Ok(())
+}
+
+/// The end of the log after a crash that picks this version and this end.
+fn end_after(alloc: Global, vol: &MemoryVolume, version: u64, end: u64) -> Result<u64, Fail> {
+    let choice = LogChoice {
+        name: Bytes::from_slice(alloc, b"log")?,
+        version,
+        start: 0,
+        end,
+    };
+    let mut left = vol.crash(&[choice])?;
+    let (_, end) = left.log_bounds("log")?;
+    Ok(end)
+}
+
+#[test]
+fn an_unsynced_append_leaves_any_front(rt: HostRuntime) -> Result<(), Fail> {
+    let alloc = rt.alloc();
+    let mut vol = MemoryVolume::new(alloc);
+    append(alloc, &mut vol, &[b"one"])?;
+    vol.log_sync("log")?;
+    append(alloc, &mut vol, &[b"one", b"two", b"three"])?;
+    // Of the newest version each end from the synced one on can be left, and of the versions before it each that is theirs.
+    for (version, end, left) in [
+        (0, 0, 1),
+        (0, 1, 1),
+        (0, 2, 2),
+        (0, 3, 3),
+        (0, 4, 4),
+        (0, 9, 4),
+        (1, 9, 3),
+        (2, 9, 2),
+        (3, 9, 1),
+    ] {
+        assert_eq!(rt; end_after(alloc, &vol, version, end)?, left);
+    }
+    vol.log_sync("log")?;
+    assert_eq!(rt; end_after(alloc, &vol, 0, 0)?, 4);
     Ok(())
 }
