@@ -16,7 +16,7 @@ pub use encoding::{FixedEncoding, ValueEncoding, VariableEncoding};
 pub use key::Key;
 pub use request::Request;
 pub use same::Same;
-pub use target::{CompactTarget, EngineError, Target, advance_laws};
+pub use target::{CompactTarget, EngineError, Target, advance_laws, equality_laws};
 pub use traits::{Committable, Floored, OperationTrait};
 
 #[cfg(test)]

@@ -1,6 +1,7 @@
 //! What a log is synced to.
-ghost use Rattle.std.specs.Prelude.{◌≡◌, ◌↔◌, ◌<◌, IsTrue};
+ghost use Rattle.std.specs.Prelude.{◌≡◌, ◌↔◌, ◌<◌, ◌&&◌, nat_eq, IsTrue};
 ghost use Rattle.op_codec.specs.Target.{Advances};
+ghost use Rattle.op_codec.specs.declared.target.CompactTarget.{CompactTarget};
 ghost use Rattle.op_codec.specs.declared.target.Target.{Target};
 
 use codec_base::{
@@ -63,6 +64,12 @@ impl<F, D> Target<F, D> {
 pub fn advance_laws<F, D>()
     ensures irreflexive { (t : Target F D) → Advances t t → ⊥ }
     ensures transitive { (a b c : Target F D) → Advances a b → Advances b c → Advances a c }
+{}
+
+/// Targets are equal where their fields are.
+pub fn equality_laws<F, D: Digest>()
+    ensures target { (t u : Target F D) → ⟦<Target<F, D> as PartialEq>⟧.eq t u ≡ (D.eq t.root u.root && (nat_eq t.start u.start && nat_eq t.end u.end)) }
+    ensures compact { (t u : CompactTarget F D) → ⟦<CompactTarget<F, D> as PartialEq>⟧.eq t u ≡ (D.eq t.root u.root && nat_eq t.size u.size) }
 {}
 
 impl<F, D: Copy> TryFrom<&CompactTarget<F, D>> for Target<F, D> {

@@ -1,7 +1,7 @@
 //! Rows from outside, and each call that takes memory once.
 use crate::{
     CompactTarget, EngineError, FixedEncoding, Key, OperationTrait, Request, Target,
-    VariableEncoding, advance_laws, immutable, keyless,
+    VariableEncoding, advance_laws, equality_laws, immutable, keyless,
 };
 use codec_base::{
     Bytes, CodecError, Duplicate, EncodeSize, FixedSize, InvalidAt, LengthCfg, Read, U64, Write,
@@ -251,6 +251,7 @@ fn targets_advance(rt: HostRuntime) -> Result<(), Fail> {
         assert!(rt; target.advances(&from) == want);
     }
     advance_laws::<Mmr, Sha256Digest>();
+    equality_laws::<Mmr, Sha256Digest>();
     let bytes = encode(rt.alloc(), &from)?;
     assert!(rt; bytes.len() == 34);
     assert!(rt; from.encode_size() == 34);

@@ -28,3 +28,7 @@ pub use Rattle.journal_base.specs.Reads
 pub use Rattle.journal_base.specs.Replays
 pub use Rattle.journal_base.specs.Tickets
 pub use Rattle.journal_base.specs.View
+pub use Rattle.codec_base.specs.declared.error.InvalidAt as InvalidPlaces
+pub use Rattle.stream_base.specs.declared.whole.ReadAllError as ReadAllErrors
+pub use Rattle.memory_volume.specs.declared.choice.LogChoice as LogChoices
+pub use Rattle.journal_base.specs.declared.ticket.SyncTicket as SyncTickets
