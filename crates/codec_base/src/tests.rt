@@ -145,3 +145,20 @@ fn what_is_invalid_has_two_texts(rt: HostRuntime) {
         assert!(rt; at.texts().1 == fault);
     }
 }
+
+#[test]
+fn byte_lists_grow_and_values_are_copied(rt: HostRuntime) -> Result<(), Fail> {
+    let mut bytes = Bytes::new(rt.alloc());
+    bytes.push(0x61)?;
+    bytes.extend_from_slice(b"bc")?;
+    assert!(rt; bytes.as_slice() == b"abc".as_slice());
+    let copy = bytes.duplicate()?;
+    assert!(rt; copy == bytes);
+    bytes.truncate(1);
+    assert!(rt; bytes.as_slice() == b"a".as_slice());
+    assert!(rt; 7u8.duplicate()? == 7);
+    assert!(rt; 258u64.duplicate()? == 258);
+    assert!(rt; U64::new(258).duplicate()? == U64::new(258));
+    assert!(rt; Some(bytes).duplicate()? == Some(Bytes::from_slice(rt.alloc(), b"a")?));
+    Ok(())
+}

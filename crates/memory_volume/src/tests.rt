@@ -1,5 +1,5 @@
 use super::{LogChoice, MemoryVolume};
-use codec_base::Bytes;
+use codec_base::{Bytes, Duplicate};
 use std::alloc::Global;
 use std::test::Fail;
 use volume_base::{MetaMap, Volume, VolumeError};
@@ -32,7 +32,12 @@ fn calls_fail_where_they_are_set_to(rt: HostRuntime) -> Result<(), Fail> {
         Bytes::from_slice(alloc, b"key")?,
         Bytes::from_slice(alloc, b"value")?,
     )?;
-    vol.put_map("m", &map)?;
+    let copy = map.duplicate()?;
+    assert!(rt;
+        copy.get(b"key")
+            .is_some_and(|value| value.as_slice() == b"value".as_slice())
+    );
+    vol.put_map("m", &copy)?;
     for call in [2, 4, 0] {
         vol.fail_call(call)?;
     }
