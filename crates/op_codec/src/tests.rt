@@ -1,16 +1,18 @@
 //! Rows from outside, and each call that takes memory once.
 use crate::{
-    CompactTarget, EngineError, FixedEncoding, Key, OperationTrait, Request, Target,
+    CompactTarget, EngineError, FixedEncoding, Key, OperationTrait, Request, Response, Target,
     VariableEncoding, advance_laws, equality_laws, immutable, keyless,
 };
 use codec_base::{
-    Bytes, CodecError, Duplicate, EncodeSize, FixedSize, InvalidAt, LengthCfg, Read, U64, Write,
-    decode, encode,
+    Bytes, CodecError, Duplicate, EncodeSize, FixedSize, InvalidAt, LengthCfg, ListOf, Read, U64,
+    Write, decode, encode,
 };
+use std::alloc::Global;
 use std::hash::{DefaultHasher, Hash, Hasher};
 use std::num::NonZeroU64;
 use std::process::Abort;
 use std::test::Fail;
+use tree_proof::Proof;
 use tree_shape::{Location, Mmb, Mmr, Sha256Digest};
 
 type Words = keyless::Operation<Mmr, VariableEncoding<Bytes>>;
@@ -287,6 +289,39 @@ fn requests_tell_what_they_ask(rt: HostRuntime) {
     assert!(rt; request.size().as_u64() == 9);
     assert!(rt; request.start().as_u64() == 4);
     assert!(rt; request.max_ops().get() == 1);
+}
+
+/// The answer to a request for one operation, with these pins.
+fn boundary_of(alloc: Global, pins: &[u8]) -> Result<Response<Mmb, u8, u8>, CodecError> {
+    let mut pinned_nodes = ListOf::new(alloc);
+    for pin in pins {
+        pinned_nodes.push(*pin)?;
+    }
+    let proof = Proof {
+        leaves: Location::new(2),
+        inactive_peaks: 0,
+        digests: ListOf::new(alloc),
+    };
+    Ok(Response::Boundary {
+        proof,
+        op: 7,
+        pinned_nodes,
+    })
+}
+
+#[test]
+fn responses_differ_in_their_pins(rt: HostRuntime) -> Result<(), Fail> {
+    let one = boundary_of(rt.alloc(), &[1])?;
+    assert!(rt; one == boundary_of(rt.alloc(), &[1])?);
+    assert!(rt; one != boundary_of(rt.alloc(), &[2])?);
+    let proof = Proof {
+        leaves: Location::new(2),
+        inactive_peaks: 0,
+        digests: ListOf::new(rt.alloc()),
+    };
+    let operations = ListOf::new(rt.alloc());
+    assert!(rt; one != Response::Operations { proof, operations });
+    Ok(())
 }
 
 #[test]
