@@ -8,7 +8,6 @@ pub mod LinkLemmas
 pub mod FoldLemmas
 pub mod TreeLemmas
 pub mod ApplyLemmas
-pub mod StoreLemmas
 pub mod PinnedLemmas
 pub mod BuiltLemmas
 pub mod PinningLemmas

@@ -12,6 +12,7 @@ use Rattle.tree_shape.specs.Hashing.{Hashing, node_input}
 use Rattle.tree_shape.specs.Shape.{Shape, made, Stands, ChildrenStand, IsWellMade, IsLawful}
 use Rattle.tree_shape.specs.Slow.{node, node_of, nodes}
 use Rattle.tree_shape.proofs.NodeLemmas.{node-from_halves}
+pub use Rattle.tree_store.proofs.StoreLemmas.{get-take}
 
 -- the node that is made as the i-th behind leaf n
 pub parent_stands : (s : Shape) (n i x k : ℕ) → Some (x, k) ≡ slice_get (s.parents n) i → Stands (made s (n + 1)) (length (made s n) + 1 + i) x k
@@ -47,13 +48,6 @@ children_of s e cs j x (suc k) w at lt =
     let c : ChildrenStand s cs j x (suc k) = w.behind j x (suc k) at in
     let q : suc k - 1 ≡ k = omega arith in
     record { left = rw q c.0; right = rw q c.1; left_before = rw q c.2; right_before = rw q c.3 }
-
-pub get-take : {X : Type 0} (xs : List X) (j i : ℕ) → i < j → slice_get (take j xs) i ≡ slice_get xs i
-get-take [] zero i lt = refl
-get-take [] (suc j) i lt = refl
-get-take (x ∷ xs) zero i lt = absurd (omega arith)
-get-take (x ∷ xs) (suc j) zero lt = refl
-get-take (x ∷ xs) (suc j) (suc i) lt = get-take xs j i (omega arith)
 
 pub take-next : {X : Type 0} (xs : List X) (j : ℕ) (x : X) → slice_get xs j ≡ Some x → take (suc j) xs ≡ take j xs ++ (x ∷ [])
 take-next [] j x e = absurd (cc)

@@ -1,7 +1,7 @@
-mod RebuildLemmas
-mod PeakLemmas
+pub mod RebuildLemmas
+pub mod PeakLemmas
 mod WalkLemmas
-mod Complete
+pub mod Complete
 mod CoverCount
 mod Clashes
 mod Soundness

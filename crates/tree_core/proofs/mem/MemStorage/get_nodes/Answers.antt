@@ -2,7 +2,7 @@ use Rattle.std.proofs.Common.{ℕ, length, Some, refl, sym, ◌∙◌, ap, subst
 use Rattle.std.proofs.lemmas.Option.{slice_get_read}
 use Rattle.tree_core.specs.Tree.{Tree, node_at}
 use Rattle.tree_store.specs.Stores.{IsFirstAbsent}
-use Rattle.tree_core.proofs.StoreLemmas.{first_absent}
+use Rattle.tree_store.proofs.StoreLemmas.{first_absent}
 use Rattle.tree_core.proofs.mem.MemStorage.get_nodes.Goals as goal
 
 pub returns-in-None-clause-outside : goal.returns-in-None-clause-outside

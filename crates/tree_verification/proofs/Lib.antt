@@ -1,0 +1,3 @@
+mod CoverLemmas
+mod NodeLemmas
+mod WalkLemmas

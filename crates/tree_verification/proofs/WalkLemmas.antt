@@ -1,0 +1,50 @@
+-- The positions that the walk has found so far.
+use Rattle.std.proofs.Common.{◌≡◌, ℕ, zero, suc, ◌+◌, ◌-◌, ◌^◌, ◌<◌, true, false, List, [], ◌∷◌, ◌++◌, length, map, refl, sym, ◌∙◌, ap, arith, append_assoc}
+use Rattle.std.proofs.lemmas.List.{map-append}
+use Rattle.tree_shape.specs.Shape.{Shape}
+use Rattle.tree_shape.specs.Pins.{position_of}
+use Rattle.tree_proof.specs.Cover.{Met, cover_in, cover_over}
+use Rattle.tree_proof.proofs.PeakLemmas.{peaks_left, peaks_left-all}
+use Rattle.tree_proof.proofs.RebuildLemmas.{append_nil}
+use Rattle.tree_verification.specs.Ranges.{cover_positions}
+
+-- one node inside
+pub cover_in-outside : (met : Met) (x k : ℕ) → met x k ≡ false → cover_in met x k ≡ (x, k) ∷ []
+unfolding cover_in
+cover_in-outside met x zero e = rw e refl
+cover_in-outside met x (suc k) e = rw e refl
+
+pub cover_in-leaf : (met : Met) (x k : ℕ) → met x k ≡ true → k ≡ 0 → cover_in met x k ≡ []
+unfolding cover_in
+cover_in-leaf met x zero e z = rw e refl
+cover_in-leaf met x (suc k) e z = absurd (omega arith)
+
+pub cover_in-halves : (met : Met) (x k half : ℕ) → met x k ≡ true → 0 < k → half ≡ 2 ^ (k - 1) → cover_in met x k ≡ cover_in met x (k - 1) ++ cover_in met (x + half) (k - 1)
+unfolding cover_in
+cover_in-halves met x zero half e lt he = absurd (omega arith)
+cover_in-halves met x (suc k) half e lt he = let one : suc k - 1 ≡ k = omega arith in rw (e, he, one) refl
+
+module _ (s : Shape) (met : Met) where
+  pub found_both : (acc mid more : List ℕ) (x k half : ℕ) → met x k ≡ true → 0 < k → half ≡ 2 ^ (k - 1)
+      → mid ≡ acc ++ map (position_of s) (cover_in met x (k - 1)) → more ≡ mid ++ map (position_of s) (cover_in met (x + half) (k - 1)) → more ≡ acc ++ map (position_of s) (cover_in met x k)
+  found_both acc mid more x k half e lt he l r =
+      r ∙ ap (λ xs. xs ++ map (position_of s) (cover_in met (x + half) (k - 1))) l ∙ append_assoc acc _ _
+      ∙ ap (λ xs. acc ++ xs) (sym (ap (map (position_of s)) (cover_in-halves met x k half e lt he) ∙ map-append (position_of s) (cover_in met x (k - 1)) (cover_in met (x + half) (k - 1))))
+
+  -- the positions so far, and those inside the peaks that are left, are all
+  abbrev pub Found : ℕ → List ℕ → ℕ → Type 0
+  Found n acc left = acc ++ map (position_of s) (cover_over met (peaks_left s n left)) ≡ cover_positions s met n
+
+  pub found_first : (n : ℕ) (acc : List ℕ) (left : ℕ) → acc ≡ [] → left ≡ length (s.heights n) → Found n acc left
+  found_first n acc left e l = rw (e, l) (ap (λ ps. map (position_of s) (cover_over met ps)) (peaks_left-all s n))
+
+  pub found_next : (n : ℕ) (acc more : List ℕ) (left later x k : ℕ) → Found n acc left → peaks_left s n left ≡ (x, k) ∷ peaks_left s n later
+      → more ≡ acc ++ map (position_of s) (cover_in met x k) → Found n more later
+  found_next n acc more left later x k f are m =
+      let rest = map (position_of s) (cover_over met (peaks_left s n later)) in
+      ap (λ xs. xs ++ rest) m ∙ append_assoc acc (map (position_of s) (cover_in met x k)) rest
+      ∙ ap (λ xs. acc ++ xs) (sym (map-append (position_of s) (cover_in met x k) (cover_over met (peaks_left s n later))))
+      ∙ ap (λ ps. acc ++ map (position_of s) (cover_over met ps)) (sym are) ∙ f
+
+  pub found_all : (n : ℕ) (acc : List ℕ) (left : ℕ) → Found n acc left → left ≡ 0 → acc ≡ cover_positions s met n
+  found_all n acc left f z = sym (ap (λ l. acc ++ map (position_of s) (cover_over met (peaks_left s n l))) z ∙ append_nil acc) ∙ f

@@ -1,0 +1,16 @@
+use Rattle.std.proofs.Common.{take, ◌∙◌, ap}
+use Rattle.std.specs.Prelude.{Result, Ok, Err, IfOk}
+use Rattle.tree_shape.proofs.PinLemmas.{take-all}
+use Rattle.tree_proof.specs.Cover.{meets}
+use Rattle.tree_verification.specs.Ranges.{proof_of}
+use Rattle.tree_verification.proofs.ranges.range_proof.Goals as goal
+
+ok_gives : {T E : Type 0} (P Q : T → Type 0) → ((x : T) → P x → Q x) → (r : Result T E) → IfOk r P → IfOk r Q
+ok_gives P Q f (Ok x) p = f x p
+ok_gives P Q f (Err e) p = tt
+
+pub returns-clause-proof : goal.returns-clause-proof
+returns-clause-proof g c =
+    let n = c.new-leaves.ensures ∙ c.leaves_of.ensures.leaves in
+    ok_gives _ _ (λ proof p tells held h all tree.
+    p tells held h all tree ∙ ap (λ ls. proof_of g.F.Family.shape h ls c.args.inactive_peaks (meets c.args.start c.args.end)) (ap (λ m. take m all) (n ∙ tree.count) ∙ take-all all)) c.historical_range_proof.result c.historical_range_proof.ensures.proof

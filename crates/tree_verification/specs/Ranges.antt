@@ -1,0 +1,29 @@
+-- Proofs of the leaves of a list, and why one isn't made.
+use Rattle.std.specs.Prelude.{◌≡◌, ℕ, ◌^◌, nat_le, List, length, map, Result, Ok, Err, if◌then◌else◌}
+use Rattle.tree_shape.specs.Hashing.{Hashing}
+use Rattle.tree_shape.specs.Shape.{Shape}
+use Rattle.tree_shape.specs.Pins.{position_of}
+use Rattle.tree_proof.specs.declared.proof.Proof.{Proof}
+use Rattle.tree_proof.specs.Cover.{Met, cover, cover_digests}
+use Rattle.tree_store.specs.declared.error.Error.{Error}
+use Rattle.tree_store.specs.declared.error.Error.TheVariants.{Empty, LocationOverflow, RangeOutOfBounds}
+
+-- where the nodes of the cover stand, in its order
+abbrev pub cover_positions : Shape → Met → ℕ → List ℕ
+cover_positions s met n = map (position_of s) (cover s met n)
+
+-- the proof of what is met in the tree of a list of leaf digests
+abbrev pub proof_of : {F D : Type 0} → Shape → Hashing D → List D → ℕ → Met → Proof F D
+proof_of s h all inactive met = record { leaves = length all; inactive_peaks = inactive; digests = cover_digests s h all met (length all) }
+
+-- of so many leaves and inactive peaks, with as many digests as the cover has nodes
+pub record HasForm {F D : Type 0} (s : Shape) (n inactive : ℕ) (met : Met) (proof : Proof F D) : Type 0 where
+  pub leaves : proof.leaves ≡ n
+  pub folded : proof.inactive_peaks ≡ inactive
+  pub counted : length proof.digests ≡ length (cover s met n)
+
+-- whether the leaves a .. b can be proved in the tree of n leaves, where so many are stored; the first test that fails answers
+abbrev pub range_answer : {F : Type 0} → ℕ → ℕ → ℕ → ℕ → Result (Unit {0}) (Error F)
+range_answer stored n a b =
+    if nat_le b a then Err Empty
+    else (if nat_le b (2 ^ 62) then (if nat_le n stored then (if nat_le b n then Ok tt else Err (RangeOutOfBounds b)) else Err (RangeOutOfBounds n)) else Err (LocationOverflow b))

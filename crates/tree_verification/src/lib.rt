@@ -1,0 +1,12 @@
+//! Proofs made from the nodes of a tree, wherever these stand.
+#![tactic(auto)]
+
+mod bounds;
+mod laws;
+mod ranges;
+mod reading;
+mod walk;
+mod wanted;
+
+pub use laws::range_proofs_check;
+pub use ranges::{historical_range_proof, range_proof};

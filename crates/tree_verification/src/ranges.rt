@@ -1,0 +1,101 @@
+//! Proofs of a range of leaves.
+ghost use Rattle.std.specs.Prelude.{◌≡◌, ℕ, ◌≤◌, ◌^◌, List, length, take, Ok, Err, IfOk, IfErr};
+ghost use Rattle.tree_shape.specs.Hashing.{Hashing};
+ghost use Rattle.volume_base.specs.Volume.{Reads};
+ghost use Rattle.volume_base.specs.Moments.{present};
+ghost use Rattle.tree_store.specs.declared.error.Error.{Error};
+ghost use Rattle.tree_store.specs.Stores.{IsTreeOf, IsReadRefusal, IsOutsideOr};
+ghost use Rattle.tree_proof.specs.Cover.{meets};
+ghost use Rattle.tree_verification.specs.Ranges.{cover_positions, proof_of, range_answer, HasForm};
+
+use crate::bounds::{check_range, leaves_of};
+use crate::reading::read_nodes;
+use crate::walk::find_cover;
+use crate::wanted::{LeafRange, Wanted};
+use codec_base::ListOf;
+use std::alloc::Global;
+use tree_proof::Proof;
+use tree_shape::{Family, Location};
+use tree_store::{Error, Storage};
+use volume_base::Volume;
+
+/// The proof of what is wanted in the tree of so many leaves.
+pub(crate) fn prove<F: Family, S: Storage<F>, V: Volume, W: Wanted>(
+    alloc: Global,
+    vol: &mut V,
+    store: &S,
+    leaves: u64,
+    wanted: &W,
+    inactive_peaks: u64,
+) -> Result<Proof<F, S::Digest>, Error<F>>
+    requires few { leaves ≤ 2 ^ 62 }
+    requires stored { leaves ≤ S.leaves store.now }
+    ensures form { IfOk result (HasForm F.shape leaves inactive_peaks (W.met wanted.now)) }
+    ensures proof { IfOk result (λ proof. V.tells → S.held store.now (present (V.state vol.old)) → (h : Hashing S.Digest) (all : List S.Digest) →
+        IsTreeOf F.shape h all (S.leaves store.now) (S.told store.now (present (V.state vol.old))) → proof ≡ proof_of F.shape h (take leaves all) inactive_peaks (W.met wanted.now)) }
+    ensures fault { IfErr result IsReadRefusal }
+    ensures outside { V.tells → S.held store.now (present (V.state vol.old)) → IfErr result (IsOutsideOr (S.told store.now (present (V.state vol.old))) (cover_positions F.shape (W.met wanted.now) leaves)) }
+    ensures reads { Reads V.tells Error.Volume (V.state vol.old) (V.state vol.new) result }
+{
+    let positions = find_cover::<F, W>(alloc, wanted, leaves)?;
+    let digests = read_nodes(alloc, vol, store, &positions)?;
+    Ok(Proof {
+        leaves: Location::new(leaves),
+        inactive_peaks,
+        digests: ListOf::from_vec(digests),
+    })
+}
+
+/// The proof of the leaves from `start` up to `end`, in the tree that the store had at so many leaves.
+pub fn historical_range_proof<F: Family, S: Storage<F>, V: Volume>(
+    alloc: Global,
+    vol: &mut V,
+    store: &S,
+    leaves: Location<F>,
+    start: Location<F>,
+    end: Location<F>,
+    inactive_peaks: u64,
+) -> Result<Proof<F, S::Digest>, Error<F>>
+    requires { inactive_peaks ≤ length (F.shape.heights leaves) }
+    ensures refused { (e : Error F) → range_answer (S.leaves store.now) leaves start end ≡ Err e → result ≡ Err e }
+    ensures within { IfOk result (λ proof. range_answer {F = F} (S.leaves store.now) leaves start end ≡ Ok tt) }
+    ensures form { IfOk result (HasForm F.shape leaves inactive_peaks (meets start end)) }
+    ensures proof { IfOk result (λ proof. V.tells → S.held store.now (present (V.state vol.old)) → (h : Hashing S.Digest) (all : List S.Digest) →
+        IsTreeOf F.shape h all (S.leaves store.now) (S.told store.now (present (V.state vol.old))) → proof ≡ proof_of F.shape h (take leaves all) inactive_peaks (meets start end)) }
+    ensures fault { range_answer {F = F} (S.leaves store.now) leaves start end ≡ Ok tt → IfErr result IsReadRefusal }
+    ensures outside { range_answer {F = F} (S.leaves store.now) leaves start end ≡ Ok tt → V.tells → S.held store.now (present (V.state vol.old)) →
+        IfErr result (IsOutsideOr (S.told store.now (present (V.state vol.old))) (cover_positions F.shape (meets start end) leaves)) }
+    ensures reads { Reads V.tells Error.Volume (V.state vol.old) (V.state vol.new) result }
+{
+    let leaves = leaves.as_u64();
+    let range = LeafRange {
+        start: start.as_u64(),
+        end: end.as_u64(),
+    };
+    check_range::<F>(leaves_of(store), leaves, &range)?;
+    prove(alloc, vol, store, leaves, &range, inactive_peaks)
+}
+
+/// The proof of the leaves from `start` up to `end`, in the tree that the store has.
+pub fn range_proof<F: Family, S: Storage<F>, V: Volume>(
+    alloc: Global,
+    vol: &mut V,
+    store: &S,
+    start: Location<F>,
+    end: Location<F>,
+    inactive_peaks: u64,
+) -> Result<Proof<F, S::Digest>, Error<F>>
+    requires { inactive_peaks ≤ length (F.shape.heights (S.leaves store.now)) }
+    ensures refused { (e : Error F) → range_answer (S.leaves store.now) (S.leaves store.now) start end ≡ Err e → result ≡ Err e }
+    ensures within { IfOk result (λ proof. range_answer {F = F} (S.leaves store.now) (S.leaves store.now) start end ≡ Ok tt) }
+    ensures form { IfOk result (HasForm F.shape (S.leaves store.now) inactive_peaks (meets start end)) }
+    ensures proof { IfOk result (λ proof. V.tells → S.held store.now (present (V.state vol.old)) → (h : Hashing S.Digest) (all : List S.Digest) →
+        IsTreeOf F.shape h all (S.leaves store.now) (S.told store.now (present (V.state vol.old))) → proof ≡ proof_of F.shape h all inactive_peaks (meets start end)) }
+    ensures fault { range_answer {F = F} (S.leaves store.now) (S.leaves store.now) start end ≡ Ok tt → IfErr result IsReadRefusal }
+    ensures outside { range_answer {F = F} (S.leaves store.now) (S.leaves store.now) start end ≡ Ok tt → V.tells → S.held store.now (present (V.state vol.old)) →
+        IfErr result (IsOutsideOr (S.told store.now (present (V.state vol.old))) (cover_positions F.shape (meets start end) (S.leaves store.now))) }
+    ensures reads { Reads V.tells Error.Volume (V.state vol.old) (V.state vol.new) result }
+{
+    let leaves = Location::new(leaves_of(store));
+    historical_range_proof(alloc, vol, store, leaves, start, end, inactive_peaks)
+}
