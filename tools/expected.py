@@ -73,50 +73,100 @@ class Refused(Exception):
     pass
 
 
+def is_unsealed(batch):
+    return batch.phase == "unsealed"
+
+
+def is_held(batch):
+    return batch.phase == "sealed" and batch.holds > 0
+
+
+def value_of(word):
+    return b"" if word == "." else bytes.fromhex(word)
+
+
+class Batch:
+    """A batch by its phase: unsealed, sealed or gone."""
+
+    def __init__(self, phase, whole, base):
+        self.phase, self.whole, self.base = phase, whole, base
+        self.pending, self.boundary, self.floor, self.metadata, self.holds = [], base, 0, None, 0
+
+
 class Machine:
     def __init__(self, limit=VALUE_LIMIT):
         self.limit = limit
         self.operations, self.floor, self.metadata = [commit(None, 0)], 0, None
-        self.batches = []       # (phase, list, and what it needs there), by number
+        self.batches = []       # by number
 
-    def batch(self, b, phase):
-        if b >= len(self.batches) or self.batches[b][0] != phase:
+    def made(self, batch):
+        self.batches.append(batch)
+        return f"batch {len(self.batches) - 1}"
+
+    def batch(self, b, allowed):
+        if b >= len(self.batches) or not allowed(self.batches[b]):
             raise Refused(f"NoBatch {b}")
         return self.batches[b]
 
+    def append(self, b, value):
+        batch = self.batch(b, is_unsealed)
+        if len(value) > self.limit:
+            raise Refused(f"ValueTooLong {len(value)}")
+        batch.pending.append(append(value))
+        return "ok"
+
+    def seal(self, b, metadata, floor):
+        batch = self.batch(b, is_unsealed)
+        if len(metadata or b"") > self.limit:
+            raise Refused(f"ValueTooLong {len(metadata)}")
+        batch.phase = "gone"
+        location = batch.base + len(batch.pending)
+        if self.operations != batch.whole[:batch.base]:
+            raise Refused("StaleBatch")
+        if floor < self.floor:
+            raise Refused(f"FloorRegressed {floor} {self.floor}")
+        if floor > location:
+            raise Refused(f"FloorBeyondSize {floor} {location}")
+        batch.phase, batch.holds, batch.floor, batch.metadata = "sealed", 1, floor, metadata
+        batch.whole = batch.whole + batch.pending + [commit(metadata, floor)]
+        return f"sealed {len(batch.whole)} {list_root(batch.whole, floor)}"
+
+    def apply(self, b):
+        batch = self.batch(b, is_held)
+        if self.operations != batch.whole[:batch.boundary]:
+            raise Refused("StaleBatch")
+        self.operations, self.floor, self.metadata = batch.whole, batch.floor, batch.metadata
+        return "applied"
+
+    def snapshot(self):
+        batch = Batch("sealed", self.operations, len(self.operations))
+        batch.holds, batch.floor, batch.metadata = 1, self.floor, self.metadata
+        return self.made(batch)
+
+    def release(self, b):
+        batch = self.batch(b, lambda batch: is_unsealed(batch) or is_held(batch))
+        if is_unsealed(batch):
+            batch.phase = "gone"
+        else:
+            batch.holds -= 1
+        return "ok"
+
+    def hold(self, b):
+        self.batch(b, is_held).holds += 1
+        return "ok"
+
     def step(self, words):
+        name, rest = words[0], words[1:]
         if words == ["new"]:
-            self.batches.append(("unsealed", list(self.operations), [], None))
-            return f"batch {len(self.batches) - 1}"
-        if words[0] == "append":
-            b, value = int(words[1]), b"" if words[2] == "." else bytes.fromhex(words[2])
-            _, _, pending, _ = self.batch(b, "unsealed")
-            if len(value) > self.limit:
-                raise Refused(f"ValueTooLong {len(value)}")
-            pending.append(append(value))
-            return "ok"
-        if words[0] == "seal":
-            b, floor = int(words[1]), int(words[3])
-            metadata = None if words[2] == "-" else b"" if words[2] == "." else bytes.fromhex(words[2])
-            _, below, pending, _ = self.batch(b, "unsealed")
-            if len(metadata or b"") > self.limit:
-                raise Refused(f"ValueTooLong {len(metadata)}")
-            self.batches[b] = ("gone", [], [], None)
-            if self.operations != below:
-                raise Refused("StaleBatch")
-            if floor < self.floor:
-                raise Refused(f"FloorRegressed {floor} {self.floor}")
-            if floor > len(below) + len(pending):
-                raise Refused(f"FloorBeyondSize {floor} {len(below) + len(pending)}")
-            whole = below + pending + [commit(metadata, floor)]
-            self.batches[b] = ("sealed", whole, len(below), (floor, metadata))
-            return f"sealed {len(whole)} {list_root(whole, floor)}"
-        if words[0] == "apply":
-            _, whole, boundary, last = self.batch(int(words[1]), "sealed")
-            if self.operations != whole[:boundary]:
-                raise Refused("StaleBatch")
-            self.operations, (self.floor, self.metadata) = list(whole), last
-            return "applied"
+            return self.made(Batch("unsealed", self.operations, len(self.operations)))
+        if name == "append":
+            return self.append(int(rest[0]), value_of(rest[1]))
+        if name == "seal":
+            return self.seal(int(rest[0]), None if rest[1] == "-" else value_of(rest[1]), int(rest[2]))
+        if name in ("apply", "hold", "release"):
+            return getattr(self, name)(int(rest[0]))
+        if words == ["snapshot"]:
+            return self.snapshot()
         if words == ["size"]:
             return f"size {len(self.operations)} start 0 floor {self.floor}"
         if words == ["metadata"]:
@@ -157,6 +207,8 @@ RUNS = [
     ("value limit", 4, ["new", "append 0 0102030405", "append 0 01020304", "seal 0 0102030405 0", "seal 0 - 0", "apply 0"]),
     ("floors and metadata", VALUE_LIMIT, ["new", "append 0 61", "append 0 62", "seal 0 - 4", "seal 0 - 3", "new", "append 1 61", "append 1 62",
                                           "seal 1 6d 3", "metadata", "apply 1", "size", "metadata", "new", "seal 2 - 2", "new", "seal 3 . 4", "apply 3", "metadata"]),
+    ("snapshot", VALUE_LIMIT, FIRST_BATCH + ["apply 0", "snapshot", "apply 1", "apply 1"]),
+    ("holds", VALUE_LIMIT, ["new", "append 0 61", "hold 0", "seal 0 - 0", "hold 0", "release 0", "release 0", "release 0", "hold 0", "apply 0", "new", "release 1", "append 1 61", "release 2"]),
 ]
 
 

@@ -1,16 +1,22 @@
 -- Batches: lists of operations that are made beside the log, to be applied to it.
-use Rattle.std.specs.Prelude.{ℕ, ◌+◌, List, [], ◌∷◌, ◌++◌, length}
+use Rattle.std.specs.Prelude.{ℕ, ◌+◌, ◌-◌, Bool, nat_lt, List, [], ◌∷◌, ◌++◌, length, Option, None}
 
--- A batch that takes appends: the list on which it stands, the length of that list, and the appends since.
+-- A batch that takes appends: the number of its parent, the list on which it stands, the length of that list, and the appends since.
 pub record UnsealedBatch (Op : Type 0) : Type 0 where
+  pub parent : Option ℕ
   pub list : List Op
   pub base : ℕ
   pub pending : List Op
 
--- A batch that a commit has ended: its whole list, and the length of the log on which it may be applied.
+-- A batch that a commit has ended: the number of its parent, its whole list, and lengths of it: the base on which it was made, the boundary and the tips of its ancestors, the newest first. It may be applied to a log that is the list up to its boundary or a tip. Its floor is that of its commit; the caller holds it so often.
 pub record SealedBatch (Op : Type 0) : Type 0 where
+  pub parent : Option ℕ
   pub list : List Op
+  pub base : ℕ
   pub boundary : ℕ
+  pub tips : List ℕ
+  pub floor : ℕ
+  pub holds : ℕ
 
 -- A batch by its phase.
 pub data Batch (Op : Type 0) : Type 0 where
@@ -18,9 +24,9 @@ pub data Batch (Op : Type 0) : Type 0 where
   Sealed : SealedBatch Op → Batch Op
   Gone : Batch Op
 
--- A new batch on a list.
-abbrev pub begun_on : {Op : Type 0} → List Op → UnsealedBatch Op
-begun_on list = record { list = list; base = length list; pending = [] }
+-- A new batch on a list, which is its parent's where it has one.
+abbrev pub begun_on : {Op : Type 0} → Option ℕ → List Op → UnsealedBatch Op
+begun_on parent list = record { parent = parent; list = list; base = length list; pending = [] }
 
 -- How many operations a batch has, with its appends.
 abbrev pub size_of : {Op : Type 0} → UnsealedBatch Op → ℕ
@@ -30,10 +36,29 @@ size_of u = u.base + length u.pending
 abbrev pub appended : {Op : Type 0} → UnsealedBatch Op → Op → UnsealedBatch Op
 appended u op = record u { pending = u.pending ++ (op ∷ []) }
 
--- The length of the log on which the batch may be sealed and then applied: its base.
-abbrev pub effective_boundary : {Op : Type 0} → UnsealedBatch Op → ℕ
-effective_boundary u = u.base
+-- The batch whose list is ended by the appends and a commit of this floor, with this boundary and these tips. The caller holds it once.
+abbrev pub sealed : {Op : Type 0} → UnsealedBatch Op → ℕ → List ℕ → Op → ℕ → SealedBatch Op
+sealed u boundary tips commit floor = record {
+  parent = u.parent;
+  list = u.list ++ (u.pending ++ (commit ∷ []));
+  base = u.base;
+  boundary = boundary;
+  tips = tips;
+  floor = floor;
+  holds = 1;
+}
 
--- The batch whose list is ended by the appends and a commit.
-abbrev pub sealed : {Op : Type 0} → UnsealedBatch Op → Op → SealedBatch Op
-sealed u commit = record { list = u.list ++ (u.pending ++ (commit ∷ [])); boundary = effective_boundary u }
+-- A sealed batch of a whole list, to which nothing was added. The caller holds it once.
+abbrev pub snapshot_of : {Op : Type 0} → List Op → ℕ → SealedBatch Op
+snapshot_of list floor = record { parent = None; list = list; base = length list; boundary = length list; tips = []; floor = floor; holds = 1 }
+
+-- Whether the caller holds it.
+abbrev pub is_held : {Op : Type 0} → SealedBatch Op → Bool
+is_held c = nat_lt 0 c.holds
+
+-- The batch, held once more, and once less. With no hold left it keeps all else.
+abbrev pub with_hold : {Op : Type 0} → SealedBatch Op → SealedBatch Op
+with_hold c = record c { holds = c.holds + 1 }
+
+abbrev pub without_hold : {Op : Type 0} → SealedBatch Op → SealedBatch Op
+without_hold c = record c { holds = c.holds - 1 }

@@ -1,8 +1,10 @@
 -- Good states: what every state of a log and its batches keeps.
-use Rattle.std.specs.Prelude.{◌≡◌, ℕ, ◌+◌, ◌≤◌, List, [], ◌∷◌, length, take, unwrap_or, IsSome, IsNone, IfSome, Option, Some, None}
+use Rattle.std.specs.Prelude.{◌≡◌, ℕ, ◌+◌, ◌<◌, ◌≤◌, List, [], ◌∷◌, length, take, unwrap_or, IsSome, IsNone, IfSome, IsSomeAnd, Option, Some, None}
 use Rattle.log_model.specs.Meaning.{Meaning}
+use Rattle.log_model.specs.Operations.{floor_of}
 use Rattle.log_model.specs.Batches.{Batch, Unsealed, Sealed, Gone, size_of}
 use Rattle.log_model.specs.Machine.{State, max_leaves, batch_at}
+use Rattle.log_model.specs.Reach.{as_sealed}
 
 -- A list ends with a commit.
 abbrev pub EndsWithCommit : {Op V : Type 0} → Meaning Op V → List Op → Type 0
@@ -38,13 +40,33 @@ pub record IsGoodList {Op V : Type 0} (m : Meaning Op V) (allowed : V → Type 0
   pub values : ValuesAre m allowed list
   pub floors : FloorsRise m 0 0 list
 
--- An unsealed batch stands on a list of the log, whose length is its base; its appends are allowed, and a tree can hold them. The boundary of a sealed one is a prefix of its list that ends with a commit.
+-- A length of a list up to which it ends with a commit.
+abbrev pub IsMark : {Op V : Type 0} → Meaning Op V → List Op → ℕ → Type 0
+IsMark m list n = (n ≤ length list) × EndsWithCommit m (take n list)
+
+-- All are marks of the list.
+abbrev pub AreMarks : {Op V : Type 0} → Meaning Op V → List Op → List ℕ → Type 0
+AreMarks m list [] = Unit {0}
+AreMarks m list (n ∷ ns) = IsMark m list n × AreMarks m list ns
+
+-- An unsealed batch stands on a list of the log, whose length is its base; its appends are allowed, and a tree can hold them. The base, the boundary and the tips of a sealed one are marks of its list, whose floor is its floor.
 abbrev pub IsGoodBatch : {Op V : Type 0} → Meaning Op V → (V → Type 0) → Op → Batch Op → Type 0
 IsGoodBatch m allowed first (Unsealed u) = IsGoodList m allowed first u.list × (u.base ≡ length u.list) × AreAppends m u.pending × ValuesAre m allowed u.pending × (size_of u ≤ max_leaves)
-IsGoodBatch m allowed first (Sealed c) = IsGoodList m allowed first c.list × (c.boundary ≤ length c.list) × EndsWithCommit m (take c.boundary c.list)
+IsGoodBatch m allowed first (Sealed c) = IsGoodList m allowed first c.list × IsMark m c.list c.base × IsMark m c.list c.boundary × AreMarks m c.list c.tips × (c.floor ≡ floor_of m c.list)
 IsGoodBatch m allowed first Gone = Unit {0}
 
--- The log's list is good, and so is each batch.
+-- The parent of a batch b is a sealed one of a lower number. Its list is the batch's, up to the batch's base.
+abbrev pub ParentFits : {Op : Type 0} → State Op → ℕ → List Op → ℕ → Option ℕ → Type 0
+ParentFits s b list base None = Unit {0}
+ParentFits s b list base (Some p) = (p < b) × IsSomeAnd (as_sealed (batch_at s p)) (λ c. c.list ≡ take base list)
+
+abbrev pub HasParent : {Op : Type 0} → State Op → ℕ → Batch Op → Type 0
+HasParent s b (Unsealed u) = ParentFits s b u.list u.base u.parent
+HasParent s b (Sealed c) = ParentFits s b c.list c.base c.parent
+HasParent s b Gone = Unit {0}
+
+-- The log's list is good, and so is each batch, and its parent fits.
 pub record IsGood {Op V : Type 0} (m : Meaning Op V) (allowed : V → Type 0) (first : Op) (s : State Op) : Type 0 where
   pub ops : IsGoodList m allowed first s.ops
   pub batches : (b : ℕ) → IsGoodBatch m allowed first (batch_at s b)
+  pub parents : (b : ℕ) → HasParent s b (batch_at s b)

@@ -1,8 +1,8 @@
 -- The list machine's state, and what each kind of step makes of it.
-use Rattle.std.specs.Prelude.{ℕ, ◌^◌, Bool, List, [], ◌∷◌, ◌++◌, take, slice_index_or, slice_set}
+use Rattle.std.specs.Prelude.{ℕ, ◌^◌, Bool, List, [], ◌∷◌, ◌++◌, take, slice_index_or, slice_set, Option}
 use Rattle.std.specs.Cmp.Lexicographic.{pointwise}
 use Rattle.log_model.specs.Meaning.{Meaning}
-use Rattle.log_model.specs.Batches.{Batch, Unsealed, Gone, SealedBatch, begun_on}
+use Rattle.log_model.specs.Batches.{Batch, Unsealed, Sealed, Gone, SealedBatch, begun_on, snapshot_of}
 
 -- The list of operations, and the batches by number.
 pub record State (Op : Type 0) : Type 0 where
@@ -25,9 +25,17 @@ batch_at s b = slice_index_or s.batches b Gone
 abbrev pub with_batch : {Op : Type 0} → State Op → ℕ → Batch Op → State Op
 with_batch s b batch = record s { batches = slice_set s.batches b batch }
 
--- The state with a new batch on the present list.
-abbrev pub begun : {Op : Type 0} → State Op → State Op
-begun s = record s { batches = s.batches ++ (Unsealed (begun_on s.ops) ∷ []) }
+-- The state with one more batch, under the next number.
+abbrev pub with_new : {Op : Type 0} → State Op → Batch Op → State Op
+with_new s batch = record s { batches = s.batches ++ (batch ∷ []) }
+
+-- The state with a new batch on the list of its parent, or on the present list.
+abbrev pub begun : {Op : Type 0} → State Op → Option ℕ → List Op → State Op
+begun s parent list = with_new s (Unsealed (begun_on parent list))
+
+-- The state with a sealed batch of the present list, whose floor is this.
+abbrev pub snapshot_taken : {Op : Type 0} → State Op → ℕ → State Op
+snapshot_taken s floor = with_new s (Sealed (snapshot_of s.ops floor))
 
 -- The state whose list is the batch's.
 abbrev pub applied : {Op : Type 0} → State Op → SealedBatch Op → State Op

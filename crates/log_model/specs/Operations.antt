@@ -1,5 +1,5 @@
 -- What a list of operations means: its floor, its leaves and its root.
-use Rattle.std.specs.Prelude.{ℕ, ◌+◌, List, [], ◌∷◌, length, unwrap_or}
+use Rattle.std.specs.Prelude.{ℕ, ◌+◌, List, [], ◌∷◌, length, unwrap_or, Option, None}
 use Rattle.tree_shape.specs.Hashing.{Hashing, leaf_input}
 use Rattle.tree_shape.specs.Shape.{Shape, inactive}
 use Rattle.tree_shape.specs.Root.{root}
@@ -11,6 +11,12 @@ abbrev pub floor_of : {Op V : Type 0} → Meaning Op V → List Op → ℕ
 floor_of m [] = 0
 floor_of m (op ∷ []) = unwrap_or (m.floor op) 0
 floor_of m (op ∷ next ∷ ops) = floor_of m (next ∷ ops)
+
+-- The value of the operation that ends a list; of a commit, its metadata.
+abbrev pub last_value : {Op V : Type 0} → Meaning Op V → List Op → Option V
+last_value m [] = None
+last_value m (op ∷ []) = m.value op
+last_value m (op ∷ next ∷ ops) = last_value m (next ∷ ops)
 
 -- The digests of the leaves that these operations are, from leaf i on: each is that of its position and its bytes.
 abbrev pub leaves_from : {D Op V : Type 0} → Shape → Hashing D → Meaning Op V → ℕ → List Op → List D

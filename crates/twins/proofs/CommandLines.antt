@@ -1,11 +1,11 @@
 -- Lines that say commands.
-use Rattle.std.proofs.Common.{◌≡◌, ◌⊎◌, inl, inr, ℕ, ◌+◌, List, [], ◌∷◌, ◌++◌, length, Option, Some, None, refl, sym, ◌∙◌, ap, subst, append_assoc, arith}
+use Rattle.std.proofs.Common.{◌≡◌, ◌⊎◌, inl, inr, ℕ, ◌+◌, List, [], ◌∷◌, ◌++◌, length, get_or, Option, Some, None, refl, sym, ◌∙◌, ap, subst, append_assoc, arith}
 use Rattle.std.specs.Prelude.{codes}
 use Rattle.std.specs.List.{onto_first}
 use Rattle.std.proofs.lemmas.Fmt.{decimal_injective}
 use Rattle.std.proofs.lemmas.List.{append-nil, length-append}
 use Rattle.twins.specs.declared.command.Command.{Command}
-use Rattle.twins.specs.declared.command.Command.TheVariants.{New, Append, Seal, Apply, Size, Metadata}
+use Rattle.twins.specs.declared.command.Command.TheVariants.{New, Append, Seal, Apply, Hold, Release, Snapshot, Size, Metadata}
 use Rattle.twins.specs.Lines.{words_of}
 use Rattle.twins.specs.Grammar.{IsNumberWord, IsBytesWord, IsMetadataWord, WordsSay, IsSkipped, Says, LinesSay}
 use Rattle.twins.specs.declared.parse.LineError.{LineError}
@@ -44,15 +44,27 @@ one_metadata text (Some []) None p q = absurd (hyphen_is_no_stop (sym q ∙ p))
 one_metadata text (Some (b ∷ bytes)) None p q = absurd (rw q at p)
 one_metadata text (Some v) (Some w) p q = ap Some (one_value text v w p q)
 
+-- letter k of the first word, or 0
+abbrev letter : ℕ → List (List ℕ) → ℕ
+letter k [] = 0
+letter k (word ∷ words) = get_or word k 0
+
+-- words whose first words differ in a letter are not one
+apart : (words xs ys : List (List ℕ)) (k m n : ℕ) → words ≡ xs → words ≡ ys → letter k xs ≡ m → letter k ys ≡ n → (m ≡ n → ⊥) → ⊥
+apart words xs ys k m n e f g h differ = differ (sym g ∙ ap (letter k) (sym e ∙ f) ∙ h)
+
 -- words say one command
 one_command : (words : List (List ℕ)) (a b : Command) → WordsSay words a → WordsSay words b → a ≡ b
 one_command words New New p q = refl
-one_command words New (Append b w) p q = absurd (let e = sym p ∙ q.2 in cc)
-one_command words New (Seal b n g) p q = absurd (let e = sym p ∙ q.3 in cc)
-one_command words New (Apply b) p q = absurd (let e = sym p ∙ q.1 in cc)
-one_command words New Size p q = absurd (let e = sym p ∙ q in cc)
-one_command words New Metadata p q = absurd (let e = sym p ∙ q in cc)
-one_command words (Append a v) New p q = absurd (let e = sym p.2 ∙ q in cc)
+one_command words New (Append b w) p q = absurd (apart words _ _ 0 110 97 p q.2 refl refl (λ e. omega (arith, e)))
+one_command words New (Seal b n g) p q = absurd (apart words _ _ 0 110 115 p q.3 refl refl (λ e. omega (arith, e)))
+one_command words New (Apply b) p q = absurd (apart words _ _ 0 110 97 p q.1 refl refl (λ e. omega (arith, e)))
+one_command words New (Hold b) p q = absurd (apart words _ _ 0 110 104 p q.1 refl refl (λ e. omega (arith, e)))
+one_command words New (Release b) p q = absurd (apart words _ _ 0 110 114 p q.1 refl refl (λ e. omega (arith, e)))
+one_command words New Snapshot p q = absurd (apart words _ _ 0 110 115 p q refl refl (λ e. omega (arith, e)))
+one_command words New Size p q = absurd (apart words _ _ 0 110 115 p q refl refl (λ e. omega (arith, e)))
+one_command words New Metadata p q = absurd (apart words _ _ 0 110 109 p q refl refl (λ e. omega (arith, e)))
+one_command words (Append a v) New p q = absurd (apart words _ _ 0 97 110 p.2 q refl refl (λ e. omega (arith, e)))
 one_command words (Append a v) (Append b w) p q =
     let same = sym p.2 ∙ q.2 in
     let numbers : p.0 ≡ q.0 = cc in
@@ -60,12 +72,15 @@ one_command words (Append a v) (Append b w) p q =
     let number = one_number q.0 a b (rw numbers at p.3) q.3 in
     let value = one_value q.1 v w (rw texts at p.4) q.4 in
     cc
-one_command words (Append a v) (Seal b n g) p q = absurd (let e = sym p.2 ∙ q.3 in cc)
-one_command words (Append a v) (Apply b) p q = absurd (let e = sym p.2 ∙ q.1 in cc)
-one_command words (Append a v) Size p q = absurd (let e = sym p.2 ∙ q in cc)
-one_command words (Append a v) Metadata p q = absurd (let e = sym p.2 ∙ q in cc)
-one_command words (Seal a m f) New p q = absurd (let e = sym p.3 ∙ q in cc)
-one_command words (Seal a m f) (Append b w) p q = absurd (let e = sym p.3 ∙ q.2 in cc)
+one_command words (Append a v) (Seal b n g) p q = absurd (apart words _ _ 0 97 115 p.2 q.3 refl refl (λ e. omega (arith, e)))
+one_command words (Append a v) (Apply b) p q = absurd (apart words _ _ 3 101 108 p.2 q.1 refl refl (λ e. omega (arith, e)))
+one_command words (Append a v) (Hold b) p q = absurd (apart words _ _ 0 97 104 p.2 q.1 refl refl (λ e. omega (arith, e)))
+one_command words (Append a v) (Release b) p q = absurd (apart words _ _ 0 97 114 p.2 q.1 refl refl (λ e. omega (arith, e)))
+one_command words (Append a v) Snapshot p q = absurd (apart words _ _ 0 97 115 p.2 q refl refl (λ e. omega (arith, e)))
+one_command words (Append a v) Size p q = absurd (apart words _ _ 0 97 115 p.2 q refl refl (λ e. omega (arith, e)))
+one_command words (Append a v) Metadata p q = absurd (apart words _ _ 0 97 109 p.2 q refl refl (λ e. omega (arith, e)))
+one_command words (Seal a m f) New p q = absurd (apart words _ _ 0 115 110 p.3 q refl refl (λ e. omega (arith, e)))
+one_command words (Seal a m f) (Append b w) p q = absurd (apart words _ _ 0 115 97 p.3 q.2 refl refl (λ e. omega (arith, e)))
 one_command words (Seal a m f) (Seal b n g) p q =
     let same = sym p.3 ∙ q.3 in
     let numbers : p.0 ≡ q.0 = cc in
@@ -75,30 +90,77 @@ one_command words (Seal a m f) (Seal b n g) p q =
     let metadata = one_metadata q.1 m n (rw texts at p.5) q.5 in
     let floor = one_number q.2 f g (rw floors at p.6) q.6 in
     cc
-one_command words (Seal a m f) (Apply b) p q = absurd (let e = sym p.3 ∙ q.1 in cc)
-one_command words (Seal a m f) Size p q = absurd (let e = sym p.3 ∙ q in cc)
-one_command words (Seal a m f) Metadata p q = absurd (let e = sym p.3 ∙ q in cc)
-one_command words (Apply a) New p q = absurd (let e = sym p.1 ∙ q in cc)
-one_command words (Apply a) (Append b w) p q = absurd (let e = sym p.1 ∙ q.2 in cc)
-one_command words (Apply a) (Seal b n g) p q = absurd (let e = sym p.1 ∙ q.3 in cc)
+one_command words (Seal a m f) (Apply b) p q = absurd (apart words _ _ 0 115 97 p.3 q.1 refl refl (λ e. omega (arith, e)))
+one_command words (Seal a m f) (Hold b) p q = absurd (apart words _ _ 0 115 104 p.3 q.1 refl refl (λ e. omega (arith, e)))
+one_command words (Seal a m f) (Release b) p q = absurd (apart words _ _ 0 115 114 p.3 q.1 refl refl (λ e. omega (arith, e)))
+one_command words (Seal a m f) Snapshot p q = absurd (apart words _ _ 1 101 110 p.3 q refl refl (λ e. omega (arith, e)))
+one_command words (Seal a m f) Size p q = absurd (apart words _ _ 1 101 105 p.3 q refl refl (λ e. omega (arith, e)))
+one_command words (Seal a m f) Metadata p q = absurd (apart words _ _ 0 115 109 p.3 q refl refl (λ e. omega (arith, e)))
+one_command words (Apply a) New p q = absurd (apart words _ _ 0 97 110 p.1 q refl refl (λ e. omega (arith, e)))
+one_command words (Apply a) (Append b w) p q = absurd (apart words _ _ 3 108 101 p.1 q.2 refl refl (λ e. omega (arith, e)))
+one_command words (Apply a) (Seal b n g) p q = absurd (apart words _ _ 0 97 115 p.1 q.3 refl refl (λ e. omega (arith, e)))
 one_command words (Apply a) (Apply b) p q =
     let same = sym p.1 ∙ q.1 in
     let numbers : p.0 ≡ q.0 = cc in
     let number = one_number q.0 a b (rw numbers at p.2) q.2 in
     cc
-one_command words (Apply a) Size p q = absurd (let e = sym p.1 ∙ q in cc)
-one_command words (Apply a) Metadata p q = absurd (let e = sym p.1 ∙ q in cc)
-one_command words Size New p q = absurd (let e = sym p ∙ q in cc)
-one_command words Size (Append b w) p q = absurd (let e = sym p ∙ q.2 in cc)
-one_command words Size (Seal b n g) p q = absurd (let e = sym p ∙ q.3 in cc)
-one_command words Size (Apply b) p q = absurd (let e = sym p ∙ q.1 in cc)
+one_command words (Apply a) (Hold b) p q = absurd (apart words _ _ 0 97 104 p.1 q.1 refl refl (λ e. omega (arith, e)))
+one_command words (Apply a) (Release b) p q = absurd (apart words _ _ 0 97 114 p.1 q.1 refl refl (λ e. omega (arith, e)))
+one_command words (Apply a) Snapshot p q = absurd (apart words _ _ 0 97 115 p.1 q refl refl (λ e. omega (arith, e)))
+one_command words (Apply a) Size p q = absurd (apart words _ _ 0 97 115 p.1 q refl refl (λ e. omega (arith, e)))
+one_command words (Apply a) Metadata p q = absurd (apart words _ _ 0 97 109 p.1 q refl refl (λ e. omega (arith, e)))
+one_command words (Hold a) New p q = absurd (apart words _ _ 0 104 110 p.1 q refl refl (λ e. omega (arith, e)))
+one_command words (Hold a) (Append b w) p q = absurd (apart words _ _ 0 104 97 p.1 q.2 refl refl (λ e. omega (arith, e)))
+one_command words (Hold a) (Seal b n g) p q = absurd (apart words _ _ 0 104 115 p.1 q.3 refl refl (λ e. omega (arith, e)))
+one_command words (Hold a) (Apply b) p q = absurd (apart words _ _ 0 104 97 p.1 q.1 refl refl (λ e. omega (arith, e)))
+one_command words (Hold a) (Hold b) p q =
+    let same = sym p.1 ∙ q.1 in
+    let numbers : p.0 ≡ q.0 = cc in
+    let number = one_number q.0 a b (rw numbers at p.2) q.2 in
+    cc
+one_command words (Hold a) (Release b) p q = absurd (apart words _ _ 0 104 114 p.1 q.1 refl refl (λ e. omega (arith, e)))
+one_command words (Hold a) Snapshot p q = absurd (apart words _ _ 0 104 115 p.1 q refl refl (λ e. omega (arith, e)))
+one_command words (Hold a) Size p q = absurd (apart words _ _ 0 104 115 p.1 q refl refl (λ e. omega (arith, e)))
+one_command words (Hold a) Metadata p q = absurd (apart words _ _ 0 104 109 p.1 q refl refl (λ e. omega (arith, e)))
+one_command words (Release a) New p q = absurd (apart words _ _ 0 114 110 p.1 q refl refl (λ e. omega (arith, e)))
+one_command words (Release a) (Append b w) p q = absurd (apart words _ _ 0 114 97 p.1 q.2 refl refl (λ e. omega (arith, e)))
+one_command words (Release a) (Seal b n g) p q = absurd (apart words _ _ 0 114 115 p.1 q.3 refl refl (λ e. omega (arith, e)))
+one_command words (Release a) (Apply b) p q = absurd (apart words _ _ 0 114 97 p.1 q.1 refl refl (λ e. omega (arith, e)))
+one_command words (Release a) (Hold b) p q = absurd (apart words _ _ 0 114 104 p.1 q.1 refl refl (λ e. omega (arith, e)))
+one_command words (Release a) (Release b) p q =
+    let same = sym p.1 ∙ q.1 in
+    let numbers : p.0 ≡ q.0 = cc in
+    let number = one_number q.0 a b (rw numbers at p.2) q.2 in
+    cc
+one_command words (Release a) Snapshot p q = absurd (apart words _ _ 0 114 115 p.1 q refl refl (λ e. omega (arith, e)))
+one_command words (Release a) Size p q = absurd (apart words _ _ 0 114 115 p.1 q refl refl (λ e. omega (arith, e)))
+one_command words (Release a) Metadata p q = absurd (apart words _ _ 0 114 109 p.1 q refl refl (λ e. omega (arith, e)))
+one_command words Snapshot New p q = absurd (apart words _ _ 0 115 110 p q refl refl (λ e. omega (arith, e)))
+one_command words Snapshot (Append b w) p q = absurd (apart words _ _ 0 115 97 p q.2 refl refl (λ e. omega (arith, e)))
+one_command words Snapshot (Seal b n g) p q = absurd (apart words _ _ 1 110 101 p q.3 refl refl (λ e. omega (arith, e)))
+one_command words Snapshot (Apply b) p q = absurd (apart words _ _ 0 115 97 p q.1 refl refl (λ e. omega (arith, e)))
+one_command words Snapshot (Hold b) p q = absurd (apart words _ _ 0 115 104 p q.1 refl refl (λ e. omega (arith, e)))
+one_command words Snapshot (Release b) p q = absurd (apart words _ _ 0 115 114 p q.1 refl refl (λ e. omega (arith, e)))
+one_command words Snapshot Snapshot p q = refl
+one_command words Snapshot Size p q = absurd (apart words _ _ 1 110 105 p q refl refl (λ e. omega (arith, e)))
+one_command words Snapshot Metadata p q = absurd (apart words _ _ 0 115 109 p q refl refl (λ e. omega (arith, e)))
+one_command words Size New p q = absurd (apart words _ _ 0 115 110 p q refl refl (λ e. omega (arith, e)))
+one_command words Size (Append b w) p q = absurd (apart words _ _ 0 115 97 p q.2 refl refl (λ e. omega (arith, e)))
+one_command words Size (Seal b n g) p q = absurd (apart words _ _ 1 105 101 p q.3 refl refl (λ e. omega (arith, e)))
+one_command words Size (Apply b) p q = absurd (apart words _ _ 0 115 97 p q.1 refl refl (λ e. omega (arith, e)))
+one_command words Size (Hold b) p q = absurd (apart words _ _ 0 115 104 p q.1 refl refl (λ e. omega (arith, e)))
+one_command words Size (Release b) p q = absurd (apart words _ _ 0 115 114 p q.1 refl refl (λ e. omega (arith, e)))
+one_command words Size Snapshot p q = absurd (apart words _ _ 1 105 110 p q refl refl (λ e. omega (arith, e)))
 one_command words Size Size p q = refl
-one_command words Size Metadata p q = absurd (let e = sym p ∙ q in cc)
-one_command words Metadata New p q = absurd (let e = sym p ∙ q in cc)
-one_command words Metadata (Append b w) p q = absurd (let e = sym p ∙ q.2 in cc)
-one_command words Metadata (Seal b n g) p q = absurd (let e = sym p ∙ q.3 in cc)
-one_command words Metadata (Apply b) p q = absurd (let e = sym p ∙ q.1 in cc)
-one_command words Metadata Size p q = absurd (let e = sym p ∙ q in cc)
+one_command words Size Metadata p q = absurd (apart words _ _ 0 115 109 p q refl refl (λ e. omega (arith, e)))
+one_command words Metadata New p q = absurd (apart words _ _ 0 109 110 p q refl refl (λ e. omega (arith, e)))
+one_command words Metadata (Append b w) p q = absurd (apart words _ _ 0 109 97 p q.2 refl refl (λ e. omega (arith, e)))
+one_command words Metadata (Seal b n g) p q = absurd (apart words _ _ 0 109 115 p q.3 refl refl (λ e. omega (arith, e)))
+one_command words Metadata (Apply b) p q = absurd (apart words _ _ 0 109 97 p q.1 refl refl (λ e. omega (arith, e)))
+one_command words Metadata (Hold b) p q = absurd (apart words _ _ 0 109 104 p q.1 refl refl (λ e. omega (arith, e)))
+one_command words Metadata (Release b) p q = absurd (apart words _ _ 0 109 114 p q.1 refl refl (λ e. omega (arith, e)))
+one_command words Metadata Snapshot p q = absurd (apart words _ _ 0 109 115 p q refl refl (λ e. omega (arith, e)))
+one_command words Metadata Size p q = absurd (apart words _ _ 0 109 115 p q refl refl (λ e. omega (arith, e)))
 one_command words Metadata Metadata p q = refl
 
 -- the first byte of words, or 0
@@ -120,6 +182,9 @@ hash_says_nothing words New p = absurd (let e = other_head words _ 110 p refl in
 hash_says_nothing words (Append b v) p = absurd (let e = other_head words _ 97 p.2 refl in omega (arith, e))
 hash_says_nothing words (Seal b m f) p = absurd (let e = other_head words _ 115 p.3 refl in omega (arith, e))
 hash_says_nothing words (Apply b) p = absurd (let e = other_head words _ 97 p.1 refl in omega (arith, e))
+hash_says_nothing words (Hold b) p = absurd (let e = other_head words _ 104 p.1 refl in omega (arith, e))
+hash_says_nothing words (Release b) p = absurd (let e = other_head words _ 114 p.1 refl in omega (arith, e))
+hash_says_nothing words Snapshot p = absurd (let e = other_head words _ 115 p refl in omega (arith, e))
 hash_says_nothing words Size p = absurd (let e = other_head words _ 115 p refl in omega (arith, e))
 hash_says_nothing words Metadata p = absurd (let e = other_head words _ 109 p refl in omega (arith, e))
 
@@ -129,6 +194,9 @@ empty_says_nothing New p = cc
 empty_says_nothing (Append b v) p = let e = p.2 in cc
 empty_says_nothing (Seal b m f) p = let e = p.3 in cc
 empty_says_nothing (Apply b) p = let e = p.1 in cc
+empty_says_nothing (Hold b) p = let e = p.1 in cc
+empty_says_nothing (Release b) p = let e = p.1 in cc
+empty_says_nothing Snapshot p = cc
 empty_says_nothing Size p = cc
 empty_says_nothing Metadata p = cc
 

@@ -10,8 +10,9 @@ use Rattle.std.proofs.lemmas.Bool.{cases_lt}
 use Rattle.std.proofs.lemmas.Bool.Decides.{nat_tests}
 use Rattle.std.proofs.lemmas.Slice.Eq.{slice_eq-Decides}
 use Rattle.log_model.specs.Batches as batches
-use Rattle.log_model.specs.Operations.{floor_of}
+use Rattle.log_model.specs.Operations.{floor_of, last_value}
 use Rattle.log_model.specs.Machine.{State, batch_at, with_batch, stands_at, max_leaves}
+use Rattle.log_model.specs.GoodLaws.{floor-sealed}
 use Rattle.twins.specs.declared.batch.Batch.{Batch}
 use Rattle.twins.specs.declared.batch.Batch.TheVariants.{Unsealed, Sealed, Gone}
 use Rattle.twins.specs.declared.batch.UnsealedBatch.{UnsealedBatch}
@@ -19,11 +20,11 @@ use Rattle.twins.specs.declared.batch.SealedBatch.{SealedBatch}
 use Rattle.op_codec.specs.declared.keyless.Operation.TheVariants.{Append, Commit}
 use Rattle.twins.specs.declared.command.Answer.TheVariants as answer
 use Rattle.twins.specs.declared.command.Refusal.{Refusal}
-use Rattle.twins.specs.declared.command.Refusal.TheVariants.{ValueTooLong, StaleBatch, LocationOverflow, FloorRegressed, FloorBeyondSize}
-use Rattle.twins.specs.Step.{append_to, seal_refusal, metadata_length, seal, apply, root_of_list}
+use Rattle.twins.specs.declared.command.Refusal.TheVariants.{NoBatch, ValueTooLong, StaleBatch, LocationOverflow, FloorRegressed, FloorBeyondSize}
+use Rattle.twins.specs.Step.{append_to, seal_refusal, metadata_length, seal, apply, hold, release, root_of_list}
 use Rattle.std.proofs.lemmas.Option.{slice_get_read, get_or_from_slice_get}
-use Rattle.twins.specs.Operation.{Operation, meaning, last_value, operation_decide}
-use Rattle.twins.specs.StateOf.{unsealed_of, batch_of, state_from, BatchKept}
+use Rattle.twins.specs.Operation.{Operation, meaning, operation_decide}
+use Rattle.twins.specs.StateOf.{unsealed_of, list_of, batch_of, state_from, BatchKept}
 
 pub batch_at-from : (ops : List Operation) (bs : List Batch) (b : ℕ) → batch_at (state_from ops bs) b ≡ batch_of ops (get_or bs b Gone)
 batch_at-from ops bs b = get_or-map (batch_of ops) bs b Gone
@@ -31,18 +32,18 @@ batch_at-from ops bs b = get_or-map (batch_of ops) bs b Gone
 pub from-set : (ops : List Operation) (bs : List Batch) (b : ℕ) (x : Batch) → state_from ops (slice_set bs b x) ≡ with_batch (state_from ops bs) b (batch_of ops x)
 from-set ops bs b x = ap (λ (xs : List (batches.Batch Operation)). record { ops = ops; batches = xs }) (map-set (batch_of ops) bs b x)
 
-lists_decide : (xs ys : List Operation) → Decides (pointwise meaning.same xs ys) (xs ≡ ys)
-lists_decide xs ys = slice_eq-Decides operation_decide xs ys _ refl
+same_lists : (xs ys : List Operation) → Decides (pointwise meaning.same xs ys) (xs ≡ ys)
+same_lists xs ys = slice_eq-Decides operation_decide xs ys _ refl
 
 is_false : (b : Bool) (P : Type 0) → Decides b P → (P → ⊥) → b ≡ false
 is_false false P h no_way = refl
 is_false true P h no_way = absurd (no_way (h.0 refl))
 
 pub stands : (s : State Operation) (list : List Operation) (n : ℕ) → s.ops ≡ take n list → stands_at meaning s list n ≡ true
-stands s list n e = (lists_decide s.ops (take n list)).1 e
+stands s list n e = (same_lists s.ops (take n list)).1 e
 
 pub stands_not : (s : State Operation) (list : List Operation) (n : ℕ) → (length s.ops ≡ length (take n list) → ⊥) → stands_at meaning s list n ≡ false
-stands_not s list n differ = is_false _ _ (lists_decide s.ops (take n list)) (λ e. differ (ap length e))
+stands_not s list n differ = is_false _ _ (same_lists s.ops (take n list)) (λ e. differ (ap length e))
 
 pub lt_false : (m n : ℕ) → n ≤ m → nat_lt m n ≡ false
 lt_false m n le = grind (arith, nat_tests)
@@ -74,50 +75,56 @@ length-shared ops own shared n low high =
     let whole = length-append (take shared ops) own in
     length-take-le n (take shared ops ++ own) (omega arith)
 
-pub apply_stale : (ops : List Operation) (bs : List Batch) (b : ℕ) (c : SealedBatch) → get_or bs b Gone ≡ Sealed c → BatchKept ops (Sealed c) → (length ops ≡ c.boundary → ⊥)
-    → (answer.Refused StaleBatch, state_from ops (slice_set bs b (Sealed c))) ≡ apply (state_from ops bs) b (batch_at (state_from ops bs) b)
-apply_stale ops bs b c e kept differ =
-    let size = length-shared ops c.own.items c.shared c.boundary kept.0 kept.1 in
-    let stale : stands_at meaning (state_from ops bs) (take c.shared ops ++ c.own.items) c.boundary ≡ false = stands_not (state_from ops bs) _ _ (λ same. differ (same ∙ size)) in
+pub apply_free : (ops : List Operation) (bs : List Batch) (b : ℕ) (c : SealedBatch) → get_or bs b Gone ≡ Sealed c → c.holds ≡ 0
+    → (answer.Refused (NoBatch b), state_from ops (slice_set bs b (Sealed c))) ≡ apply (state_from ops bs) b (batch_at (state_from ops bs) b)
+apply_free ops bs b c e free =
     let still : map (batch_of ops) (slice_set bs b (Sealed c)) ≡ map (batch_of ops) bs = map-set_same (batch_of ops) bs b (Sealed c) Gone (ap (batch_of ops) (sym e)) in
-    rw (batch_at-from ops bs b, e, stale, still) refl
+    rw (batch_at-from ops bs b, e, still, free) refl
+
+pub apply_stale : (taken : ℕ) (ops : List Operation) (bs : List Batch) (b : ℕ) (c : SealedBatch) → get_or bs b Gone ≡ Sealed c → BatchKept taken ops (Sealed c) → 0 < c.holds → (length ops ≡ c.boundary → ⊥)
+    → (answer.Refused StaleBatch, state_from ops (slice_set bs b (Sealed c))) ≡ apply (state_from ops bs) b (batch_at (state_from ops bs) b)
+apply_stale taken ops bs b c e kept held differ =
+    let size = length-shared ops c.own.items c.shared c.boundary kept.0 kept.1 in
+    let stale : stands_at meaning (state_from ops bs) (list_of ops c) c.boundary ≡ false = stands_not (state_from ops bs) _ _ (λ same. differ (same ∙ size)) in
+    let still : map (batch_of ops) (slice_set bs b (Sealed c)) ≡ map (batch_of ops) bs = map-set_same (batch_of ops) bs b (Sealed c) Gone (ap (batch_of ops) (sym e)) in
+    rw (batch_at-from ops bs b, e, lt_true 0 c.holds held, stale, still) refl
 
 -- a batch is kept, and means the same, over a longer log
-pub kept_longer : (ops more : List Operation) (x : Batch) → BatchKept ops x → BatchKept (ops ++ more) x
-kept_longer ops more (Unsealed u) kept = let l = length-append ops more in (omega (arith, l, kept.0), kept.1)
-kept_longer ops more (Sealed c) kept =
+pub kept_longer : (taken : ℕ) (ops more : List Operation) (x : Batch) → BatchKept taken ops x → BatchKept taken (ops ++ more) x
+kept_longer taken ops more (Unsealed u) kept = let l = length-append ops more in (omega (arith, l, kept.0), kept.1)
+kept_longer taken ops more (Sealed c) kept =
     let l = length-append ops more in
-    (kept.0, omega (arith, l, kept.1), kept.2, rw (take-append-le c.shared ops more kept.1) kept.3)
-kept_longer ops more Gone kept = tt
+    (kept.0, omega (arith, l, kept.1), kept.2, rw (take-append-le c.shared ops more kept.1) kept.3, kept.4)
+kept_longer taken ops more Gone kept = tt
 
-same_longer : (ops more : List Operation) (x : Batch) → BatchKept ops x → batch_of (ops ++ more) x ≡ batch_of ops x
-same_longer ops more (Unsealed u) kept = rw (take-append-le u.base ops more kept.0) refl
-same_longer ops more (Sealed c) kept = rw (take-append-le c.shared ops more kept.1) refl
-same_longer ops more Gone kept = refl
+same_longer : (taken : ℕ) (ops more : List Operation) (x : Batch) → BatchKept taken ops x → batch_of (ops ++ more) x ≡ batch_of ops x
+same_longer taken ops more (Unsealed u) kept = rw (take-append-le u.base ops more kept.0) refl
+same_longer taken ops more (Sealed c) kept = rw (take-append-le c.shared ops more kept.1) refl
+same_longer taken ops more Gone kept = refl
 
-all_longer : (ops more : List Operation) (bs : List Batch) → ((b : ℕ) → BatchKept ops (get_or bs b Gone)) → map (batch_of (ops ++ more)) bs ≡ map (batch_of ops) bs
-all_longer ops more [] kept = refl
-all_longer ops more (x ∷ bs) kept = rw (same_longer ops more x (kept 0), all_longer ops more bs (λ b. kept (suc b))) refl
+all_longer : (taken : ℕ) (ops more : List Operation) (bs : List Batch) → ((b : ℕ) → BatchKept taken ops (get_or bs b Gone)) → map (batch_of (ops ++ more)) bs ≡ map (batch_of ops) bs
+all_longer taken ops more [] kept = refl
+all_longer taken ops more (x ∷ bs) kept = rw (same_longer taken ops more x (kept 0), all_longer taken ops more bs (λ b. kept (suc b))) refl
 
 -- the log at the boundary of a batch shares all of its list that it can
-shares_all : (ops : List Operation) (c : SealedBatch) → BatchKept ops (Sealed c) → length ops ≡ c.boundary → take c.shared ops ≡ ops
-shares_all ops c kept e = let s : c.shared ≡ length ops = omega (arith, e, kept.0, kept.1) in rw s (take-length ops)
+shares_all : (taken : ℕ) (ops : List Operation) (c : SealedBatch) → BatchKept taken ops (Sealed c) → length ops ≡ c.boundary → take c.shared ops ≡ ops
+shares_all taken ops c kept e = let s : c.shared ≡ length ops = omega (arith, e, kept.0, kept.1) in rw s (take-length ops)
 
-pub apply_done : (ops ops' : List Operation) (bs : List Batch) (b : ℕ) (c c' : SealedBatch) → get_or bs b Gone ≡ Sealed c → ((q : ℕ) → BatchKept ops (get_or bs q Gone))
-    → length ops ≡ c.boundary → ops' ≡ ops ++ c.own.items → c'.boundary ≡ c.boundary → c'.shared ≡ length ops' → c'.own.items ≡ []
+pub apply_done : (taken : ℕ) (ops ops' : List Operation) (bs : List Batch) (b : ℕ) (c c' : SealedBatch) → get_or bs b Gone ≡ Sealed c → ((q : ℕ) → BatchKept taken ops (get_or bs q Gone)) → 0 < c.holds
+    → length ops ≡ c.boundary → ops' ≡ ops ++ c.own.items → c'.boundary ≡ c.boundary → c'.shared ≡ length ops' → c'.own.items ≡ [] → c'.holds ≡ c.holds
     → (answer.Applied, state_from ops' (slice_set bs b (Sealed c'))) ≡ apply (state_from ops bs) b (batch_at (state_from ops bs) b)
-apply_done ops ops' bs b c c' e kept at_end longer boundary shared own =
-    let P : Batch → Type 0 = BatchKept ops in
-    let here : BatchKept ops (Sealed c) = subst P e (kept b) in
-    let front = shares_all ops c here at_end in
+apply_done taken ops ops' bs b c c' e kept held at_end longer boundary shared own holds =
+    let P : Batch → Type 0 = BatchKept taken ops in
+    let here : BatchKept taken ops (Sealed c) = subst P e (kept b) in
+    let front = shares_all taken ops c here at_end in
     let whole : take c.shared ops ++ c.own.items ≡ ops' = rw front (sym longer) in
     let fresh : stands_at meaning (state_from ops bs) (take c.shared ops ++ c.own.items) c.boundary ≡ true =
     stands (state_from ops bs) _ _ (sym (ap (λ (xs : List Operation). take c.boundary (xs ++ c.own.items)) front ∙ rw (sym at_end) (take-append_seam ops c.own.items))) in
     let this : batch_of ops' (Sealed c') ≡ batch_of ops' (Sealed c) =
-    rw (boundary, shared, own, longer, take-length (ops ++ c.own.items), take-append-le c.shared ops c.own.items here.1, front, append-nil (ops ++ c.own.items)) refl in
+    rw (boundary, shared, own, holds, longer, take-length (ops ++ c.own.items), take-append-le c.shared ops c.own.items here.1, front, append-nil (ops ++ c.own.items)) refl in
     let still : map (batch_of ops') (slice_set bs b (Sealed c')) ≡ map (batch_of ops) bs =
-    map-set_same (batch_of ops') bs b (Sealed c') Gone (this ∙ ap (batch_of ops') (sym e)) ∙ rw longer (all_longer ops c.own.items bs kept) in
-    rw (batch_at-from ops bs b, e, fresh, still, whole) refl
+    map-set_same (batch_of ops') bs b (Sealed c') Gone (this ∙ ap (batch_of ops') (sym e)) ∙ rw longer (all_longer taken ops c.own.items bs kept) in
+    rw (batch_at-from ops bs b, e, lt_true 0 c.holds held, fresh, still, whole) refl
 
 -- what holds of each batch holds where one is replaced, or added
 pub set_keeps : (P : Batch → Type 0) (bs : List Batch) (b : ℕ) (x : Batch) → ((q : ℕ) → P (get_or bs q Gone)) → P x → (q : ℕ) → P (get_or (slice_set bs b x) q Gone)
@@ -133,21 +140,21 @@ push_keeps P [] x f h (suc q) = f (suc q)
 push_keeps P (y ∷ bs) x f h zero = f zero
 push_keeps P (y ∷ bs) x f h (suc q) = push_keeps P bs x (λ r. f (suc r)) h q
 
-pub kept_applied : (ops ops' : List Operation) (bs : List Batch) (b : ℕ) (c c' : SealedBatch) → get_or bs b Gone ≡ Sealed c → ((q : ℕ) → BatchKept ops (get_or bs q Gone))
-    → length ops ≡ c.boundary → ops' ≡ ops ++ c.own.items → c'.boundary ≡ c.boundary → c'.shared ≡ length ops' → c'.own.items ≡ [] → c'.root ≡ c.root
-    → (length ops' ≤ max_leaves) × (c.root ≡ root_of_list ops') × ((q : ℕ) → BatchKept ops' (get_or (slice_set bs b (Sealed c')) q Gone))
-kept_applied ops ops' bs b c c' e kept at_end longer boundary shared own root =
-    let P : Batch → Type 0 = BatchKept ops in
-    let P' : Batch → Type 0 = BatchKept ops' in
-    let here : BatchKept ops (Sealed c) = subst P e (kept b) in
-    let front = shares_all ops c here at_end in
+pub kept_applied : (taken : ℕ) (ops ops' : List Operation) (bs : List Batch) (b : ℕ) (c c' : SealedBatch) → get_or bs b Gone ≡ Sealed c → ((q : ℕ) → BatchKept taken ops (get_or bs q Gone))
+    → length ops ≡ c.boundary → ops' ≡ ops ++ c.own.items → c'.boundary ≡ c.boundary → c'.shared ≡ length ops' → c'.own.items ≡ [] → c'.root ≡ c.root → c'.holds ≡ c.holds
+    → (length ops' ≤ max_leaves) × (c.root ≡ root_of_list ops') × ((q : ℕ) → BatchKept taken ops' (get_or (slice_set bs b (Sealed c')) q Gone))
+kept_applied taken ops ops' bs b c c' e kept at_end longer boundary shared own root holds =
+    let P : Batch → Type 0 = BatchKept taken ops in
+    let P' : Batch → Type 0 = BatchKept taken ops' in
+    let here : BatchKept taken ops (Sealed c) = subst P e (kept b) in
+    let front = shares_all taken ops c here at_end in
     let size : length ops' ≡ length ops + length c.own.items = rw longer (length-append ops c.own.items) in
     let few : length ops' ≤ max_leaves = omega (arith, size, at_end, here.0, here.1, here.2) in
     let whole : c.root ≡ root_of_list ops' = here.3 ∙ ap root_of_list (rw front (sym longer)) in
     let all_of : take (length ops') ops' ++ [] ≡ ops' = rw take-length (append-nil ops') in
-    let this : BatchKept ops' (Sealed c') =
-    (omega (arith, boundary, shared, size, at_end), omega (arith, shared), rw own (omega (arith, shared, few)), rw (root, shared, own, all_of) whole) in
-    let others : (q : ℕ) → BatchKept ops' (get_or bs q Gone) = λ q. rw longer (kept_longer ops c.own.items (get_or bs q Gone) (kept q)) in
+    let this : BatchKept taken ops' (Sealed c') =
+    (omega (arith, boundary, shared, size, at_end), omega (arith, shared), rw own (omega (arith, shared, few)), rw (root, shared, own, all_of) whole, omega (arith, holds, here.4)) in
+    let others : (q : ℕ) → BatchKept taken ops' (get_or bs q Gone) = λ q. rw longer (kept_longer taken ops c.own.items (get_or bs q Gone) (kept q)) in
     (few, whole, set_keeps P' bs b (Sealed c') others this)
 
 -- ---- a seal
@@ -165,9 +172,9 @@ length-front ops n le = length-take-le n (take n ops) (let l = length-take-le n 
 
 -- the refusals of a seal
 
-pub refused_stale : (ops : List Operation) (bs : List Batch) (u : UnsealedBatch) (floor : ℕ) → BatchKept ops (Unsealed u) → (length ops ≡ u.base → ⊥)
+pub refused_stale : (taken : ℕ) (ops : List Operation) (bs : List Batch) (u : UnsealedBatch) (floor : ℕ) → BatchKept taken ops (Unsealed u) → (length ops ≡ u.base → ⊥)
     → Some StaleBatch ≡ seal_refusal (state_from ops bs) (unsealed_of ops u) floor
-refused_stale ops bs u floor kept differ =
+refused_stale taken ops bs u floor kept differ =
     let stale : stands_at meaning (state_from ops bs) (take u.base ops) u.base ≡ false = stands_not (state_from ops bs) _ _ (λ same. differ (same ∙ length-front ops u.base kept.0)) in
     rw stale refl
 
@@ -215,28 +222,28 @@ same_or_not m n = elim (cases_lt m n) [
 ]
 
 -- a seal that isn't refused stands on the whole log, and fits
-stands_here : (ops : List Operation) (bs : List Batch) (u : UnsealedBatch) (floor : ℕ) → BatchKept ops (Unsealed u) → None ≡ seal_refusal (state_from ops bs) (unsealed_of ops u) floor → length ops ≡ u.base
-stands_here ops bs u floor kept none = elim (same_or_not (length ops) u.base) [
+stands_here : (taken : ℕ) (ops : List Operation) (bs : List Batch) (u : UnsealedBatch) (floor : ℕ) → BatchKept taken ops (Unsealed u) → None ≡ seal_refusal (state_from ops bs) (unsealed_of ops u) floor → length ops ≡ u.base
+stands_here taken ops bs u floor kept none = elim (same_or_not (length ops) u.base) [
   | inl same ↦ same
-  | inr differ ↦ let never = none ∙ sym (refused_stale ops bs u floor kept differ) in absurd (cc)
+  | inr differ ↦ let never = none ∙ sym (refused_stale taken ops bs u floor kept differ) in absurd (cc)
 ]
 
-fits_here : (ops : List Operation) (bs : List Batch) (u : UnsealedBatch) (floor : ℕ) → BatchKept ops (Unsealed u) → None ≡ seal_refusal (state_from ops bs) (unsealed_of ops u) floor → u.base + length u.own.items + 1 ≤ max_leaves
-fits_here ops bs u floor kept none = elim (cases_lt max_leaves (u.base + length u.own.items + 1)) [
-  | inl over ↦ let never = none ∙ sym (refused_full ops bs u floor (u.base + length u.own.items + 1) (stands_here ops bs u floor kept none) refl over) in absurd (cc)
+fits_here : (taken : ℕ) (ops : List Operation) (bs : List Batch) (u : UnsealedBatch) (floor : ℕ) → BatchKept taken ops (Unsealed u) → None ≡ seal_refusal (state_from ops bs) (unsealed_of ops u) floor → u.base + length u.own.items + 1 ≤ max_leaves
+fits_here taken ops bs u floor kept none = elim (cases_lt max_leaves (u.base + length u.own.items + 1)) [
+  | inl over ↦ let never = none ∙ sym (refused_full ops bs u floor (u.base + length u.own.items + 1) (stands_here taken ops bs u floor kept none) refl over) in absurd (cc)
   | inr fits ↦ fits
 ]
 
-pub seals : (ops : List Operation) (bs : List Batch) (u : UnsealedBatch) (floor : ℕ) → BatchKept ops (Unsealed u) → None ≡ seal_refusal (state_from ops bs) (unsealed_of ops u) floor
+pub seals : (taken : ℕ) (ops : List Operation) (bs : List Batch) (u : UnsealedBatch) (floor : ℕ) → BatchKept taken ops (Unsealed u) → None ≡ seal_refusal (state_from ops bs) (unsealed_of ops u) floor
     → (length ops ≡ u.base) × (u.base + length u.own.items + 1 ≤ max_leaves)
-seals ops bs u floor kept none = (stands_here ops bs u floor kept none, fits_here ops bs u floor kept none)
+seals taken ops bs u floor kept none = (stands_here taken ops bs u floor kept none, fits_here taken ops bs u floor kept none)
 
 -- so it is for a batch in its place, whatever list holds the log
-pub seals_at : (ops now : List Operation) (bs : List Batch) (b : ℕ) (u : UnsealedBatch) (floor : ℕ) → now ≡ ops → get_or bs b Gone ≡ Unsealed u → ((q : ℕ) → BatchKept ops (get_or bs q Gone))
+pub seals_at : (taken : ℕ) (ops now : List Operation) (bs : List Batch) (b : ℕ) (u : UnsealedBatch) (floor : ℕ) → now ≡ ops → get_or bs b Gone ≡ Unsealed u → ((q : ℕ) → BatchKept taken ops (get_or bs q Gone))
     → None ≡ seal_refusal (state_from now bs) (unsealed_of now u) floor → (length ops ≡ u.base) × (u.base + length u.own.items + 1 ≤ max_leaves)
-seals_at ops now bs b u floor same e kept none =
-    let P : Batch → Type 0 = BatchKept ops in
-    seals ops bs u floor (subst P e (kept b)) (rw same at none)
+seals_at taken ops now bs b u floor same e kept none =
+    let P : Batch → Type 0 = BatchKept taken ops in
+    seals taken ops bs u floor (subst P e (kept b)) (rw same at none)
 
 -- with the commit it is one longer
 pub length-ended : (own own' : List Operation) (commit : Operation) → own' ≡ own ++ (commit ∷ []) → length own' ≡ length own + 1
@@ -256,33 +263,42 @@ seal_lost limit ops bs b metadata floor u x refusal e short why =
 
 pub seal_done : (limit : ℕ) (ops : List Operation) (bs : List Batch) (b : ℕ) (metadata : Option (List ℕ)) (floor : ℕ) (u : UnsealedBatch) (x : Batch) (size : ℕ) (c : SealedBatch) → get_or bs b Gone ≡ Unsealed u
     → metadata_length metadata ≤ limit → None ≡ seal_refusal (state_from ops bs) (unsealed_of ops u) floor → length ops ≡ u.base
-    → size ≡ u.base + length c.own.items → c.boundary ≡ u.base → c.shared ≡ u.base → c.own.items ≡ u.own.items ++ (Commit metadata floor ∷ []) → c.root ≡ root_of_list (ops ++ c.own.items)
+    → size ≡ u.base + length c.own.items → c.boundary ≡ u.base → c.shared ≡ u.base → c.own.items ≡ u.own.items ++ (Commit metadata floor ∷ []) → c.root ≡ root_of_list (ops ++ c.own.items) → c.holds ≡ 1
     → (answer.Sealed size c.root, state_from ops (slice_set (slice_set bs b x) b (Sealed c))) ≡ seal limit (state_from ops bs) b metadata floor (batch_at (state_from ops bs) b)
-seal_done limit ops bs b metadata floor u x size c e short none at_end count boundary shared own root =
+seal_done limit ops bs b metadata floor u x size c e short none at_end count boundary shared own root holds =
     let front : take u.base ops ≡ ops = rw (sym at_end) (take-length ops) in
     let long : length (ops ++ (u.own.items ++ (Commit metadata floor ∷ []))) ≡ size = rw (sym own) (omega (arith, at_end, count, length-append ops c.own.items)) in
-    rw (batch_at-from ops bs b, e, lt_false limit (metadata_length metadata) short, sym none, from-sets ops bs b x (Sealed c), boundary, shared, root, own, front, long) refl
+    let sets : floor_of meaning (ops ++ (u.own.items ++ (Commit metadata floor ∷ []))) ≡ floor = rw (← front) (floor-sealed meaning (λ v. Unit {0}) (Commit metadata floor) (unsealed_of ops u) (Commit metadata floor) floor refl) in
+    rw (batch_at-from ops bs b, e, lt_false limit (metadata_length metadata) short, sym none, from-sets ops bs b x (Sealed c), boundary, shared, root, own, holds, front, long, sets) refl
 
-pub kept_sealed : (ops : List Operation) (bs : List Batch) (b : ℕ) (u : UnsealedBatch) (x : Batch) (commit : Operation) (c : SealedBatch) → ((q : ℕ) → BatchKept ops (get_or bs q Gone)) → length ops ≡ u.base
-    → u.base + length u.own.items + 1 ≤ max_leaves → c.boundary ≡ u.base → c.shared ≡ u.base → c.own.items ≡ u.own.items ++ (commit ∷ []) → c.root ≡ root_of_list (ops ++ c.own.items)
-    → (q : ℕ) → BatchKept ops (get_or (slice_set (slice_set bs b x) b (Sealed c)) q Gone)
-kept_sealed ops bs b u x commit c kept at_end fits boundary shared own root =
-    let P : Batch → Type 0 = BatchKept ops in
+pub kept_sealed : (taken : ℕ) (ops : List Operation) (bs : List Batch) (b : ℕ) (u : UnsealedBatch) (x : Batch) (commit : Operation) (c : SealedBatch) → ((q : ℕ) → BatchKept taken ops (get_or bs q Gone)) → length ops ≡ u.base
+    → u.base + length u.own.items + 1 ≤ max_leaves → c.boundary ≡ u.base → c.shared ≡ u.base → c.own.items ≡ u.own.items ++ (commit ∷ []) → c.root ≡ root_of_list (ops ++ c.own.items) → 0 < taken → c.holds ≡ 1
+    → (q : ℕ) → BatchKept taken ops (get_or (slice_set (slice_set bs b x) b (Sealed c)) q Gone)
+kept_sealed taken ops bs b u x commit c kept at_end fits boundary shared own root some holds =
+    let P : Batch → Type 0 = BatchKept taken ops in
     let front : take c.shared ops ≡ ops = rw (shared, sym at_end) (take-length ops) in
     let l : length c.own.items ≡ length u.own.items + 1 = ap length own ∙ length-append u.own.items (commit ∷ []) in
-    let this : BatchKept ops (Sealed c) = (omega (arith, boundary, shared), omega (arith, shared, at_end), omega (arith, shared, l, fits), rw front root) in
+    let this : BatchKept taken ops (Sealed c) = (omega (arith, boundary, shared), omega (arith, shared, at_end), omega (arith, shared, l, fits), rw front root, omega (arith, holds, some)) in
     rw (set_set bs b x (Sealed c)) (set_keeps P bs b (Sealed c) kept this)
 
--- the list that stands at a place of another
-pub stood_on : (s : State Operation) (list : List Operation) (n : ℕ) → stands_at meaning s list n ≡ true → s.ops ≡ take n list
-stood_on s list n e = (lists_decide s.ops (take n list)).0 e
+-- ---- holds
 
--- a list that stands within another isn't longer
-pub shorter : (s : State Operation) (list : List Operation) (n : ℕ) → stands_at meaning s list n ≡ true → length s.ops ≤ length list
-shorter s list n e = let same : s.ops ≡ take n list = (lists_decide s.ops (take n list)).0 e in rw same (omega (arith, length-take n list))
+pub hold_done : (ops : List Operation) (bs : List Batch) (b : ℕ) (c c' : SealedBatch) → get_or bs b Gone ≡ Sealed c → 0 < c.holds → c' ≡ record c { holds = c.holds + 1 }
+    → (answer.Done, state_from ops (slice_set bs b (Sealed c'))) ≡ hold (state_from ops bs) b (batch_at (state_from ops bs) b)
+hold_done ops bs b c c' e held more =
+    rw (batch_at-from ops bs b, e, lt_true 0 c.holds held, more) (ap (λ s. (answer.Done, s)) (from-set ops bs b (Sealed (record c { holds = c.holds + 1 }))))
+
+pub release_done : (ops : List Operation) (bs : List Batch) (b : ℕ) (c c' : SealedBatch) → get_or bs b Gone ≡ Sealed c → 0 < c.holds → c' ≡ record c { holds = c.holds - 1 }
+    → (answer.Done, state_from ops (slice_set bs b (Sealed c'))) ≡ release (state_from ops bs) b (batch_at (state_from ops bs) b)
+release_done ops bs b c c' e held less =
+    rw (batch_at-from ops bs b, e, lt_true 0 c.holds held, less) (ap (λ s. (answer.Done, s)) (from-set ops bs b (Sealed (record c { holds = c.holds - 1 }))))
+
+pub release_lost : (ops : List Operation) (bs : List Batch) (b : ℕ) (u : UnsealedBatch) (x : Batch) → get_or bs b Gone ≡ Unsealed u
+    → (answer.Done, state_from ops (slice_set (slice_set bs b x) b Gone)) ≡ release (state_from ops bs) b (batch_at (state_from ops bs) b)
+release_lost ops bs b u x e = rw (batch_at-from ops bs b, e) (ap (λ s. (answer.Done, s)) (from-sets ops bs b x Gone))
 
 -- the value that ends a list is that of its last operation
-pub last_value-last : (ops : List Operation) (d : Operation) → 0 < length ops → last_value ops ≡ meaning.value (get_or ops (length ops - 1) d)
+pub last_value-last : (ops : List Operation) (d : Operation) → 0 < length ops → last_value meaning ops ≡ meaning.value (get_or ops (length ops - 1) d)
 last_value-last [] d lt = absurd (omega arith)
 last_value-last (op ∷ []) d lt = refl
 last_value-last (op ∷ next ∷ ops) d lt =

@@ -2,19 +2,19 @@
 use Rattle.std.proofs.Common.{◌≡◌, ◌⊎◌, inl, inr, ℕ, zero, suc, ◌+◌, ◌<◌, ◌≤◌, Bool, true, false, cond, List, [], ◌∷◌, ◌++◌, length, take, get_or, Option, Some, None, refl, ap, subst, arith}
 use Rattle.std.specs.Prelude.{nat_lt, nat_le, slice_get, unwrap_or}
 use Rattle.std.specs.List.Sorted.{IsNonDecreasingBy}
-use Rattle.log_model.specs.Batches.{Batch, UnsealedBatch, Unsealed, Sealed, Gone, size_of}
-use Rattle.log_model.specs.Machine.{State, max_leaves, batch_at, with_batch, stands_at}
-use Rattle.twins.specs.Operation.{Operation, meaning}
-use Rattle.op_codec.specs.declared.keyless.Operation.TheVariants.{Commit}
+use Rattle.log_model.specs.Batches.{Batch, UnsealedBatch, Unsealed, Sealed, Gone, size_of, is_held}
+use Rattle.log_model.specs.Machine.{State, max_leaves, batch_at, with_batch}
+use Rattle.log_model.specs.Reach.{may_apply}
+use Rattle.log_model.specs.ReachLaws.{not_longer}
+use Rattle.twins.specs.Operation.{Operation, meaning, operation_decide}
 use Rattle.twins.specs.declared.command.Command.{Command}
 use Rattle.twins.specs.declared.command.Command.TheVariants as command
 use Rattle.twins.specs.declared.command.Answer.TheVariants as answer
 use Rattle.twins.specs.declared.command.Refusal.{Refusal}
 use Rattle.twins.specs.declared.command.Reply.{Reply}
-use Rattle.twins.specs.Step.{Outcome, step, reply, append_to, seal_refusal, metadata_length, sealed_or_lost, seal, apply}
+use Rattle.twins.specs.Step.{Outcome, step, reply, append_to, seal_refusal, metadata_length, sealed_or_lost, seal, apply, hold, release}
 use Rattle.twins.specs.Trace.{trace, replies_from, state_after, fresh_state}
 use Rattle.twins.specs.Laws.{SizesNeverFall, TellsList, RepliesTellLists, RunsContinue, RefusalsKeep}
-use Rattle.twins.proofs.Representation.{shorter}
 
 -- what holds of both choices holds of the one that a test makes
 pub either : (P : Outcome → Type 0) (b : Bool) (x y : Outcome) → (b ≡ true → P x) → (b ≡ false → P y) → P (cond b x y)
@@ -31,25 +31,38 @@ append_grows limit s b v (Unsealed u) = either (Grows s) (nat_lt limit (length v
 append_grows limit s b v (Sealed c) = omega arith
 append_grows limit s b v Gone = omega arith
 
-ended_grows : (s : State Operation) (b : ℕ) (u : UnsealedBatch Operation) (commit : Operation) (r : Option Refusal) → Grows s (sealed_or_lost s b u commit r)
-ended_grows s b u commit (Some refusal) = omega arith
-ended_grows s b u commit None = omega arith
+ended_grows : (s : State Operation) (b : ℕ) (u : UnsealedBatch Operation) (metadata : Option (List ℕ)) (floor : ℕ) (r : Option Refusal) → Grows s (sealed_or_lost s b u metadata floor r)
+ended_grows s b u metadata floor (Some refusal) = omega arith
+ended_grows s b u metadata floor None = omega arith
 
 seal_grows : (limit : ℕ) (s : State Operation) (b : ℕ) (metadata : Option (List ℕ)) (floor : ℕ) (x : Batch Operation) → Grows s (seal limit s b metadata floor x)
-seal_grows limit s b metadata floor (Unsealed u) = either (Grows s) (nat_lt limit (metadata_length metadata)) _ _ (λ e. omega arith) (λ e. ended_grows s b u (Commit metadata floor) (seal_refusal s u floor))
+seal_grows limit s b metadata floor (Unsealed u) = either (Grows s) (nat_lt limit (metadata_length metadata)) _ _ (λ e. omega arith) (λ e. ended_grows s b u metadata floor (seal_refusal s u floor))
 seal_grows limit s b metadata floor (Sealed c) = omega arith
 seal_grows limit s b metadata floor Gone = omega arith
 
 apply_grows : (s : State Operation) (b : ℕ) (x : Batch Operation) → Grows s (apply s b x)
-apply_grows s b (Sealed c) = either (Grows s) (stands_at meaning s c.list c.boundary) _ _ (λ e. shorter s c.list c.boundary e) (λ e. omega arith)
+apply_grows s b (Sealed c) = either (Grows s) (is_held c) _ _ (λ h. either (Grows s) (may_apply meaning s c) _ _ (λ e. not_longer meaning operation_decide s c.list c.boundary c.tips e) (λ e. omega arith)) (λ h. omega arith)
 apply_grows s b (Unsealed u) = omega arith
 apply_grows s b Gone = omega arith
+
+hold_grows : (s : State Operation) (b : ℕ) (x : Batch Operation) → Grows s (hold s b x)
+hold_grows s b (Sealed c) = either (Grows s) (is_held c) _ _ (λ h. omega arith) (λ h. omega arith)
+hold_grows s b (Unsealed u) = omega arith
+hold_grows s b Gone = omega arith
+
+release_grows : (s : State Operation) (b : ℕ) (x : Batch Operation) → Grows s (release s b x)
+release_grows s b (Sealed c) = either (Grows s) (is_held c) _ _ (λ h. omega arith) (λ h. omega arith)
+release_grows s b (Unsealed u) = omega arith
+release_grows s b Gone = omega arith
 
 step_grows : (limit : ℕ) (s : State Operation) (c : Command) → Grows s (step limit s c)
 step_grows limit s command.New = omega arith
 step_grows limit s (command.Append b v) = append_grows limit s b v (batch_at s b)
 step_grows limit s (command.Seal b metadata floor) = seal_grows limit s b metadata floor (batch_at s b)
 step_grows limit s (command.Apply b) = apply_grows s b (batch_at s b)
+step_grows limit s (command.Hold b) = hold_grows s b (batch_at s b)
+step_grows limit s (command.Release b) = release_grows s b (batch_at s b)
+step_grows limit s command.Snapshot = omega arith
 step_grows limit s command.Size = omega arith
 step_grows limit s command.Metadata = omega arith
 
@@ -112,7 +125,7 @@ append_keeps limit s b v c (Sealed d) = λ r is. inl refl
 append_keeps limit s b v c Gone = λ r is. inl refl
 
 ended_keeps : (s : State Operation) (b : ℕ) (metadata : Option (List ℕ)) (floor : ℕ) (u : UnsealedBatch Operation) (why : Option Refusal)
-    → Keeps s (command.Seal b metadata floor) (sealed_or_lost s b u (Commit metadata floor) why)
+    → Keeps s (command.Seal b metadata floor) (sealed_or_lost s b u metadata floor why)
 ended_keeps s b metadata floor u (Some refusal) = λ r is. inr (b, metadata, floor, refl, refl)
 ended_keeps s b metadata floor u None = λ r is. absurd (cc)
 
@@ -123,14 +136,27 @@ seal_keeps limit s b metadata floor (Sealed c) = λ r is. inl refl
 seal_keeps limit s b metadata floor Gone = λ r is. inl refl
 
 apply_keeps : (s : State Operation) (b : ℕ) (c : Command) (x : Batch Operation) → Keeps s c (apply s b x)
-apply_keeps s b c (Sealed d) = either (Keeps s c) (stands_at meaning s d.list d.boundary) _ _ (λ e r is. absurd (cc)) (λ e r is. inl refl)
+apply_keeps s b c (Sealed d) = either (Keeps s c) (is_held d) _ _ (λ h. either (Keeps s c) (may_apply meaning s d) _ _ (λ e r is. absurd (cc)) (λ e r is. inl refl)) (λ h r is. inl refl)
 apply_keeps s b c (Unsealed u) = λ r is. inl refl
 apply_keeps s b c Gone = λ r is. inl refl
+
+hold_keeps : (s : State Operation) (b : ℕ) (c : Command) (x : Batch Operation) → Keeps s c (hold s b x)
+hold_keeps s b c (Sealed d) = either (Keeps s c) (is_held d) _ _ (λ h r is. absurd (cc)) (λ h r is. inl refl)
+hold_keeps s b c (Unsealed u) = λ r is. inl refl
+hold_keeps s b c Gone = λ r is. inl refl
+
+release_keeps : (s : State Operation) (b : ℕ) (c : Command) (x : Batch Operation) → Keeps s c (release s b x)
+release_keeps s b c (Sealed d) = either (Keeps s c) (is_held d) _ _ (λ h r is. absurd (cc)) (λ h r is. inl refl)
+release_keeps s b c (Unsealed u) = λ r is. absurd (cc)
+release_keeps s b c Gone = λ r is. inl refl
 
 pub keep : RefusalsKeep
 keep limit s command.New r is = absurd (cc)
 keep limit s (command.Append b v) r is = append_keeps limit s b v (command.Append b v) (batch_at s b) r is
 keep limit s (command.Seal b metadata floor) r is = seal_keeps limit s b metadata floor (batch_at s b) r is
 keep limit s (command.Apply b) r is = apply_keeps s b (command.Apply b) (batch_at s b) r is
+keep limit s (command.Hold b) r is = hold_keeps s b (command.Hold b) (batch_at s b) r is
+keep limit s (command.Release b) r is = release_keeps s b (command.Release b) (batch_at s b) r is
+keep limit s command.Snapshot r is = absurd (cc)
 keep limit s command.Size r is = absurd (cc)
 keep limit s command.Metadata r is = absurd (cc)

@@ -2,7 +2,7 @@
 use Rattle.std.specs.Prelude.{◌≡◌, ◌⊎◌, ℕ, ◌/◌, ◌%◌, ◌^◌, ◌<◌, List, [], ◌∷◌, Option, Some, None, codes, decimal}
 use Rattle.hex.specs.Hex.{hex_digit_value}
 use Rattle.twins.specs.declared.command.Command.{Command}
-use Rattle.twins.specs.declared.command.Command.TheVariants.{New, Append, Seal, Apply, Size, Metadata}
+use Rattle.twins.specs.declared.command.Command.TheVariants.{New, Append, Seal, Apply, Hold, Release, Snapshot, Size, Metadata}
 use Rattle.twins.specs.Lines.{lines_of, words_of}
 
 -- each byte stands in two digits, of either case, the high half first
@@ -34,6 +34,9 @@ WordsSay words New = words ≡ codes "new" ∷ []
 WordsSay words (Append b value) = (number : List ℕ) × (text : List ℕ) × (words ≡ codes "append" ∷ number ∷ text ∷ []) × IsNumberWord number b × IsBytesWord text value
 WordsSay words (Seal b metadata floor) = (number : List ℕ) × (text : List ℕ) × (last : List ℕ) × (words ≡ codes "seal" ∷ number ∷ text ∷ last ∷ []) × IsNumberWord number b × IsMetadataWord text metadata × IsNumberWord last floor
 WordsSay words (Apply b) = (number : List ℕ) × (words ≡ codes "apply" ∷ number ∷ []) × IsNumberWord number b
+WordsSay words (Hold b) = (number : List ℕ) × (words ≡ codes "hold" ∷ number ∷ []) × IsNumberWord number b
+WordsSay words (Release b) = (number : List ℕ) × (words ≡ codes "release" ∷ number ∷ []) × IsNumberWord number b
+WordsSay words Snapshot = words ≡ codes "snapshot" ∷ []
 WordsSay words Size = words ≡ codes "size" ∷ []
 WordsSay words Metadata = words ≡ codes "metadata" ∷ []
 

@@ -1,5 +1,5 @@
 -- The operations of the run: without keys, their values of any length.
-use Rattle.std.specs.Prelude.{◌≡◌, ℕ, List, [], ◌∷◌, Option, None, nat_eq}
+use Rattle.std.specs.Prelude.{◌≡◌, ℕ, List, nat_eq}
 use Rattle.std.specs.Bool.{Decides}
 use Rattle.std.specs.Cmp.Lexicographic.{pointwise}
 use Rattle.codec_base.specs.Parts.{byte_list}
@@ -21,12 +21,6 @@ Operation = keyless.Operation Mmr (VariableEncoding (List ℕ)) (List ℕ) Lengt
 -- Their bytes, floors and values; and whether two are one.
 abbrev pub meaning : Meaning Operation (List ℕ)
 meaning = op_codec.keyless_meaning (pointwise nat_eq) (variable_spelling byte_list)
-
--- The value of the operation that ends a list; of a commit, its metadata.
-abbrev pub last_value : List Operation → Option (List ℕ)
-last_value [] = None
-last_value (op ∷ []) = meaning.value op
-last_value (op ∷ next ∷ ops) = last_value (next ∷ ops)
 
 pub operation_decide : (a b : Operation) → Decides (meaning.same a b) (a ≡ b)
 operation_decide = op_codec.operation_decide (pointwise nat_eq) bytes_decide

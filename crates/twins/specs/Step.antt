@@ -2,10 +2,11 @@
 use Rattle.std.specs.Prelude.{ℕ, ◌+◌, nat_lt, nat_le, List, length, Option, Some, None, if◌then◌else◌}
 use Rattle.tree_shape.specs.declared.sha256.Sha256Digest.{Sha256Digest}
 use Rattle.tree_shape.specs.Mmr.{mmr}
-use Rattle.log_model.specs.Operations.{floor_of, root_of}
-use Rattle.log_model.specs.Batches.{Batch, UnsealedBatch, Unsealed, Sealed, Gone, size_of, appended, sealed, effective_boundary}
-use Rattle.log_model.specs.Machine.{State, max_leaves, batch_at, with_batch, begun, applied, stands_at}
-use Rattle.twins.specs.Operation.{Operation, meaning, last_value, sha}
+use Rattle.log_model.specs.Operations.{floor_of, last_value, root_of}
+use Rattle.log_model.specs.Batches.{Batch, UnsealedBatch, SealedBatch, Unsealed, Sealed, Gone, size_of, appended, is_held, with_hold, without_hold}
+use Rattle.log_model.specs.Machine.{State, max_leaves, batch_at, with_batch, begun, snapshot_taken, applied}
+use Rattle.log_model.specs.Reach.{floor_below, may_seal, may_apply, sealed_here}
+use Rattle.twins.specs.Operation.{Operation, meaning, sha}
 use Rattle.op_codec.specs.declared.keyless.Operation.TheVariants.{Append, Commit}
 use Rattle.twins.specs.declared.command.Command.{Command}
 use Rattle.twins.specs.declared.command.Command.TheVariants as command
@@ -44,12 +45,12 @@ append_to limit s b v (Unsealed u) =
 append_to limit s b v (Sealed c) = refused s (NoBatch b)
 append_to limit s b v Gone = refused s (NoBatch b)
 
--- Why a seal of this floor loses an unsealed batch, if it does: the list isn't the one on which the batch stands, or it would be too long, or the floor falls or is past the commit.
+-- Why a seal of this floor loses an unsealed batch, if it does: the batch can't be sealed on the present list, or it would be too long, or the floor falls below the one that it builds on, or is past the commit.
 abbrev pub seal_refusal : State Operation → UnsealedBatch Operation → ℕ → Option Refusal
 seal_refusal s u floor =
-    if stands_at meaning s u.list (effective_boundary u) then
+    if may_seal meaning s u then
     (if nat_lt max_leaves (size_of u + 1) then Some (LocationOverflow (size_of u + 1))
-    else (if nat_lt floor (floor_of meaning s.ops) then Some (FloorRegressed floor (floor_of meaning s.ops))
+    else (if nat_lt floor (floor_below meaning s u) then Some (FloorRegressed floor (floor_below meaning s u))
     else (if nat_lt (size_of u) floor then Some (FloorBeyondSize floor (size_of u))
     else None)))
     else Some StaleBatch
@@ -59,35 +60,60 @@ abbrev pub metadata_length : Option (List ℕ) → ℕ
 metadata_length None = 0
 metadata_length (Some metadata) = length metadata
 
--- The batch is ended by this commit, or lost.
-abbrev pub sealed_or_lost : State Operation → ℕ → UnsealedBatch Operation → Operation → Option Refusal → Outcome
-sealed_or_lost s b u commit (Some refusal) = lost s b refusal
-sealed_or_lost s b u commit None = (answer.Sealed (length (sealed u commit).list) (root_of_list (sealed u commit).list), with_batch s b (Sealed (sealed u commit)))
+-- The answer of a batch that was sealed, and the state with it.
+abbrev pub done_sealing : State Operation → ℕ → SealedBatch Operation → Outcome
+done_sealing s b c = (answer.Sealed (length c.list) (root_of_list c.list), with_batch s b (Sealed c))
+
+-- The batch is ended by a commit with this metadata and this floor, or lost.
+abbrev pub sealed_or_lost : State Operation → ℕ → UnsealedBatch Operation → Option (List ℕ) → ℕ → Option Refusal → Outcome
+sealed_or_lost s b u metadata floor (Some refusal) = lost s b refusal
+sealed_or_lost s b u metadata floor None = done_sealing s b (sealed_here s u (Commit metadata floor) floor)
 
 -- A commit ends batch b, where nothing refuses it. Metadata that is too long leaves the batch; each other refusal loses it.
 abbrev pub seal : ℕ → State Operation → ℕ → Option (List ℕ) → ℕ → Batch Operation → Outcome
 seal limit s b metadata floor (Unsealed u) =
     if nat_lt limit (metadata_length metadata) then refused s (ValueTooLong (metadata_length metadata))
-    else sealed_or_lost s b u (Commit metadata floor) (seal_refusal s u floor)
+    else sealed_or_lost s b u metadata floor (seal_refusal s u floor)
 seal limit s b metadata floor (Sealed c) = refused s (NoBatch b)
 seal limit s b metadata floor Gone = refused s (NoBatch b)
 
--- The list becomes that of batch b where it is the first of that list, up to the boundary.
+-- The list becomes that of batch b, which is held, where it may be applied.
 abbrev pub apply : State Operation → ℕ → Batch Operation → Outcome
 apply s b (Sealed c) =
-    if stands_at meaning s c.list c.boundary then (answer.Applied, applied s c)
-    else refused s StaleBatch
+    if is_held c then
+    (if may_apply meaning s c then (answer.Applied, applied s c)
+    else refused s StaleBatch)
+    else refused s (NoBatch b)
 apply s b (Unsealed u) = refused s (NoBatch b)
 apply s b Gone = refused s (NoBatch b)
 
+-- Batch b, which is held, is held once more.
+abbrev pub hold : State Operation → ℕ → Batch Operation → Outcome
+hold s b (Sealed c) =
+    if is_held c then (answer.Done, with_batch s b (Sealed (with_hold c)))
+    else refused s (NoBatch b)
+hold s b (Unsealed u) = refused s (NoBatch b)
+hold s b Gone = refused s (NoBatch b)
+
+-- Batch b, which is held, is held once less; one that is unsealed is given up.
+abbrev pub release : State Operation → ℕ → Batch Operation → Outcome
+release s b (Sealed c) =
+    if is_held c then (answer.Done, with_batch s b (Sealed (without_hold c)))
+    else refused s (NoBatch b)
+release s b (Unsealed u) = (answer.Done, with_batch s b Gone)
+release s b Gone = refused s (NoBatch b)
+
 -- What a command answers, and the state that it leaves, where values have at most this length.
 abbrev pub step : ℕ → State Operation → Command → Outcome
-step limit s command.New = (answer.Batch (length s.batches), begun s)
+step limit s command.New = (answer.Batch (length s.batches), begun s None s.ops)
 step limit s (command.Append b v) = append_to limit s b v (batch_at s b)
 step limit s (command.Seal b metadata floor) = seal limit s b metadata floor (batch_at s b)
 step limit s (command.Apply b) = apply s b (batch_at s b)
+step limit s (command.Hold b) = hold s b (batch_at s b)
+step limit s (command.Release b) = release s b (batch_at s b)
+step limit s command.Snapshot = (answer.Batch (length s.batches), snapshot_taken s (floor_of meaning s.ops))
 step limit s command.Size = (answer.Size (length s.ops) 0 (floor_of meaning s.ops), s)
-step limit s command.Metadata = (answer.Metadata (last_value s.ops), s)
+step limit s command.Metadata = (answer.Metadata (last_value meaning s.ops), s)
 
 -- The reply: the answer, with the size and the root of the list after the step.
 abbrev pub reply : Outcome → Reply

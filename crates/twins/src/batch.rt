@@ -17,6 +17,8 @@ pub struct SealedBatch {
     pub own: Vec<Operation>,
     /// The root of its list.
     pub root: Sha256Digest,
+    /// How often the caller holds it.
+    pub holds: u64,
 }
 
 /// A batch by its phase.

@@ -12,6 +12,12 @@ pub enum Command {
     Seal(u64, Option<Bytes>, u64),
     /// Makes the list of a sealed batch the list.
     Apply(u64),
+    /// Holds a sealed batch once more.
+    Hold(u64),
+    /// Holds a sealed batch once less, or gives up an unsealed one.
+    Release(u64),
+    /// Makes a sealed batch of the present state.
+    Snapshot,
     /// Asks for the size.
     Size,
     /// Asks for the metadata of the last commit.
@@ -42,7 +48,7 @@ pub enum Answer {
     Opened { size: u64, start: u64 },
     /// The number of a new batch.
     Batch(u64),
-    /// A value was added.
+    /// A value was added, a batch held, or one released.
     Done,
     /// The size and the root of a sealed batch.
     Sealed { size: u64, root: Sha256Digest },

@@ -1,11 +1,12 @@
-ghost use Rattle.std.specs.Prelude.{◌≡◌, ◌≤◌, ◌<◌, ◌+◌, ◌^◌, ◌++◌, [], ◌∷◌, List, length, IfOk, OnOk, OnErr, IsOkUnless};
+ghost use Rattle.std.specs.Prelude.{◌≡◌, ◌≤◌, ◌<◌, ◌+◌, ◌-◌, ◌^◌, ◌++◌, [], ◌∷◌, List, length, IfOk, OnOk, OnErr, IsOkUnless};
 ghost use Rattle.log_model.specs.Machine.{batch_at, max_leaves};
-ghost use Rattle.twins.specs.Step.{append_to, seal_refusal, metadata_length, seal, apply, step, reply, root_of_list};
+ghost use Rattle.twins.specs.Step.{append_to, seal_refusal, metadata_length, seal, apply, hold, release, step, reply, root_of_list};
 ghost use Rattle.twins.specs.Trace.{fresh_state};
-ghost use Rattle.twins.specs.StateOf.{BatchKept, IsKept, unsealed_of, state_from, state_of};
+ghost use Rattle.twins.specs.StateOf.{BatchKept, IsKept, HasRoom, unsealed_of, state_from, state_of};
 ghost use Rattle.op_codec.specs.Keyless.{value_of};
 ghost use Rattle.op_codec.specs.declared.keyless.Operation.TheVariants.{Commit};
-ghost use Rattle.twins.specs.Operation.{last_value};
+ghost use Rattle.log_model.specs.Operations.{last_value};
+ghost use Rattle.twins.specs.Operation.{meaning};
 ghost use Rattle.twins.specs.declared.batch.Batch.{Batch};
 ghost use Rattle.twins.specs.declared.batch.Batch.TheVariants.{Unsealed};
 
@@ -26,6 +27,8 @@ pub struct Machine {
     pub root: Sha256Digest,
     pub batches: Vec<Batch>,
     pub limit: u64,
+    /// How many steps were taken.
+    pub taken: u64,
 }
 
 /// The root of a list of operations that stands in two parts.
@@ -43,7 +46,7 @@ fn root_of(
 
 /// Why a seal of this floor loses a batch on the log, if it does.
 fn seal_refusal(ops: &[Operation], batch: &UnsealedBatch, floor: u64) -> Option<Refusal>
-    requires { BatchKept ops.now (Unsealed batch.now) }
+    requires { (batch.now.base ≤ length ops.now) × (batch.now.base + length batch.now.own.items ≤ max_leaves) }
     ensures { (bs : List Batch) → result ≡ seal_refusal (state_from ops.now bs) (unsealed_of ops.now batch.now) floor }
 {
     if ops.len() as u64 != batch.base {
@@ -86,7 +89,7 @@ fn copied_value(op: &Operation) -> Result<Option<Bytes>, CodecError>
 
 /// The value of the operation that ends the log; of a commit, its metadata.
 fn last_value(ops: &[Operation]) -> Result<Option<Bytes>, CodecError>
-    ensures value { IfOk result (λ v. v ≡ last_value ops.now) }
+    ensures value { IfOk result (λ v. v ≡ last_value meaning ops.now) }
     ensures memory { IsOkUnless result CodecError.Memory }
 {
     match ops {
@@ -108,6 +111,7 @@ fn ended(
     ensures shared { IfOk result (λ c. c.shared ≡ batch.old.base) }
     ensures own { IfOk result (λ c. c.own.items ≡ batch.old.own.items ++ Commit metadata.now floor ∷ []) }
     ensures root { IfOk result (λ c. c.root ≡ root_of_list (ops.now ++ c.own.items)) }
+    ensures holds { IfOk result (λ c. c.holds ≡ 1) }
     ensures memory { IsOkUnless result CodecError.Memory }
 {
     let commit = keyless::Operation::Commit(metadata.duplicate()?, Location::new(floor));
@@ -118,6 +122,7 @@ fn ended(
         shared: batch.base,
         own: replace(&mut batch.own, Vec::new(alloc)),
         root,
+        holds: 1,
     })
 }
 
@@ -127,6 +132,7 @@ impl Machine {
         ensures opened { IfOk result (λ m. state_of m ≡ fresh_state) }
         ensures kept { IfOk result IsKept }
         ensures limit { IfOk result (λ m. m.limit ≡ limit) }
+        ensures taken { IfOk result (λ m. m.taken ≡ 0) }
         ensures memory { IsOkUnless result CodecError.Memory }
     {
         let mut ops = Vec::new(alloc);
@@ -137,6 +143,7 @@ impl Machine {
             root,
             batches: Vec::new(alloc),
             limit,
+            taken: 0,
         })
     }
 
@@ -146,6 +153,7 @@ impl Machine {
         ensures ok { IfOk result (λ a. (a, state_of self.new) ≡ step self.old.limit (state_of self.old) Command.New) }
         ensures kept { OnOk result (IsKept self.new) }
         ensures limit { self.new.limit ≡ self.old.limit }
+        ensures taken { self.new.taken ≡ self.old.taken }
         ensures memory { IsOkUnless result CodecError.Memory }
     {
         let number = self.batches.len() as u64;
@@ -162,6 +170,7 @@ impl Machine {
         ensures ok { IfOk result (λ a. (a, state_of self.new) ≡ append_to self.old.limit (state_of self.old) b value.now (batch_at (state_of self.old) b)) }
         ensures kept { OnOk result (IsKept self.new) }
         ensures limit { self.new.limit ≡ self.old.limit }
+        ensures taken { self.new.taken ≡ self.old.taken }
         ensures memory { IsOkUnless result CodecError.Memory }
     {
         if b >= self.batches.len() as u64 {
@@ -193,10 +202,12 @@ impl Machine {
         metadata: &Option<Bytes>,
         floor: u64,
     ) -> Result<Answer, CodecError>
-        requires { IsKept self.old }
+        requires kept { IsKept self.old }
+        requires some { 0 < self.old.taken }
         ensures ok { IfOk result (λ a. (a, state_of self.new) ≡ seal self.old.limit (state_of self.old) b metadata.now floor (batch_at (state_of self.old) b)) }
         ensures kept { OnOk result (IsKept self.new) }
         ensures limit { self.new.limit ≡ self.old.limit }
+        ensures taken { self.new.taken ≡ self.old.taken }
         ensures memory { IsOkUnless result CodecError.Memory }
     {
         if b >= self.batches.len() as u64 {
@@ -228,6 +239,7 @@ impl Machine {
         ensures ok { IfOk result (λ a. (a, state_of self.new) ≡ apply (state_of self.old) b (batch_at (state_of self.old) b)) }
         ensures kept { OnOk result (IsKept self.new) }
         ensures limit { self.new.limit ≡ self.old.limit }
+        ensures taken { self.new.taken ≡ self.old.taken }
         ensures memory { IsOkUnless result CodecError.Memory }
     {
         if b >= self.batches.len() as u64 {
@@ -235,6 +247,9 @@ impl Machine {
         }
         match &mut self.batches[b as usize] {
             Batch::Sealed(batch) => {
+                if batch.holds == 0 {
+                    return Ok(Answer::Refused(Refusal::NoBatch(b)));
+                }
                 if self.ops.len() as u64 != batch.boundary {
                     return Ok(Answer::Refused(Refusal::StaleBatch));
                 }
@@ -247,12 +262,87 @@ impl Machine {
         }
     }
 
+    /// Holds a sealed batch once more.
+    fn hold(&mut self, b: u64) -> Answer
+        requires kept { IsKept self.old }
+        requires room { HasRoom self.old }
+        ensures ok { (result, state_of self.new) ≡ hold (state_of self.old) b (batch_at (state_of self.old) b) }
+        ensures kept { IsKept self.new }
+        ensures limit { self.new.limit ≡ self.old.limit }
+        ensures taken { self.new.taken ≡ self.old.taken }
+    {
+        if b >= self.batches.len() as u64 {
+            return Answer::Refused(Refusal::NoBatch(b));
+        }
+        match &mut self.batches[b as usize] {
+            Batch::Sealed(batch) => {
+                if batch.holds == 0 {
+                    return Answer::Refused(Refusal::NoBatch(b));
+                }
+                batch.holds += 1;
+                Answer::Done
+            }
+            _ => Answer::Refused(Refusal::NoBatch(b)),
+        }
+    }
+
+    /// Holds a sealed batch once less, or gives up an unsealed one.
+    fn release(&mut self, b: u64) -> Answer
+        requires { IsKept self.old }
+        ensures ok { (result, state_of self.new) ≡ release (state_of self.old) b (batch_at (state_of self.old) b) }
+        ensures kept { IsKept self.new }
+        ensures limit { self.new.limit ≡ self.old.limit }
+        ensures taken { self.new.taken ≡ self.old.taken }
+    {
+        if b >= self.batches.len() as u64 {
+            return Answer::Refused(Refusal::NoBatch(b));
+        }
+        match &mut self.batches[b as usize] {
+            Batch::Sealed(batch) => {
+                if batch.holds == 0 {
+                    return Answer::Refused(Refusal::NoBatch(b));
+                }
+                batch.holds -= 1;
+                Answer::Done
+            }
+            Batch::Unsealed(_) => {
+                self.batches[b as usize] = Batch::Gone;
+                Answer::Done
+            }
+            Batch::Gone => Answer::Refused(Refusal::NoBatch(b)),
+        }
+    }
+
+    /// Makes a sealed batch of the whole list.
+    fn snapshot(&mut self, alloc: Global) -> Result<Answer, CodecError>
+        requires kept { IsKept self.old }
+        requires some { 0 < self.old.taken }
+        ensures ok { IfOk result (λ a. (a, state_of self.new) ≡ step self.old.limit (state_of self.old) Command.Snapshot) }
+        ensures kept { OnOk result (IsKept self.new) }
+        ensures limit { self.new.limit ≡ self.old.limit }
+        ensures taken { self.new.taken ≡ self.old.taken }
+        ensures memory { IsOkUnless result CodecError.Memory }
+    {
+        let number = self.batches.len() as u64;
+        let size = self.ops.len() as u64;
+        self.batches.push(Batch::Sealed(SealedBatch {
+            boundary: size,
+            shared: size,
+            own: Vec::new(alloc),
+            root: self.root,
+            holds: 1,
+        }))?;
+        Ok(Answer::Batch(number))
+    }
+
     /// What a command answers.
     fn answer(&mut self, alloc: Global, command: &Command) -> Result<Answer, CodecError>
-        requires { IsKept self.old }
+        requires kept { IsKept self.old }
+        requires room { HasRoom self.old }
         ensures ok { IfOk result (λ a. (a, state_of self.new) ≡ step self.old.limit (state_of self.old) command.now) }
         ensures kept { OnOk result (IsKept self.new) }
         ensures limit { self.new.limit ≡ self.old.limit }
+        ensures taken { self.new.taken ≡ self.old.taken }
         ensures memory { IsOkUnless result CodecError.Memory }
     {
         match command {
@@ -260,6 +350,9 @@ impl Machine {
             Command::Append(b, value) => self.append(*b, value),
             Command::Seal(b, metadata, floor) => self.seal(alloc, *b, metadata, *floor),
             Command::Apply(b) => self.apply(*b),
+            Command::Hold(b) => Ok(self.hold(*b)),
+            Command::Release(b) => Ok(self.release(*b)),
+            Command::Snapshot => self.snapshot(alloc),
             Command::Size => Ok(Answer::Size {
                 size: self.ops.len() as u64,
                 start: 0,
@@ -282,15 +375,31 @@ impl Machine {
         }
     }
 
-    /// One step of the list machine.
+    /// Counts a step.
+    fn count(&mut self)
+        requires kept { IsKept self.old }
+        requires taken { self.old.taken < 2 ^ 64 - 1 }
+        ensures state { state_of self.new ≡ state_of self.old }
+        ensures kept { IsKept self.new }
+        ensures room { HasRoom self.new }
+        ensures limit { self.new.limit ≡ self.old.limit }
+        ensures taken { self.new.taken ≡ self.old.taken + 1 }
+    {
+        self.taken += 1;
+    }
+
+    /// One step of the list machine. No count passes its type's end, since each is at most that of the steps.
     pub fn step(&mut self, alloc: Global, command: &Command) -> Result<Reply, CodecError>
         requires kept { IsKept self.old }
+        requires taken { self.old.taken < 2 ^ 64 - 1 }
         ensures reply { IfOk result (λ r. r ≡ reply (step self.old.limit (state_of self.old) command.now)) }
         ensures state { OnOk result (state_of self.new ≡ (step self.old.limit (state_of self.old) command.now).1) }
         ensures kept { OnOk result (IsKept self.new) }
         ensures limit { self.new.limit ≡ self.old.limit }
+        ensures taken { self.new.taken ≡ self.old.taken + 1 }
         ensures memory { IsOkUnless result CodecError.Memory }
     {
+        self.count();
         let answer = self.answer(alloc, command)?;
         Ok(self.reply(answer))
     }

@@ -147,17 +147,47 @@ fn read_seal(alloc: Global, mut words: Words<'_>) -> Result<Option<Command>, Cod
     }
 }
 
-/// Reads the words behind `apply`.
-fn read_apply(mut words: Words<'_>) -> Option<Command>
-    ensures { IsReading (codes "apply" ∷ words.entry) result }
+/// Reads the words that are left as one number.
+fn only_number(mut words: Words<'_>) -> Option<u64>
+    ensures { MatchOption result ((number : List ℕ) (n : ℕ) → words.entry ≡ number ∷ [] → IsNumberWord number n → ⊥) (λ n. (number : List ℕ) × (words.entry ≡ number ∷ []) × IsNumberWord number n) }
 {
-    let Some(b) = next_number(&mut words) else {
+    let Some(n) = next_number(&mut words) else {
         return None;
     };
     if !words.is_empty() {
         return None;
     }
+    Some(n)
+}
+
+/// Reads the words behind `apply`.
+fn read_apply(words: Words<'_>) -> Option<Command>
+    ensures { IsReading (codes "apply" ∷ words.entry) result }
+{
+    let Some(b) = only_number(words) else {
+        return None;
+    };
     Some(Command::Apply(b))
+}
+
+/// Reads the words behind `hold`.
+fn read_hold(words: Words<'_>) -> Option<Command>
+    ensures { IsReading (codes "hold" ∷ words.entry) result }
+{
+    let Some(b) = only_number(words) else {
+        return None;
+    };
+    Some(Command::Hold(b))
+}
+
+/// Reads the words behind `release`.
+fn read_release(words: Words<'_>) -> Option<Command>
+    ensures { IsReading (codes "release" ∷ words.entry) result }
+{
+    let Some(b) = only_number(words) else {
+        return None;
+    };
+    Some(Command::Release(b))
 }
 
 /// Reads the words behind the first, which says what command it is.
@@ -174,11 +204,20 @@ fn read_words(alloc: Global, name: &[u8], words: Words<'_>) -> Result<Option<Com
     if name == b"apply".as_slice() {
         return Ok(read_apply(words));
     }
+    if name == b"hold".as_slice() {
+        return Ok(read_hold(words));
+    }
+    if name == b"release".as_slice() {
+        return Ok(read_release(words));
+    }
     if !words.is_empty() {
         return Ok(None);
     }
     if name == b"new".as_slice() {
         return Ok(Some(Command::New));
+    }
+    if name == b"snapshot".as_slice() {
+        return Ok(Some(Command::Snapshot));
     }
     if name == b"size".as_slice() {
         return Ok(Some(Command::Size));

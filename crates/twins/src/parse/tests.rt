@@ -7,7 +7,7 @@ use std::test::Fail;
 fn reads_each_command(rt: HostRuntime) -> Result<(), Fail> {
     let alloc = rt.alloc();
     let input =
-        b"new\nappend 18446744073709551615 aBCd\nappend 0 .\nseal 10 - 0\nseal 2 . 18446744073709551615\nseal 3 6D 4\napply 7\nsize\nmetadata";
+        b"new\nappend 18446744073709551615 aBCd\nappend 0 .\nseal 10 - 0\nseal 2 . 18446744073709551615\nseal 3 6D 4\napply 7\nhold 8\nrelease 18446744073709551615\nsnapshot\nsize\nmetadata";
     let commands = parse_commands(alloc, input)?;
     let wanted = vec![in alloc;
         Command::New,
@@ -17,6 +17,9 @@ fn reads_each_command(rt: HostRuntime) -> Result<(), Fail> {
         Command::Seal(2, Some(Bytes::new(alloc)), 18446744073709551615),
         Command::Seal(3, Some(Bytes::from_slice(alloc, b"m")?), 4),
         Command::Apply(7),
+        Command::Hold(8),
+        Command::Release(18446744073709551615),
+        Command::Snapshot,
         Command::Size,
         Command::Metadata,
     ]?;
@@ -41,7 +44,7 @@ fn skips_comments_and_empty_lines(rt: HostRuntime) -> Result<(), Fail> {
 #[test]
 fn names_the_first_bad_line(rt: HostRuntime) -> Result<(), Fail> {
     let alloc = rt.alloc();
-    let cases: [(&[u8], u64); 29] = [
+    let cases: [(&[u8], u64); 33] = [
         (b"size\nfoo\nfoo", 2),
         (b"\n# one\n\nsize\nfoo\n# two\nfoo", 5),
         (b" # new\n", 1),
@@ -71,6 +74,10 @@ fn names_the_first_bad_line(rt: HostRuntime) -> Result<(), Fail> {
         (b"seal 0 - 0 0\n", 1),
         (b"metadata 0\n", 1),
         (b"apply\n", 1),
+        (b"hold\n", 1),
+        (b"hold 0 0\n", 1),
+        (b"release 01\n", 1),
+        (b"snapshot 0\n", 1),
     ];
     for (input, line) in cases {
         let why = parse_commands(alloc, input).err();

@@ -189,6 +189,61 @@ fn floors_and_metadata(rt: HostRuntime) -> Result<(), Fail> {
 }
 
 #[test]
+fn reapply_and_snapshot(rt: HostRuntime) -> Result<(), Fail> {
+    compare(
+        &rt,
+        1048576,
+        b"new\nappend 0 61\nappend 0 62\nseal 0 - 0\napply 0\napply 0\nsnapshot\napply 1\napply 1\n",
+        &[
+            ("opened start=0", 1, COMMIT),
+            ("batch 0", 1, COMMIT),
+            ("ok", 1, COMMIT),
+            ("ok", 1, COMMIT),
+            (
+                "sealed 4 fb4f8178d68d9e1a3f68875e1f2f94fe29bba20b21ae969906f72e70ec26b646",
+                1,
+                COMMIT,
+            ),
+            ("applied", 4, TWO_VALUES),
+            ("refused StaleBatch", 4, TWO_VALUES),
+            ("batch 1", 4, TWO_VALUES),
+            ("applied", 4, TWO_VALUES),
+            ("applied", 4, TWO_VALUES),
+        ],
+    )
+}
+
+#[test]
+fn holds_and_releases(rt: HostRuntime) -> Result<(), Fail> {
+    compare(
+        &rt,
+        1048576,
+        b"new\nappend 0 61\nhold 0\nseal 0 - 0\nhold 0\nrelease 0\nrelease 0\nrelease 0\nhold 0\napply 0\nnew\nrelease 1\nappend 1 61\nrelease 2\n",
+        &[
+            ("opened start=0", 1, COMMIT),
+            ("batch 0", 1, COMMIT),
+            ("ok", 1, COMMIT),
+            ("refused NoBatch 0", 1, COMMIT),
+            (
+                "sealed 3 d5777e06b8b06315af2f1cd14fe605c39b312a2917452f4bae1a7e0f583d2cc6",
+                1,
+                COMMIT,
+            ),
+            ("ok", 1, COMMIT),
+            ("ok", 1, COMMIT),
+            ("ok", 1, COMMIT),
+            ("refused NoBatch 0", 1, COMMIT),
+            ("refused NoBatch 0", 1, COMMIT),
+            ("refused NoBatch 0", 1, COMMIT),
+            ("batch 1", 1, COMMIT),
+            ("ok", 1, COMMIT),
+            ("refused NoBatch 1", 1, COMMIT),
+            ("refused NoBatch 2", 1, COMMIT),
+        ],
+    )
+}
+
+#[test]
 fn value_limit(rt: HostRuntime) -> Result<(), Fail> {
     compare(
         &rt,

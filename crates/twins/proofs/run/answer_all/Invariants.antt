@@ -9,4 +9,5 @@ invariant-loop-command l = record {
   count : length l.replies ≡ l.command-index + 1;
   kept : IsKept l.machine;
   limit : l.machine.limit ≡ l.limit;
+  taken : l.machine.taken ≡ l.command-index;
 }

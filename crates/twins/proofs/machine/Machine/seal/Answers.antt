@@ -12,7 +12,7 @@ pub ended-requires : goal.ended-requires
 ended-requires c =
     let bs = c.args.self.now.batches.items in
     let e = read_at bs c.args.b c.index_mut.result.now (omega arith) c.index_mut.ensures.value ∙ c.in-Unsealed.is in
-    let s = seals_at c.args.self.now.ops.items c.deref.result.now bs c.args.b c.in-Unsealed.batch c.args.floor c.deref.ensures.value e c.requires.batches (c.in_default-seal_refusal.ensures bs) in
+    let s = seals_at c.args.self.now.taken c.args.self.now.ops.items c.deref.result.now bs c.args.b c.in-Unsealed.batch c.args.floor c.deref.ensures.value e c.requires.kept.batches (c.in_default-seal_refusal.ensures bs) in
     rw c.deref-in-Unsealed.ensures.value (omega (arith, s.0, s.1))
 
 pub overflow_add-size : goal.overflow_add-size
@@ -20,7 +20,7 @@ overflow_add-size c =
     let bs = c.args.self.now.batches.items in
     let m = c.in_ok-sealed-in-Unsealed in
     let e = read_at bs c.args.b c.index_mut.result.now (omega arith) c.index_mut.ensures.value ∙ c.in-Unsealed.is in
-    let s = seals_at c.args.self.now.ops.items c.deref.result.now bs c.args.b c.in-Unsealed.batch c.args.floor c.deref.ensures.value e c.requires.batches (c.in_default-seal_refusal.ensures bs) in
+    let s = seals_at c.args.self.now.taken c.args.self.now.ops.items c.deref.result.now bs c.args.b c.in-Unsealed.batch c.args.floor c.deref.ensures.value e c.requires.kept.batches (c.in_default-seal_refusal.ensures bs) in
     let l = length-ended c.in-Unsealed.batch.own.items m.sealed.own.items _ m.ensures.own in
     omega (arith, s.1, l, m.ensures.shared)
 
@@ -30,9 +30,9 @@ returns-in_ok-sealed-in-Unsealed-clause-ok c =
     let bs = c.args.self.now.batches.items in
     let m = c.in_ok-sealed-in-Unsealed in
     let e = read_at bs c.args.b c.index_mut.result.now (omega arith) c.index_mut.ensures.value ∙ c.in-Unsealed.is in
-    let s = seals_at ops c.deref.result.now bs c.args.b c.in-Unsealed.batch c.args.floor c.deref.ensures.value e c.requires.batches (c.in_default-seal_refusal.ensures bs) in
+    let s = seals_at c.args.self.now.taken ops c.deref.result.now bs c.args.b c.in-Unsealed.batch c.args.floor c.deref.ensures.value e c.requires.kept.batches (c.in_default-seal_refusal.ensures bs) in
     seal_done c.args.self.now.limit ops bs c.args.b c.args.metadata.now c.args.floor c.in-Unsealed.batch _ _ m.sealed e (omega arith) (rw c.deref.ensures.value at (c.in_default-seal_refusal.ensures bs)) s.0
-    (omega (arith, m.ensures.shared)) m.ensures.boundary m.ensures.shared m.ensures.own (m.ensures.root ∙ rw c.deref-in-Unsealed.ensures.value refl)
+    (omega (arith, m.ensures.shared)) m.ensures.boundary m.ensures.shared m.ensures.own (m.ensures.root ∙ rw c.deref-in-Unsealed.ensures.value refl) m.ensures.holds
 
 pub returns-in_ok-sealed-in-Unsealed-clause-kept : goal.returns-in_ok-sealed-in-Unsealed-clause-kept
 returns-in_ok-sealed-in-Unsealed-clause-kept c =
@@ -40,9 +40,9 @@ returns-in_ok-sealed-in-Unsealed-clause-kept c =
     let bs = c.args.self.now.batches.items in
     let m = c.in_ok-sealed-in-Unsealed in
     let e = read_at bs c.args.b c.index_mut.result.now (omega arith) c.index_mut.ensures.value ∙ c.in-Unsealed.is in
-    let s = seals_at ops c.deref.result.now bs c.args.b c.in-Unsealed.batch c.args.floor c.deref.ensures.value e c.requires.batches (c.in_default-seal_refusal.ensures bs) in
+    let s = seals_at c.args.self.now.taken ops c.deref.result.now bs c.args.b c.in-Unsealed.batch c.args.floor c.deref.ensures.value e c.requires.kept.batches (c.in_default-seal_refusal.ensures bs) in
     record {
-      few = c.requires.few;
-      root = c.requires.root;
-      batches = kept_sealed ops bs c.args.b c.in-Unsealed.batch _ _ m.sealed c.requires.batches s.0 s.1 m.ensures.boundary m.ensures.shared m.ensures.own (m.ensures.root ∙ rw c.deref-in-Unsealed.ensures.value refl);
+      few = c.requires.kept.few;
+      root = c.requires.kept.root;
+      batches = kept_sealed c.args.self.now.taken ops bs c.args.b c.in-Unsealed.batch _ _ m.sealed c.requires.kept.batches s.0 s.1 m.ensures.boundary m.ensures.shared m.ensures.own (m.ensures.root ∙ rw c.deref-in-Unsealed.ensures.value refl) c.requires.some m.ensures.holds;
     }
