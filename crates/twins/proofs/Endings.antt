@@ -1,14 +1,20 @@
 -- How a program ends whose input was read.
-use Rattle.std.proofs.Common.{◌≡◌, ◌⊎◌, inl, inr, ℕ, List, [], Option, Some, None, refl, sym, arith}
+use Rattle.std.proofs.Common.{◌≡◌, ◌⊎◌, inl, inr, ℕ, List, [], ◌∷◌, ◌++◌, Option, Some, None, refl, sym, subst, arith}
+use Rattle.std.specs.Prelude.{Result, Ok, Err}
+use Rattle.std.specs.Io.KnownBytes.{Appends}
+use Rattle.stream_base.specs.Writing.{Writes}
 use Rattle.std.proofs.lemmas.List.{append-nil}
 use Rattle.twins.specs.declared.command.Command.{Command}
+use Rattle.twins.specs.declared.command.Fault.{Fault}
+use Rattle.twins.specs.declared.command.Fault.TheVariants as fault
+use Rattle.twins.specs.declared.command.Reply.{Reply}
 use Rattle.twins.specs.declared.command.Status.{Status}
 use Rattle.twins.specs.declared.command.Status.TheVariants.{BadWords, BadLine, ReadFault, TooLong, Volume, NotFresh, Done, WriteFault, Memory}
 use Rattle.twins.specs.Text.{text_of}
 use Rattle.twins.specs.Trace.{trace}
 use Rattle.codec_base.specs.Causes.{Rose}
 use Rattle.twins.specs.Lines.{lines_of}
-use Rattle.twins.specs.Outcome.{WritesSoFar, IsValid, IsEarly, IsReadStatus, IsRunStatus, replies_to}
+use Rattle.twins.specs.Outcome.{WritesSoFar, IsValid, IsEarly, IsReadStatus, IsRunStatus, replies_to, fault_status}
 use Rattle.twins.proofs.CommandLines.{bad_clash}
 
 -- nothing was written, for no reply
@@ -16,6 +22,24 @@ pub wrote_nothing : (w : Option (List ℕ)) (faults : ℕ) (commands : List Comm
 unfolding text_of trace
 wrote_nothing None faults commands = record { so_far = []; begun = record { front = refl; fewer = omega arith }; wrote = inl tt }
 wrote_nothing (Some bytes) faults commands = record { so_far = []; begun = record { front = refl; fewer = omega arith }; wrote = inl (sym (append-nil bytes)) }
+
+none_before : (done left : List ℕ) → [] ≡ done ++ left → [] ≡ done
+none_before [] left whole = refl
+none_before (x ∷ done) left whole = absurd (cc)
+
+-- the text of no reply adds nothing, whatever comes of it
+pub nothing_more : {E : Type 0} (w w' : Option (List ℕ)) (r : Result (Unit {0}) E) (replies : List Reply) → replies ≡ [] → Writes w w' r (text_of replies) → Appends w w' []
+unfolding text_of
+nothing_more w w' (Ok x) replies none wrote = rw none at wrote
+nothing_more w w' (Err e) replies none wrote =
+    let front = rw none at wrote in
+    subst (λ (t : List ℕ). Appends w w' t) (sym (none_before front.done front.left front.whole)) front.wrote
+
+-- a run whose status says that the volume failed or isn't fresh had that fault
+pub fault_of : (f : Fault) → (fault_status f ≡ Volume) ⊎ (fault_status f ≡ NotFresh) → (f ≡ fault.Volume) ⊎ (f ≡ fault.NotFresh)
+fault_of fault.Volume is = inl refl
+fault_of fault.NotFresh is = inr refl
+fault_of fault.Memory is = absurd (elim is [ inl e ↦ cc | inr e ↦ cc ])
 
 -- a run that was begun doesn't end early
 pub not_early : (commands : List Command) (w w' : Option (List ℕ)) (f f' v v' : ℕ) (s : Status) → IsRunStatus commands w w' f f' v v' s → IsEarly s → ⊥

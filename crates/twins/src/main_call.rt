@@ -1,5 +1,5 @@
-ghost use Rattle.std.specs.Prelude.{◌≡◌, ◌⊎◌, ◌↔◌, ℕ, ◌-◌, ◌^◌, ◌<◌, length, IfSome, IfOk, IfErr, OnOk};
-ghost use Rattle.std.specs.Io.KnownBytes.{Keeps};
+ghost use Rattle.std.specs.Prelude.{◌≡◌, ◌⊎◌, ◌↔◌, ℕ, ◌-◌, ◌^◌, ◌<◌, [], length, IfSome, IfOk, IfErr, OnOk};
+ghost use Rattle.std.specs.Io.KnownBytes.{Appends, Keeps};
 ghost use Rattle.codec_base.specs.Causes.{HasCause, Rose};
 ghost use Rattle.stream_base.specs.Writing.{Writes};
 ghost use Rattle.volume_base.specs.Volume.{SameContents, PastStays};
@@ -72,6 +72,7 @@ fn run_and_write<O: Sink, V: Volume>(
     ensures flushed { result ≡ Status.Done → O.flushed output.new }
     ensures fresh { ((result ≡ Status.Done) ⊎ (result ≡ Status.WriteFault)) → V.tells → IsFresh standard_config (V.state volume.old).log (V.state volume.old).map }
     ensures not_fresh { result ≡ Status.NotFresh → V.tells → IsFresh standard_config (V.state volume.old).log (V.state volume.old).map → ⊥ }
+    ensures unopened { ((result ≡ Status.Volume) ⊎ (result ≡ Status.NotFresh)) → Appends (O.written output.old) (O.written output.new) [] }
 
     // The volume stays as it was, whatever is answered.
     ensures clock { (V.state volume.new).clock ≡ (V.state volume.old).clock }
@@ -123,6 +124,7 @@ pub fn twins_main<I: Source, O: Sink, V: Volume>(
     // After a run that a fault ended.
     ensures volume { result ≡ Status.Volume → Rose (V.state volume.old).faults (V.state volume.new).faults }
     ensures not_fresh { result ≡ Status.NotFresh → V.tells → IsFresh standard_config (V.state volume.old).log (V.state volume.old).map → ⊥ }
+    ensures unopened { ((result ≡ Status.Volume) ⊎ (result ≡ Status.NotFresh)) → Appends (O.written output.old) (O.written output.new) [] }
     ensures stopped { ((result ≡ Status.Volume) ⊎ (result ≡ Status.NotFresh)) → IsStopped (I.left input.old) (I.left input.new) (O.written output.old) (O.written output.new) (O.faults output.old) (O.faults output.new) }
 
     // Want of memory, in the run or before it.

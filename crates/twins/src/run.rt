@@ -1,4 +1,4 @@
-ghost use Rattle.std.specs.Prelude.{◌≡◌, ◌<◌, ◌≤◌, ◌-◌, ◌^◌, ℕ, [], length, take, IfOk, IfErr, OnOk, OnErr, IsErrOf, IsOkUnless};
+ghost use Rattle.std.specs.Prelude.{◌≡◌, ◌⊎◌, ◌<◌, ◌≤◌, ◌-◌, ◌^◌, ℕ, [], length, take, IfOk, IfErr, OnOk, OnErr, IsErrOf, IsOkUnless};
 ghost use Rattle.std.specs.FinMap as map;
 ghost use Rattle.codec_base.specs.Causes.{Rose};
 ghost use Rattle.volume_base.specs.Volume.{SameContents, PastStays, StaysSteady, Reads};
@@ -100,6 +100,8 @@ pub fn run_twins<V: Volume>(
 
     // When each fault comes.
     ensures volume { IfErr result (λ s. s.fault ≡ Fault.Volume → Rose (V.state volume.old).faults (V.state volume.new).faults) }
+    // Where the volume isn't fresh or fails nothing is answered.
+    ensures unopened { IfErr result (λ s. ((s.fault ≡ Fault.Volume) ⊎ (s.fault ≡ Fault.NotFresh)) → s.replies ≡ []) }
     ensures fresh { OnOk result (V.tells → IsFresh config.now (V.state volume.old).log (V.state volume.old).map) }
     ensures not_fresh { IfErr result (λ s. s.fault ≡ Fault.NotFresh → V.tells → IsFresh config.now (V.state volume.old).log (V.state volume.old).map → ⊥) }
 

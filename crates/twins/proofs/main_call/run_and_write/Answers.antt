@@ -1,5 +1,10 @@
-use Rattle.twins.proofs.Endings.{wrote_nothing}
+use Rattle.twins.proofs.Endings.{fault_of, nothing_more, wrote_nothing}
 use Rattle.twins.proofs.main_call.run_and_write.Goals as goal
 
 pub returns-in_default-clause-run : goal.returns-in_default-clause-run
 returns-in_default-clause-run g c = wrote_nothing (g.O.Sink.written c.args.output.now) (g.O.Sink.faults c.args.output.now) c.args.commands.now
+
+pub returns-clause-unopened : goal.returns-clause-unopened
+returns-clause-unopened g c is =
+    let fault = fault_of c.in-Err.stopped.fault (rw c.status_of.ensures at is) in
+    nothing_more _ _ c.put_out-in-Err.result c.in-Err.stopped.replies (c.in-Err.ensures.unopened fault) c.put_out-in-Err.ensures.text
