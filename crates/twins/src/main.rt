@@ -20,13 +20,16 @@ use host_edge::{StdSink, StdSource};
 use main_call::twins_main;
 use memory_volume::MemoryVolume;
 use std::env;
+use std::io::ErrorKind;
 use std::process::ExitCode;
 
 /// Runs the program over standard input and output and a volume in memory, and says how it ends.
 fn run_program(rt: &HostRuntime) -> Status {
     let alloc = rt.alloc();
-    let Ok(args) = env::args(rt) else {
-        return Status::BadWords;
+    let args = match env::args(rt) {
+        Ok(args) => args,
+        Err(e) if e.kind() == ErrorKind::OutOfMemory => return Status::Memory,
+        Err(_) => return Status::BadWords,
     };
     let Ok(words) = args.skip(1).collect::<Vec<String>>(alloc) else {
         return Status::Memory;
