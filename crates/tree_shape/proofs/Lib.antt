@@ -5,3 +5,4 @@ pub mod NodeLemmas
 pub mod PinLemmas
 pub mod SizeLemmas
 pub mod TableLemmas
+pub mod NeededLemmas

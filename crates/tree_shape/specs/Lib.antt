@@ -8,6 +8,7 @@ pub mod MmrSize
 pub mod MmrPlaces
 pub mod MmbPlaces
 pub mod Kept
+pub mod Needed
 pub mod Pins
 pub mod Sizes
 pub mod MmrKept
