@@ -10,7 +10,7 @@ use Rattle.tree_shape.specs.Kept.{PeakIn, AtHand}
 use Rattle.tree_shape.specs.Slow.{node, node_of, peak_digests}
 use Rattle.tree_core.proofs.MemLemmas.{get-take}
 use Rattle.tree_core.specs.Pruned.{peaks_at, peak_found, held_at}
-use Rattle.tree_core.proofs.Later.{leaf_position}
+use Rattle.tree_shape.proofs.NeededLemmas.{leaf_position}
 
 -- one peak further
 pub step_found : {D : Type 0} (e i : ℕ) (hs : List ℕ) (ps : List D) (x k : ℕ) → i < length hs → length ps ≡ length hs

@@ -1,15 +1,16 @@
 -- What is made after a mark is told by the mark and the later leaves.
-use Rattle.std.proofs.Common.{◌≡◌, ℕ, zero, suc, ◌+◌, ◌-◌, ◌^◌, ◌<◌, ◌≤◌, ◌⊎◌, inl, inr, List, [], ◌∷◌, ◌++◌, length, map, Some, Option, refl, sym, ◌∙◌, ap, subst, arith, append_assoc, length-append}
+use Rattle.std.proofs.Common.{◌≡◌, ℕ, zero, suc, ◌+◌, ◌-◌, ◌^◌, ◌<◌, ◌≤◌, ◌⊎◌, inl, inr, List, [], ◌∷◌, ◌++◌, length, map, Some, Option, refl, sym, ◌∙◌, ap, arith, append_assoc, length-append}
 use Rattle.std.specs.Prelude.{slice_get}
 use Rattle.std.proofs.lemmas.List.{map-append, length-map}
 use Rattle.std.proofs.lemmas.Option.{some_pair_parts}
 use Rattle.std.proofs.lemmas.Bool.Decides.{eqb_tells}
 use Rattle.tree_shape.specs.Hashing.{Hashing, node_input}
 use Rattle.tree_shape.specs.Shape.{Shape, made, Stands, ChildrenStand, PeaksStand, IsLawful}
-use Rattle.tree_shape.specs.Places.{get-append, get-behind}
+use Rattle.tree_shape.specs.Places.{get-append}
 use Rattle.tree_shape.specs.MmrPlaces.{append_nil}
 use Rattle.tree_shape.specs.Kept.{PeakIn, PeakOf, AtHand, KeepsPeaks}
 use Rattle.tree_shape.specs.Slow.{leaf_at, node, node_of, nodes, peak_digests}
+use Rattle.tree_shape.proofs.NeededLemmas.{first, second, side_of, leaf_position, at_hand_back}
 use Rattle.tree_core.proofs.MemLemmas.{node-append, map-nodes-append}
 use Rattle.tree_core.specs.Pruned.{made_from, peaks_at, nodes_from}
 use Rattle.tree_store.specs.Stores.{IsTreeOf}
@@ -22,18 +23,6 @@ pub get_front : {X : Type 0} (xs ys : List X) (i : ℕ) → i < length xs → sl
 get_front [] ys i lt = absurd (omega arith)
 get_front (x ∷ xs) ys zero lt = refl
 get_front (x ∷ xs) ys (suc i) lt = get_front xs ys i (omega arith)
-
-pub data Side {X : Type 0} (xs ys : List X) (i : ℕ) (x : X) : Type 0 where
-  first : slice_get xs i ≡ Some x → Side xs ys i x
-  second : (j : ℕ) → slice_get ys j ≡ Some x → Side xs ys i x
-
-pub side_of : {X : Type 0} (xs ys : List X) (i : ℕ) (x : X) → slice_get (xs ++ ys) i ≡ Some x → Side xs ys i x
-side_of [] ys i x e = second i e
-side_of (y ∷ xs) ys zero x e = first e
-side_of (y ∷ xs) ys (suc i) x e = elim (side_of xs ys i x e) [
-  | first p ↦ first p
-  | second j p ↦ second j p
-]
 
 pub made-split : (s : Shape) (b j : ℕ) → made s (b + j) ≡ made s b ++ made_from s b j
 unfolding made made_from
@@ -63,17 +52,10 @@ since_stands s b j p x k le e =
     let q : length (made s b) + (p - length (made s b)) ≡ p = omega arith in
     sym (get_past (made s b) (made_from s b j) (p - length (made s b))) ∙ ap (slice_get (made s b ++ made_from s b j)) q ∙ ap (λ cs. slice_get cs p) (sym (made-split s b j)) ∙ e
 
-pub leaf_position : (s : Shape) → IsLawful s → (n : ℕ) → s.position n 0 ≡ length (made s n)
-unfolding made
-leaf_position s w n = (w.well_made (suc n)).placed (length (made s n)) n 0 (get-behind (made s n) (s.parents n) (n, 0))
-
 pub made_less : (s : Shape) (b j : ℕ) → 0 < j → length (made s b) < length (made s (b + j))
 unfolding made_from
 made_less s b zero lt = absurd (omega arith)
 made_less s b (suc j) lt = let l = length-split s b (suc j) in let m = length-append (made_from s b j) ((b + j, 0) ∷ s.parents (b + j)) in omega (arith, l, m)
-
-pub made_le : (s : Shape) (b n : ℕ) → b ≤ n → length (made s b) ≤ length (made s n)
-made_le s b n le = let e : b + (n - b) ≡ n = omega arith in let l = length-split s b (n - b) in let m : length (made s (b + (n - b))) ≡ length (made s n) = ap (λ k. length (made s k)) e in omega (arith, l, m)
 
 order : (m n : ℕ) → (m ≤ n) ⊎ (n < m)
 order m n = elim (eqb_tells (m - n) 0) [
@@ -109,14 +91,6 @@ made_by s b (suc j) i x k e = elim (side_of (made_from s b j) ((b + j, 0) ∷ s.
     newest : (m : ℕ) → slice_get {X = ℕ × ℕ} ((b + j, 0) ∷ s.parents (b + j)) m ≡ Some (x, k) → MadeBy s b (suc j) x k
     newest zero p = let parts = some_pair_parts (b + j) x 0 k p in leaf j (omega arith) (sym parts.0) (sym parts.1)
     newest (suc m) p = parent j m (omega arith) p
-
--- what is a peak later, or stands late, is at hand before
-pub at_hand_back : (s : Shape) → IsLawful s → KeepsPeaks s → (b t x k : ℕ) → AtHand s (b + t) x k → AtHand s b x k
-at_hand_back s w q b zero x k a = let P : ℕ → Type 0 = λ n. AtHand s n x k in let e : b + 0 ≡ b = omega arith in subst P e a
-at_hand_back s w q b (suc t) x k a = elim a [
-  | inl late ↦ inl (let pb = leaf_position s w b in let pn = leaf_position s w (b + suc t) in let le = made_le s b (b + suc t) (omega arith) in omega (arith, late, pb, pn, le))
-  | inr peak ↦ let P : ℕ → Type 0 = λ n. PeakOf s n x k in let e : b + suc t ≡ suc (b + t) = omega arith in at_hand_back s w q b t x k (q.peaks (b + t) x k (subst P e peak))
-]
 
 -- two lists with the same peaks at b and the same leaves from there on have the same nodes from there on
 pub same_later : {D : Type 0} (s : Shape) (h : Hashing D) (M N : List D) (b j : ℕ) → IsLawful s → KeepsPeaks s

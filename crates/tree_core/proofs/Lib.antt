@@ -4,6 +4,7 @@ pub mod Held
 pub mod Since
 pub mod PrunedLemmas
 pub mod MapLemmas
+pub mod ShelfLemmas
 pub mod LinkLemmas
 pub mod FoldLemmas
 pub mod TreeLemmas

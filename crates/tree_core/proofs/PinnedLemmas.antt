@@ -1,8 +1,6 @@
 -- The peaks of a number of leaves, each put at its position.
-use Rattle.std.proofs.Common.{◌≡◌, ℕ, zero, suc, ◌+◌, ◌-◌, ◌^◌, ◌<◌, ◌≤◌, inl, inr, List, [], ◌∷◌, length, get_or, false, Some, None, Option, refl, sym, ◌∙◌, ap, subst, arith}
+use Rattle.std.proofs.Common.{◌≡◌, ℕ, zero, suc, ◌+◌, ◌-◌, ◌^◌, ◌<◌, ◌≤◌, inl, inr, List, [], ◌∷◌, ◌++◌, length, get_or, false, Some, None, refl, sym, ◌∙◌, ap, subst, arith}
 use Rattle.std.specs.Prelude.{slice_get}
-use Rattle.std.specs.BTreeMap.{BTreeMap, get, Updates}
-use Rattle.std.specs.Ordering.{nat_cmp}
 use Rattle.std.proofs.lemmas.Nat.{pow_pos}
 use Rattle.std.proofs.lemmas.Bool.Decides.{eqb_tells}
 use Rattle.std.proofs.lemmas.Option.{some_pair_parts, slice_get_within}
@@ -16,7 +14,8 @@ use Rattle.tree_core.proofs.FoldLemmas.{in_peaks, oldest_at}
 use Rattle.tree_shape.proofs.NodeLemmas.{low_height}
 use Rattle.tree_shape.proofs.PinLemmas.{base-le}
 use Rattle.tree_core.proofs.PrunedLemmas.{peak_stands, peak_at_true}
-use Rattle.tree_core.proofs.MapLemmas.{key_apart}
+use Rattle.tree_core.specs.Shelf.{entry_at, AreBefore}
+use Rattle.tree_core.proofs.ShelfLemmas.{entry_on, entry_first, entry_second, entry_here}
 
 -- the first leaf and the height of the j-th oldest peak
 abbrev pub first_at : Shape → ℕ → ℕ → ℕ
@@ -65,30 +64,51 @@ peaks_apart s n i j w lt less same =
     let rises = first_rises s n i j w lt less in
     absurd (omega (arith, parts.0))
 
--- the first j pins are at their positions, and nothing else is there
-pub record PinnedSo {D : Type 0} (s : Shape) (n : ℕ) (g : ℕ → Option D) (ds : List D) (j : ℕ) : Type 0 where
-  pub told : (i : ℕ) (d : D) → i < j → g (s.position (first_at s n i) (height_at s n i)) ≡ Some (get_or ds i d)
-  pub others : (p : ℕ) → is_peak_at s n (s.heights n) p ≡ false → g p ≡ None
+-- the first j pins are at their positions, the others aren't, and nothing else is there
+pub record PinnedSo {D : Type 0} (s : Shape) (n : ℕ) (es : List (ℕ × D)) (ds : List D) (j : ℕ) : Type 0 where
+  pub told : (i : ℕ) (d : D) → i < j → entry_at es (s.position (first_at s n i) (height_at s n i)) ≡ Some (get_or ds i d)
+  pub fresh : (i : ℕ) → j ≤ i → i < length (s.heights n) → entry_at es (s.position (first_at s n i) (height_at s n i)) ≡ None
+  pub others : (p : ℕ) → is_peak_at s n (s.heights n) p ≡ false → entry_at es p ≡ None
+  pub before : AreBefore (length (made s n)) es
 
-pub none_pinned : {D : Type 0} (s : Shape) (n : ℕ) (g : ℕ → Option D) (ds : List D) → ((p : ℕ) → g p ≡ None) → PinnedSo s n g ds 0
-none_pinned s n g ds none = record { told = λ i d lt. absurd (omega arith); others = λ p e. none p }
-
-pub pinned_step : {D : Type 0} (s : Shape) (n j : ℕ) (l m : BTreeMap ℕ D) (ds : List D) (v : D) → IsLawful s → j < length (s.heights n) → ((d : D) → v ≡ get_or ds j d)
-    → PinnedSo s n (get nat_cmp l) ds j → Updates nat_cmp l m (s.position (first_at s n j) (height_at s n j)) (Some v) → PinnedSo s n (get nat_cmp m) ds (suc j)
-pinned_step s n j l m ds v w lt is before u = record {
-  told = λ i d less. elim (eqb_tells i j) [
-    | inl e ↦ rw e.1 (u.1 ∙ ap Some (is d))
-    | inr e ↦
-        let early : i < j = omega (arith, e.1) in
-        u.2 (s.position (first_at s n i) (height_at s n i)) (key_apart (s.position (first_at s n j) (height_at s n j)) (s.position (first_at s n i) (height_at s n i)) (peaks_apart s n i j w early lt)) ∙ before.told i d early
-  ];
-  others = λ p none.
-      u.2 p (key_apart (s.position (first_at s n j) (height_at s n j)) p (λ same. let here = peak_at_true s n (s.heights n) (first_at s n j) (height_at s n j) (peak_at s n j lt) in absurd (let other = ap (is_peak_at s n (s.heights n)) same in cc)))
-      ∙ before.others p none;
+pub none_pinned : {D : Type 0} (s : Shape) (n : ℕ) (es : List (ℕ × D)) (ds : List D) → es ≡ [] → PinnedSo s n es ds 0
+none_pinned {D = D} s n es ds e = record {
+  told = λ i d lt. absurd (omega arith);
+  fresh = λ i le lt. ap (λ (xs : List (ℕ × D)). entry_at xs (s.position (first_at s n i) (height_at s n i))) e;
+  others = λ p f. ap (λ (xs : List (ℕ × D)). entry_at xs p) e;
+  before = subst (λ (xs : List (ℕ × D)). AreBefore (length (made s n)) xs) (sym e) tt;
 }
 
-pub all_pinned : {D : Type 0} (s : Shape) (n j : ℕ) (g : ℕ → Option D) (ds : List D) → length ds ≡ length (s.heights n) → length (s.heights n) ≤ j → PinnedSo s n g ds j → ArePeaks s n (λ x k. g (s.position x k)) ds
-all_pinned s n j g ds l le so = record { counted = l; told = λ i d lt. so.told i d (omega arith) }
+both_before : {D : Type 0} (first : ℕ) (xs ys : List (ℕ × D)) → AreBefore first xs → AreBefore first ys → AreBefore first (xs ++ ys)
+both_before first [] ys a b = b
+both_before first (x ∷ xs) ys a b = (a.0, both_before first xs ys a.1 b)
+
+pub pinned_step : {D : Type 0} (s : Shape) (n j : ℕ) (es fs : List (ℕ × D)) (ds : List D) (v : D) → IsLawful s → j < length (s.heights n) → ((d : D) → v ≡ get_or ds j d)
+    → PinnedSo s n es ds j → fs ≡ es ++ ((s.position (first_at s n j) (height_at s n j), v) ∷ []) → PinnedSo s n fs ds (suc j)
+pinned_step {D = D} s n j es fs ds v w lt is so e = record {
+  told = λ i d less. elim (eqb_tells i j) [
+    | inl t ↦ rw t.1 (new ∙ ap Some (is d))
+    | inr t ↦ let early : i < j = omega (arith, t.1) in old (place i) (λ same. peaks_apart s n i j w early lt (sym same)) ∙ so.told i d early
+  ];
+  fresh = λ i le less. old (place i) (peaks_apart s n j i w (omega arith) less) ∙ so.fresh i (omega arith) less;
+  others = λ p none. old p (λ same. let here = peak_at_true s n (s.heights n) (first_at s n j) (height_at s n j) (peak_at s n j lt) in absurd (let other = ap (is_peak_at s n (s.heights n)) same in cc)) ∙ so.others p none;
+  before = subst (λ (xs : List (ℕ × D)). AreBefore (length (made s n)) xs) (sym e) (both_before (length (made s n)) es ((place j, v) ∷ []) so.before (below, tt));
+}
+  where
+    place : ℕ → ℕ
+    place i = s.position (first_at s n i) (height_at s n i)
+
+    below : place j < length (made s n)
+    below = slice_get_within (made s n) (place j) (first_at s n j, height_at s n j) (peak_stands s (made s n) n (s.heights n) (first_at s n j) (height_at s n j) (w.peaks n) (peak_at s n j lt))
+
+    new : entry_at fs (place j) ≡ Some v
+    new = ap (λ (xs : List (ℕ × D)). entry_at xs (place j)) e ∙ entry_second es ((place j, v) ∷ []) (place j) (so.fresh j (omega arith) lt) ∙ entry_here [] (place j, v) (place j) refl
+
+    old : (p : ℕ) → (p ≡ place j → ⊥) → entry_at fs p ≡ entry_at es p
+    old p apart = ap (λ (xs : List (ℕ × D)). entry_at xs p) e ∙ entry_first es ((place j, v) ∷ []) p (entry_on [] (place j, v) p apart)
+
+pub all_pinned : {D : Type 0} (s : Shape) (n j : ℕ) (es : List (ℕ × D)) (ds : List D) → length ds ≡ length (s.heights n) → length (s.heights n) ≤ j → PinnedSo s n es ds j → ArePeaks s n (λ x k. entry_at es (s.position x k)) ds
+all_pinned s n j es ds l le so = record { counted = l; told = λ i d lt. so.told i d (omega arith) }
 
 -- each of these peaks stands below the size of their leaves
 pub pins_below : (s : Shape) (cs : List (ℕ × ℕ)) (e : ℕ) (hs : List ℕ) (p : ℕ) → PeaksStand s cs e hs → length cs ≤ p → is_peak_at s e hs p ≡ false

@@ -1,72 +1,76 @@
--- Nodes put into a map one after another, where there are none.
-use Rattle.std.proofs.Common.{◌≡◌, ℕ, ◌⊎◌, inl, inr, Bool, false, cond, List, [], ◌∷◌, Some, None, Option, refl, sym, ◌∙◌, ap}
-use Rattle.std.specs.Prelude.{is_none, slice_get}
-use Rattle.std.specs.Map.{lookup}
-use Rattle.std.specs.BTreeMap.{BTreeMap, get, Updates, is_at}
+-- Pins put before the nodes of a tree, where it has none.
+use Rattle.std.proofs.Common.{◌≡◌, ℕ, ◌<◌, ◌≤◌, inl, inr, Bool, true, false, cond, List, [], ◌∷◌, ◌++◌, length, Some, None, Option, refl, sym, ◌∙◌, ap, subst, arith}
+use Rattle.std.specs.Prelude.{is_none, slice_get, IsSome}
+use Rattle.std.specs.BTreeMap.{is_at}
 use Rattle.std.specs.Ordering.{nat_cmp}
 use Rattle.std.specs.List.{filter}
-use Rattle.std.proofs.lemmas.Bool.Decides.{eqb_tells}
+use Rattle.std.proofs.lemmas.Bool.Decides.{eqb_tells, leb_tells}
 use Rattle.std.proofs.lemmas.Map.Entries.{lookup-filter-keys}
 use Rattle.tree_shape.specs.Hashing.{Hashing}
-use Rattle.tree_shape.specs.Shape.{Shape}
+use Rattle.tree_shape.specs.Shape.{Shape, made}
 use Rattle.tree_shape.specs.Slow.{nodes}
 use Rattle.tree_store.specs.Stores.{IsTreeOf}
+use Rattle.tree_core.specs.Pruned.{IsPruned}
+use Rattle.tree_core.specs.Shelf.{entry_at, AreBefore}
 use Rattle.tree_core.specs.Tree.{either}
-use Rattle.tree_core.proofs.MapLemmas.{key_apart, key_same}
+use Rattle.tree_core.proofs.MapLemmas.{key_same}
+use Rattle.tree_core.proofs.ShelfLemmas.{entry_here, entry_on, entry_first, entry_second}
 
--- of f with the pins: what is put in so far, where these entries are left
-abbrev pub PutSo : {D : Type 0} → (ℕ → Option D) → (ℕ → Option D) → (ℕ → Option D) → List (ℕ × D) → Type 0
-PutSo f g pins rest = (p : ℕ) → (g p ≡ either (f p) (pins p)) ⊎ ((g p ≡ f p) × (lookup (is_at (nat_cmp p)) rest ≡ pins p))
+-- whether there is no node at an entry's position
+abbrev pub is_free : {D : Type 0} → List (ℕ × D) → ℕ × D → Bool
+is_free old e = is_none (entry_at old e.0)
 
-either_none : {D : Type 0} (a : Option D) → either a None ≡ a
-either_none (Some d) = refl
-either_none None = refl
-
-pub put_step : {D : Type 0} (f : ℕ → Option D) (l m : BTreeMap ℕ D) (pins : ℕ → Option D) (rest : List (ℕ × D)) (k : ℕ) (v : D) → f k ≡ None → pins k ≡ Some v
-    → PutSo f (get nat_cmp l) pins ((k, v) ∷ rest) → Updates nat_cmp l m k (Some v) → PutSo f (get nat_cmp m) pins rest
-put_step f l m pins rest k v none is so u = λ p. elim (eqb_tells k p) [
-  | inl e ↦ inl (ap (get nat_cmp m) (sym e.1) ∙ u.1 ∙ sym is ∙ ap (λ a. either a (pins k)) (sym none) ∙ ap (λ q. either (f q) (pins q)) e.1)
-  | inr e ↦ elim (so p) [
-    | inl done ↦ inl (u.2 p (key_apart k p e.1) ∙ done)
-    | inr open_ ↦ inr (u.2 p (key_apart k p e.1) ∙ open_.0, (let apart : is_at (nat_cmp p) k ≡ false = key_apart p k (λ same. e.1 (sym same)) in ap (λ t. cond t (Some v) (lookup (is_at (nat_cmp p)) rest)) (sym apart)) ∙ open_.1)
-  ]
-]
-
-pub put_same : {D : Type 0} (f : ℕ → Option D) (l m : BTreeMap ℕ D) (pins : ℕ → Option D) (rest : List (ℕ × D)) → m.entries ≡ l.entries → PutSo f (get nat_cmp l) pins rest → PutSo f (get nat_cmp m) pins rest
-put_same f l m pins rest same so = λ p. let e : get nat_cmp m p ≡ get nat_cmp l p = ap (lookup (is_at (nat_cmp p))) same in elim (so p) [
-  | inl done ↦ inl (e ∙ done)
-  | inr open_ ↦ inr (e ∙ open_.0, open_.1)
-]
-
-pub put_all : {D : Type 0} (f g pins : ℕ → Option D) → PutSo f g pins [] → (p : ℕ) → g p ≡ either (f p) (pins p)
-put_all f g pins so p = elim (so p) [
-  | inl done ↦ done
-  | inr open_ ↦ open_.0 ∙ sym (either_none (f p)) ∙ ap (either (f p)) open_.1
-]
-
--- with the pins taken away, where the others had none of them
-pub put_back : {D : Type 0} (f g l pins : ℕ → Option D) (rest : List (ℕ × D)) → PutSo f g pins rest → ((p : ℕ) (d : D) → pins p ≡ Some d → f p ≡ None)
-    → ((p : ℕ) → l p ≡ cond (is_none (pins p)) (g p) None) → (p : ℕ) → l p ≡ f p
-put_back {D = D} f g l pins rest so absent taken p = taken p ∙ by (pins p) refl
+pub joined_pinned : {D : Type 0} (old pins fs : List (ℕ × D)) → fs ≡ filter (is_free old) pins ++ old → (p : ℕ) → entry_at fs p ≡ either (entry_at old p) (entry_at pins p)
+joined_pinned {D = D} old pins fs e p = ap (λ es. entry_at es p) e ∙ by (entry_at old p) refl
   where
-    by : (o : Option D) → pins p ≡ o → cond (is_none (pins p)) (g p) None ≡ f p
-    by (Some d) e = ap (λ q. cond (is_none q) (g p) None) e ∙ sym (absent p d e)
-    by None e = ap (λ q. cond (is_none q) (g p) None) e ∙ elim (so p) [
-      | inl done ↦ done ∙ ap (either (f p)) e ∙ either_none (f p)
-      | inr open_ ↦ open_.0
+    free : entry_at (filter (is_free old) pins) p ≡ cond (is_none (entry_at old p)) (entry_at pins p) None
+    free = lookup-filter-keys (is_at (nat_cmp p)) (λ k. is_none (entry_at old k)) (is_none (entry_at old p)) (λ k t. ap (λ q. is_none (entry_at old q)) (sym (key_same p k t))) pins
+
+    by : (o : Option D) → entry_at old p ≡ o → entry_at (filter (is_free old) pins ++ old) p ≡ either (entry_at old p) (entry_at pins p)
+    by (Some d) is =
+        let none : entry_at (filter (is_free old) pins) p ≡ None = free ∙ ap (λ q. cond (is_none q) (entry_at pins p) None) is in
+        entry_second (filter (is_free old) pins) old p none ∙ is ∙ sym (ap (λ q. either q (entry_at pins p)) is)
+    by None is =
+        entry_first (filter (is_free old) pins) old p is ∙ free ∙ ap (λ q. cond (is_none q) (entry_at pins p) None) is ∙ sym (ap (λ q. either q (entry_at pins p)) is)
+
+some_not_none : {D : Type 0} (o : Option D) → IsSome o → is_none o ≡ true → ⊥
+some_not_none (Some d) some none = absurd (cc)
+some_not_none None some none = absurd (cc)
+
+-- where all nodes from a position on to the end are there, the pins that aren't stand before it
+pub free_before : {D : Type 0} (old : List (ℕ × D)) (first end : ℕ) (pins : List (ℕ × D)) → ((p : ℕ) → first ≤ p → p < end → IsSome (entry_at old p)) → ((p : ℕ) (d : D) → entry_at pins p ≡ Some d → p < end)
+    → AreBefore first (filter (is_free old) pins)
+free_before old first end [] there low = tt
+free_before {D = D} old first end (e ∷ es) there low = by (is_free old e) refl (free_before old first end es there later)
+  where
+    later : (p : ℕ) (d : D) → entry_at es p ≡ Some d → p < end
+    later p d is = elim (eqb_tells p e.0) [
+      | inl same ↦ low p e.1 (entry_here es e p same.1)
+      | inr apart ↦ low p d (entry_on es e p apart.1 ∙ is)
     ]
 
--- a map with the entries whose keys pass
-pub get_kept : {D : Type 0} (test : ℕ → Bool) (m n : BTreeMap ℕ D) → n.entries ≡ filter (λ e. test e.0) m.entries → (p : ℕ) → get nat_cmp n p ≡ cond (test p) (get nat_cmp m p) None
-get_kept test m n e p = ap (lookup (is_at (nat_cmp p))) e ∙ lookup-filter-keys (is_at (nat_cmp p)) test (test p) (λ k t. ap test (sym (key_same p k t))) m.entries
+    by : (t : Bool) → is_free old e ≡ t → AreBefore first (filter (is_free old) es) → AreBefore first (cond t (e ∷ filter (is_free old) es) (filter (is_free old) es))
+    by true is rest = elim (leb_tells first e.0) [
+      | inl t ↦ absurd (some_not_none (entry_at old e.0) (there e.0 t.1 (low e.0 e.1 (entry_here es e e.0 refl))) is)
+      | inr t ↦ (omega (arith, t.1), rest)
+    ]
+    by false is rest = rest
 
-pub absent_of : {D : Type 0} (a b : Option D) (d : D) → cond (is_none a) b None ≡ Some d → a ≡ None
-absent_of (Some c) b d e = absurd (cc)
-absent_of None b d e = refl
+either_is_some : {D : Type 0} (a b : Option D) → IsSome a → IsSome (either a b)
+either_is_some (Some d) b some = refl
+either_is_some None b some = absurd (cc)
 
-pub either_absent : {D : Type 0} (a b : Option D) → either a (cond (is_none a) b None) ≡ either a b
-either_absent (Some c) b = refl
-either_absent None b = refl
+nothing_there : {D : Type 0} (o : Option D) → ((d : D) → o ≡ Some d → ⊥) → o ≡ None
+nothing_there (Some d) never = absurd (never d refl)
+nothing_there None never = refl
+
+-- a pruned tree with further nodes of it
+pub pinned_pruned : {D : Type 0} (s : Shape) (n b : ℕ) (f g pins : ℕ → Option D) → IsPruned s n b f → ((p : ℕ) → g p ≡ either (f p) (pins p)) → ((p : ℕ) (d : D) → pins p ≡ Some d → p < length (made s n)) → IsPruned s n b g
+pinned_pruned s n b f g pins i put low = record {
+  ended = λ p le. put p ∙ ap (λ q. either q (pins p)) (i.ended p le) ∙ nothing_there (pins p) (λ d is. let lt = low p d is in omega arith);
+  since = λ p le lt. subst (λ (o : Option _). IsSome o) (sym (put p)) (either_is_some (f p) (pins p) (i.since p le lt));
+  peaks = λ x k peak. subst (λ (o : Option _). IsSome o) (sym (put (s.position x k))) (either_is_some (f (s.position x k)) (pins (s.position x k)) (i.peaks x k peak));
+}
 
 -- a node that stands in one of the two
 pub either_from : {D : Type 0} (P : D → Type 0) (a b : Option D) → ((d : D) → a ≡ Some d → P d) → ((d : D) → b ≡ Some d → P d) → (d : D) → either a b ≡ Some d → P d

@@ -11,7 +11,8 @@ use Rattle.tree_shape.specs.Slow.{node, node_of, nodes}
 use Rattle.tree_core.specs.Pruned.{made_from, IsPruned, is_peak_at, keeps, pruned, Extends}
 use Rattle.tree_store.specs.Stores.{IsTreeOf}
 use Rattle.tree_core.proofs.Held.{get_is_some}
-use Rattle.tree_core.proofs.Later.{leaf_position, made_le, at_hand_back, length-split}
+use Rattle.tree_shape.proofs.NeededLemmas.{leaf_position, made_le, at_hand_back}
+use Rattle.tree_core.proofs.Later.{length-split}
 
 pub peak_stands : (s : Shape) (cs : List (ℕ × ℕ)) (e : ℕ) (hs : List ℕ) (x k : ℕ) → PeaksStand s cs e hs → PeakIn e hs x k → Stands cs (s.position x k) x k
 peak_stands s cs e [] x k st p = absurd p
@@ -53,23 +54,24 @@ or_true : (a b : Bool) → b ≡ true → (a || b) ≡ true
 or_true true b e = refl
 or_true false b e = e
 
+-- a prune keeps all from the position on
+pub kept_past : (s : Shape) (m p : ℕ) → length (made s m) ≤ p → keeps s m p ≡ true
+kept_past s m p le = elim (leb_tells (length (made s m)) p) [
+  | inl t ↦ rw t.0 refl
+  | inr t ↦ absurd (omega (arith, t.1))
+]
+
 -- a pruned tree is one
 pub pruned_again : {D : Type 0} (s : Shape) (n b m : ℕ) (f g : ℕ → Option D) → IsLawful s → KeepsPeaks s → IsPruned s n b f → b ≤ m → m ≤ n → ((p : ℕ) → g p ≡ pruned s m f p) → IsPruned s n m g
 pruned_again {D = D} s n b m f g w q i bm mn e = record {
   ended = λ p le. e p ∙ ap (cond (keeps s m p) (f p)) refl ∙ none (keeps s m p) (f p) (i.ended p le);
-  since = λ p le lt. kept p (leb_true p le) (i.since p (let l = made_le s b m bm in omega (arith, l)) lt);
+  since = λ p le lt. kept p (kept_past s m p le) (i.since p (let l = made_le s b m bm in omega (arith, l)) lt);
   peaks = λ x k peak. kept (s.position x k) (or_true (nat_le (length (made s m)) (s.position x k)) (is_peak_at s m (s.heights m) (s.position x k)) (peak_at_true s m (s.heights m) x k peak)) (pruned_peak s n b m f x k w q i bm mn peak);
 }
   where
     none : (c : Bool) (o : Option D) → o ≡ None → cond c o None ≡ None
     none true o z = z
     none false o z = refl
-
-    leb_true : (p : ℕ) → length (made s m) ≤ p → keeps s m p ≡ true
-    leb_true p le = elim (leb_tells (length (made s m)) p) [
-      | inl t ↦ rw t.0 refl
-      | inr t ↦ absurd (omega (arith, t.1))
-    ]
 
     kept : (p : ℕ) → keeps s m p ≡ true → IsSome (f p) → IsSome (g p)
     kept p t have = rw (e p, t) have

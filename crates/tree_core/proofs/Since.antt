@@ -12,7 +12,8 @@ use Rattle.tree_shape.specs.Slow.{node, node_of}
 use Rattle.tree_core.proofs.MemLemmas.{take-next}
 use Rattle.tree_shape.proofs.NodeLemmas.{node-from_halves}
 use Rattle.tree_core.specs.Pruned.{made_from, nodes_from, peaks_at, held_at}
-use Rattle.tree_core.proofs.Later.{get_past, stands_since, since_stands, at_hand_back, length-split}
+use Rattle.tree_shape.proofs.NeededLemmas.{at_hand_back}
+use Rattle.tree_core.proofs.Later.{get_past, stands_since, since_stands, length-split}
 use Rattle.tree_core.proofs.Held.{is_held, held_right}
 
 pub length-made_from_suc : (s : Shape) (b j : ℕ) → length (made_from s b (j + 1)) ≡ length (made_from s b j) + 1 + length (s.parents (b + j))

@@ -1,5 +1,7 @@
 pub use Rattle.tree_shape.specs.Hashing
 pub use Rattle.tree_shape.specs.Shape
+pub use Rattle.tree_shape.specs.Kept
+pub use Rattle.tree_shape.specs.Needed
 pub use Rattle.tree_shape.specs.Pins
 pub use Rattle.tree_shape.specs.Sizes
 pub use Rattle.tree_shape.specs.Slow
@@ -13,6 +15,7 @@ pub use Rattle.tree_store.specs.declared.error.Error as TreeErrors
 pub mod Pruned
 pub mod Links
 pub mod Reading
+pub mod Shelf
 pub mod Tree
 pub mod Batches
 pub mod Applied

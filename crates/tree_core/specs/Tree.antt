@@ -1,8 +1,5 @@
 -- A tree in memory, as contracts see it.
 use Rattle.std.specs.Prelude.{◌≡◌, ℕ, ◌+◌, ◌-◌, ◌^◌, ◌<◌, ◌≤◌, min, List, [], length, Option, None, Result, Ok, Err, slice_get, is_some, false, nat_le, if◌then◌else◌}
-use Rattle.std.specs.Map.{lookup}
-use Rattle.std.specs.BTreeMap.{is_at}
-use Rattle.std.specs.Ordering.{nat_cmp}
 use Rattle.tree_shape.specs.Hashing.{Hashing}
 use Rattle.tree_shape.specs.Shape.{Shape, made}
 use Rattle.tree_store.specs.declared.error.Error.{Error}
@@ -11,6 +8,7 @@ use Rattle.tree_shape.specs.Sizes.{HasSize}
 use Rattle.tree_core.specs.Pruned.{IsPruned, keeps, pruned, Extends}
 use Rattle.tree_store.specs.Stores.{IsTreeOf}
 use Rattle.tree_core.specs.Reading.{ArePeaks}
+use Rattle.tree_core.specs.Shelf.{entry_at, IsShelf}
 
 -- the number of leaves, where it is pruned, and the kept nodes with their positions
 pub record Tree (D : Type 0) : Type 0 where
@@ -20,13 +18,19 @@ pub record Tree (D : Type 0) : Type 0 where
 
 -- the node at a position, where it is kept
 abbrev pub node_at : {D : Type 0} → Tree D → ℕ → Option D
-node_at t p = lookup (is_at (nat_cmp p)) t.kept
+node_at t p = entry_at t.kept p
 
 -- from the boundary on each node is kept, and each peak of the boundary
 pub record IsSound {D : Type 0} (s : Shape) (t : Tree D) : Type 0 where
   pub few : t.leaves ≤ 2 ^ 62
   pub within : t.boundary ≤ t.leaves
   pub held : IsPruned s t.leaves t.boundary (node_at t)
+
+-- so many nodes stand before its boundary, and the others are a run from there to its end
+pub record IsStored {D : Type 0} (s : Shape) (count : ℕ) (t : Tree D) : Type 0 where
+  pub sound : IsSound s t
+  pub shelf : IsShelf (length (made s t.boundary)) count t.kept
+  pub ended : length t.kept + length (made s t.boundary) ≡ count + length (made s t.leaves)
 
 -- it is the tree of this list of leaf digests: each kept node is the slow node
 abbrev pub IsOf : {D : Type 0} → Shape → Hashing D → List D → Tree D → Type 0

@@ -1,15 +1,13 @@
-//! Nodes in a map by position: which a prune keeps, and putting in all or none.
-ghost use Rattle.std.specs.Prelude.{◌≡◌, ℕ, ◌+◌, ◌-◌, ◌≤◌, ◌<◌, ◌^◌, min, length, OnOk, OnErr, IfOk, IfErr, false, None};
-ghost use Rattle.std.specs.BTreeMap.{get};
-ghost use Rattle.std.specs.Ordering.{nat_cmp};
+//! Which nodes a prune keeps, and what a tree is built from.
+ghost use Rattle.std.specs.Prelude.{◌≡◌, ℕ, ◌+◌, ◌-◌, ◌≤◌, ◌^◌, min, length, IfOk, IfErr, false, None};
 ghost use Rattle.tree_shape.specs.Shape.{made};
 ghost use Rattle.tree_shape.specs.Sizes.{HasSize};
-ghost use Rattle.tree_core.specs.Pruned.{is_peak_at, keeps, Extends};
+ghost use Rattle.tree_core.specs.Pruned.{is_peak_at, keeps};
 ghost use Rattle.tree_core.specs.Reading.{ArePeaks};
+ghost use Rattle.tree_core.specs.Shelf.{entry_at, AreBefore};
 
 use crate::Error;
 use std::alloc::{AllocError, Global};
-use std::collections::BTreeMap;
 use tree_shape::{Digest, Family, Position, width};
 
 /// Whether a peak of this many leaves stands here.
@@ -37,58 +35,24 @@ pub(crate) fn is_kept<F: Family>(leaves: u64, position: u64) -> bool
     F::size(leaves) <= position || is_peak_position::<F>(leaves, position)
 }
 
-/// Takes these positions away.
-fn remove_all<D: Digest>(nodes: &mut BTreeMap<u64, D>, first: u64, count: u64)
-    requires { first + count < 2 ^ 64 }
-    ensures before { (p : ℕ) → p < first → get nat_cmp nodes.new p ≡ get nat_cmp nodes.old p }
-    ensures gone { (p : ℕ) → first ≤ p → p < first + count → get nat_cmp nodes.new p ≡ None }
-    ensures after { (p : ℕ) → first + count ≤ p → get nat_cmp nodes.new p ≡ get nat_cmp nodes.old p }
-{
-    for i in 0..count {
-        nodes.remove(&(first + i));
-    }
-}
-
-/// Puts these nodes behind the others, or none.
-pub(crate) fn insert_all<D: Digest>(
-    nodes: &mut BTreeMap<u64, D>,
-    first: u64,
-    more: &[D],
-) -> Result<(), AllocError>
-    requires room { first + length more.now < 2 ^ 64 }
-    requires absent { (p : ℕ) → first ≤ p → get nat_cmp nodes.old p ≡ None }
-    ensures ok { OnOk result (Extends (get nat_cmp nodes.old) (get nat_cmp nodes.new) first more.now) }
-    ensures err { OnErr result ((p : ℕ) → get nat_cmp nodes.new p ≡ get nat_cmp nodes.old p) }
-{
-    for i in 0..more.len() {
-        match nodes.insert(first + i as u64, more[i]) {
-            Ok(_) => {}
-            Err(_) => {
-                remove_all(nodes, first, i as u64);
-                return Err(AllocError);
-            }
-        }
-    }
-    Ok(())
-}
-
 /// The peaks of a number of leaves, the oldest first, each at its position.
 pub(crate) fn pins_of<F: Family, D: Digest>(
     alloc: Global,
     leaves: u64,
     pinned: &[D],
-) -> Result<BTreeMap<u64, D>, AllocError>
+) -> Result<Vec<(u64, D)>, AllocError>
     requires few { leaves ≤ 2 ^ 62 }
     requires counted { length pinned.now ≡ length (F.shape.heights leaves) }
-    ensures pins { IfOk result (λ m. ArePeaks F.shape leaves (λ x k. get nat_cmp m (F.shape.position x k)) pinned.now) }
-    ensures others { IfOk result (λ m. (p : ℕ) → is_peak_at F.shape leaves (F.shape.heights leaves) p ≡ false → get nat_cmp m p ≡ None) }
+    ensures pins { IfOk result (λ v. ArePeaks F.shape leaves (λ x k. entry_at v.items (F.shape.position x k)) pinned.now) }
+    ensures others { IfOk result (λ v. (p : ℕ) → is_peak_at F.shape leaves (F.shape.heights leaves) p ≡ false → entry_at v.items p ≡ None) }
+    ensures before { IfOk result (λ v. AreBefore (length (made F.shape leaves)) v.items) }
 {
-    let mut nodes = BTreeMap::new(alloc);
+    let mut nodes = Vec::new(alloc);
     let count = F::peak_count(leaves);
     let mut start = 0;
     for j in 0..count {
         let height = F::peak_height(leaves, count - 1 - j);
-        nodes.insert(F::position(start, height), pinned[j as usize])?;
+        nodes.push((F::position(start, height), pinned[j as usize]))?;
         start += width(height);
     }
     Ok(nodes)

@@ -7,9 +7,9 @@ mod laws;
 mod mark;
 mod mem;
 mod peaks;
-mod pinning;
 mod sealed;
 mod segment;
+mod shelf;
 mod unsealed;
 
 pub use laws::rebuilt_roots;
@@ -17,7 +17,7 @@ pub use mem::Mem;
 pub use sealed::MerkleizedBatch;
 pub use tree_shape::{
     Bagging, Digest, Family, Hasher, Location, MAX_LEAVES, Mmb, Mmr, Pins, Position, Sha256Digest,
-    Sha256Hasher, Standard, slow_node, slow_peaks, slow_root, table_laws,
+    Sha256Hasher, Standard, needed_nodes, slow_node, slow_peaks, slow_root, table_laws,
 };
 pub use tree_store::{Error, Readable, Storage, TreeData};
 pub use unsealed::UnmerkleizedBatch;

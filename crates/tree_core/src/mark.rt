@@ -1,7 +1,8 @@
 //! A tree as a later append sees it.
-ghost use Rattle.std.specs.Prelude.{◌≡◌, ℕ, ◌+◌, ◌≤◌, ◌<◌, ◌^◌, ◌↔◌, List, length, IsSome, IsTrue, Some, ◌==◌, ◌&&◌};
+ghost use Rattle.std.specs.Prelude.{◌≡◌, ℕ, ◌+◌, ◌≤◌, ◌<◌, ◌^◌, ◌↔◌, List, length, IsSome, IsTrue, IfOk, Some, ◌==◌, ◌&&◌};
 ghost use Rattle.tree_core.specs.Pruned.{peak_found, held_at};
 
+use std::alloc::{AllocError, Global};
 use std::marker::PhantomData;
 use tree_shape::{Digest, Family, width};
 
@@ -41,6 +42,20 @@ impl<F: Family, D: Digest> Mark<F, D> {
         ensures { IsTrue result ↔ ((self.now.leaves ≡ other.now.leaves) × (self.now.peaks.items ≡ other.now.peaks.items)) }
     {
         self.leaves == other.leaves && same_digests(&self.peaks, &other.peaks)
+    }
+
+    /// Another of the same.
+    pub(crate) fn copied(&self, alloc: Global) -> Result<Self, AllocError>
+        ensures leaves { IfOk result (λ m. m.leaves ≡ self.now.leaves) }
+        ensures peaks { IfOk result (λ m. m.peaks.items ≡ self.now.peaks.items) }
+    {
+        let mut peaks = Vec::new(alloc);
+        peaks.extend_from_slice(&self.peaks)?;
+        Ok(Mark {
+            leaves: self.leaves,
+            peaks,
+            family: PhantomData,
+        })
     }
 
     /// The digest of the peak of this height over the leaves from `start` on.

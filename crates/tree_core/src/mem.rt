@@ -1,9 +1,9 @@
 use crate::growth::mark_of;
-use crate::kept::{insert_all, is_kept, leaves_with, pins_of};
+use crate::kept::{is_kept, leaves_with, pins_of};
 use crate::mark::Mark;
 use crate::peaks::{Peaks, root_from};
-use crate::pinning::add_pins;
 use crate::segment::{Segment, push_own};
+use crate::shelf::{node_among, push_all, with_pins};
 use crate::{Error, MerkleizedBatch, Readable, Storage, UnmerkleizedBatch};
 use std::alloc::{AllocError, Global};
 use std::collections::BTreeMap;
@@ -12,24 +12,25 @@ use std::rc::Rc;
 use tree_shape::{Digest, Family, Hasher, Location, MAX_LEAVES, Position, Standard};
 use volume_base::Volume;
 
-/// A tree in memory, pruned at a boundary: its kept nodes by position.
+/// A tree in memory, pruned at a boundary: some nodes before it, the pins, and all nodes from there on, with their positions.
 #[derive(Drop)]
 pub struct Mem<F: Family, D: Digest> {
     alloc: Global,
-    nodes: BTreeMap<u64, D>,
+    nodes: Vec<(u64, D)>,
+    pins: usize,
     leaves: u64,
     boundary: u64,
     family: PhantomData<F>,
 }
 
 impl<F: Family, D: Digest> Model for Mem<F, D> {
-    ghost use Rattle.tree_core.specs.Tree.{Tree, IsSound};
+    ghost use Rattle.tree_core.specs.Tree.{Tree, IsStored};
 
     ghost Value = { Tree D };
 
-    ghost view = { λ m. record { leaves = m.leaves; boundary = m.boundary; kept = m.nodes.entries } };
+    ghost view = { λ m. record { leaves = m.leaves; boundary = m.boundary; kept = m.nodes.items } };
 
-    ghost invariant = { λ m. IsSound F.shape (record { leaves = m.leaves; boundary = m.boundary; kept = m.nodes.entries }) };
+    ghost invariant = { λ m. IsStored F.shape m.pins (record { leaves = m.leaves; boundary = m.boundary; kept = m.nodes.items }) };
 }
 
 impl<F: Family, D: Digest> Peaks<F, D> for Mem<F, D> {
@@ -38,8 +39,8 @@ impl<F: Family, D: Digest> Peaks<F, D> for Mem<F, D> {
     ghost told = { λ m x k. node_at m (F.shape.position x k) };
 
     fn read(&self, start: u64, height: u32) -> D {
-        match self.nodes.get(&F::position(start, height)) {
-            Some(digest) => *digest,
+        match self.node(F::position(start, height)) {
+            Some(digest) => digest,
             None => unreachable!(),
         }
     }
@@ -66,7 +67,8 @@ impl<F: Family, D: Digest> Mem<F, D> {
     {
         Ok(Mem {
             alloc,
-            nodes: BTreeMap::new(alloc),
+            nodes: Vec::new(alloc),
+            pins: 0,
             leaves: 0,
             boundary: 0,
             family: PhantomData,
@@ -94,10 +96,12 @@ impl<F: Family, D: Digest> Mem<F, D> {
         }
         let leaves = leaves_with::<F>(loc, nodes.len() as u64)?;
         let mut kept = pins_of::<F, D>(alloc, loc, &pinned)?;
-        insert_all(&mut kept, F::size(loc), &nodes)?;
+        let pins = kept.len();
+        push_all(&mut kept, F::size(loc), &nodes)?;
         Ok(Mem {
             alloc,
             nodes: kept,
+            pins,
             leaves,
             boundary: loc,
             family: PhantomData,
@@ -131,7 +135,14 @@ impl<F: Family, D: Digest> Mem<F, D> {
     pub fn get_node(&self, pos: Position<F>) -> Option<D>
         ensures { result ≡ node_at self.now pos }
     {
-        self.nodes.get(&pos.as_u64()).copied()
+        self.node(pos.as_u64())
+    }
+
+    /// The node that stands here, where it is kept.
+    fn node(&self, position: u64) -> Option<D>
+        ensures { result ≡ node_at self.now position }
+    {
+        node_among(&self.nodes, self.pins, F::size(self.boundary), position)
     }
 
     /// The root with this many inactive peaks. It takes no memory.
@@ -168,8 +179,9 @@ impl<F: Family, D: Digest> Mem<F, D> {
             return Ok(());
         }
         let boundary = loc.as_u64();
-        self.nodes
-            .retain(|position, _| is_kept::<F>(boundary, *position));
+        let run = F::size(leaves) - F::size(boundary);
+        self.nodes.retain(|entry| is_kept::<F>(boundary, entry.0));
+        self.pins = self.nodes.len() - run as usize;
         self.boundary = boundary;
         Ok(())
     }
@@ -195,7 +207,10 @@ impl<F: Family, D: Digest> Mem<F, D> {
         ensures tree { (h : Hashing D) (all : List D) → IsOf F.shape h all self.old → ((p : ℕ) (d : D) → get nat_cmp pins p ≡ Some d → slice_get (nodes F.shape h all) p ≡ Some d) → IsOf F.shape h all self.new }
         ensures memory { IsOkUnless result Error.Memory }
     {
-        add_pins(&mut self.nodes, pins)?;
+        let first = F::size(self.boundary);
+        let nodes = with_pins(self.alloc, &self.nodes, self.pins, first, &pins)?;
+        self.pins += nodes.len() - self.nodes.len();
+        self.nodes = nodes;
         Ok(())
     }
 
@@ -216,7 +231,7 @@ impl<F: Family, D: Digest> Mem<F, D> {
         ensures err { OnErr result (IsLike self.old self.new) }
     {
         let size = F::size(self.leaves);
-        insert_all(&mut self.nodes, size, more)?;
+        push_all(&mut self.nodes, size, more)?;
         self.leaves += later;
         Ok(())
     }
@@ -228,7 +243,7 @@ impl<F: Family, D: Digest> Mem<F, D> {
         ensures memory { IsOkUnless result Error.Memory }
     {
         let base = self.mark()?;
-        let boundary = Rc::new(self.alloc, self.mark()?)?;
+        let boundary = Rc::new(self.alloc, base.copied(self.alloc)?)?;
         let segments = Vec::new(self.alloc);
         Ok(UnmerkleizedBatch::begin(self.alloc, boundary, segments, self.leaves, base))
     }
@@ -239,9 +254,10 @@ impl<F: Family, D: Digest> Mem<F, D> {
         ensures batch { IfOk result (λ b. (h : Hashing D) (all : List D) → IsOf F.shape h all self.now → IsSealedOf F.shape h all b) }
         ensures memory { IsOkUnless result Error.Memory }
     {
-        let boundary = Rc::new(self.alloc, self.mark()?)?;
+        let mark = self.mark()?;
+        let boundary = Rc::new(self.alloc, mark.copied(self.alloc)?)?;
         let nodes = Vec::new(self.alloc);
-        let own = Rc::new(self.alloc, Segment::new(self.mark()?, 0, nodes))?;
+        let own = Rc::new(self.alloc, Segment::new(mark, 0, nodes))?;
         let mut segments = Vec::new(self.alloc);
         push_own(&mut segments, own)?;
         Ok(MerkleizedBatch::seal(self.alloc, boundary, segments, self.leaves, self.leaves))
@@ -335,8 +351,8 @@ impl<F: Family, D: Digest> Storage<F> for Mem<F, D> {
         let mut nodes = Vec::new(self.alloc);
         for i in 0..positions.len() {
             let position = positions[i].as_u64();
-            match self.nodes.get(&position) {
-                Some(digest) => nodes.push(*digest)?,
+            match self.node(position) {
+                Some(digest) => nodes.push(digest)?,
                 None => return Err(Error::ElementPruned(Position::new(position))),
             }
         }

@@ -1,7 +1,4 @@
-use Rattle.std.proofs.Common.{◌≡◌, ℕ, ◌<◌, length, Some, ◌∙◌, ap, subst, add-one, arith}
-use Rattle.std.specs.Map.{lookup}
-use Rattle.std.specs.BTreeMap.{get, is_at, Updates}
-use Rattle.std.specs.Ordering.{nat_cmp}
+use Rattle.std.proofs.Common.{rules, ◌≡◌, ℕ, ◌<◌, [], ◌∷◌, ◌++◌, length, ◌∙◌, ap, subst, add-one, arith}
 use Rattle.tree_shape.proofs.NodeLemmas.{read-get_or}
 use Rattle.tree_core.proofs.PinnedLemmas.{first_at, height_at, none_pinned, pinned_step, first_is, steps_to}
 use Rattle.tree_core.proofs.kept.pins_of.Goals as goal
@@ -9,7 +6,7 @@ use Rattle.tree_core.proofs.kept.pins_of.Goals as goal
 pub loop-j-init : goal.loop-j-init
 loop-j-init g c = let s = g.F.Family.shape in record {
   at = first_is s c.args.leaves g.met.F.Family.lawful;
-  pins = none_pinned s c.args.leaves (get nat_cmp c.new-nodes.result) c.args.pinned.now (λ p. ap (lookup (is_at (nat_cmp p))) c.new-nodes.ensures.empty);
+  pins = none_pinned s c.args.leaves c.new-nodes.result.items c.args.pinned.now c.new-nodes.ensures.items;
 }
 
 pub position-requires : goal.position-requires
@@ -36,10 +33,10 @@ loop-j-preserved g c =
     let lt : j < length (s.heights n) = omega (arith, c.loop-j-test.true, c.peak_count-count.ensures) in
     let place : c.position.result ≡ s.position (first_at s n j) (height_at s n j) =
     c.position.ensures ∙ ap (λ x. s.position x c.peak_height-height.result) c.loop-j.invariant.at ∙ ap (s.position (first_at s n j)) st.height in
-    let updates : Updates nat_cmp c.loop-j.nodes c.insert.new.self (s.position (first_at s n j) (height_at s n j)) (Some c.index-pinned-j.result) =
-    subst (λ (p : ℕ). Updates nat_cmp c.loop-j.nodes c.insert.new.self p (Some c.index-pinned-j.result)) place c.in_ok-insert.ensures.updates in
+    let pushed : c.push.new.self.items ≡ c.loop-j.nodes.items ++ ((s.position (first_at s n j) (height_at s n j), c.index-pinned-j.result) ∷ []) =
+    subst (λ (p : ℕ). c.push.new.self.items ≡ c.loop-j.nodes.items ++ ((p, c.index-pinned-j.result) ∷ [])) place (search rules) in
     record {
       at = rw (c.width-start.ensures, add-one) st.next;
-      pins = rw add-one (pinned_step s n j c.loop-j.nodes c.insert.new.self c.args.pinned.now c.index-pinned-j.result g.met.F.Family.lawful lt
-          (λ d. read-get_or c.args.pinned.now j c.index-pinned-j.result d (omega (arith, lt, c.requires.counted)) c.index-pinned-j.is) c.loop-j.invariant.pins updates);
+      pins = rw add-one (pinned_step s n j c.loop-j.nodes.items c.push.new.self.items c.args.pinned.now c.index-pinned-j.result g.met.F.Family.lawful lt
+          (λ d. read-get_or c.args.pinned.now j c.index-pinned-j.result d (omega (arith, lt, c.requires.counted)) c.index-pinned-j.is) c.loop-j.invariant.pins pushed);
     }

@@ -8,12 +8,12 @@ use Rattle.tree_core.proofs.mem.Mem.root.Goals as goal
 pub root_from-requires-clause-there : goal.root_from-requires-clause-there
 root_from-requires-clause-there g c x k peak =
     let s = g.F.Family.shape in
-    subst (λ (t : Tree g.row.D.Denot). IsSome (node_at t (s.position x k))) c.self.view_is (tree_tells s _ g.met.F.Family.lawful g.met.F.Family.keeps c.self.invariant x k peak)
+    subst (λ (t : Tree g.row.D.Denot). IsSome (node_at t (s.position x k))) c.self.view_is (tree_tells s _ g.met.F.Family.lawful g.met.F.Family.keeps c.self.invariant.sound x k peak)
 
 pub returns-clause-root : goal.returns-clause-root
 returns-clause-root g c all of =
     let s = g.F.Family.shape in
     let n : c.self.inside.leaves ≡ c.args.self.now.leaves = ap (λ (t : Tree g.row.D.Denot). t.leaves) c.self.view_is in
-    let sound : IsSound s c.args.self.now = subst (λ (t : Tree g.row.D.Denot). IsSound s t) c.self.view_is c.self.invariant in
+    let sound : IsSound s c.args.self.now = subst (λ (t : Tree g.row.D.Denot). IsSound s t) c.self.view_is c.self.invariant.sound in
     root_is s g.H.Hasher.hash all c.self.inside.leaves c.args.inactive_peaks (λ x k. node_at c.args.self.now (s.position x k)) c.args.hasher.now c.root_from.result (n ∙ of.count)
     (λ x k peak. tree_told s g.H.Hasher.hash all c.args.self.now g.met.F.Family.lawful g.met.F.Family.keeps sound of x k (subst (λ (m : ℕ). PeakOf s m x k) n peak)) c.root_from.ensures

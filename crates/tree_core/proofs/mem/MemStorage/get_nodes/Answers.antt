@@ -1,6 +1,6 @@
 use Rattle.std.proofs.Common.{ℕ, length, Some, refl, sym, ◌∙◌, ap, subst}
 use Rattle.std.proofs.lemmas.Option.{slice_get_read}
-use Rattle.tree_core.specs.Tree.{Tree, node_at}
+use Rattle.tree_core.specs.Tree.{node_at}
 use Rattle.tree_store.specs.Stores.{IsFirstAbsent}
 use Rattle.tree_store.proofs.StoreLemmas.{first_absent}
 use Rattle.tree_core.proofs.mem.MemStorage.get_nodes.Goals as goal
@@ -8,6 +8,6 @@ use Rattle.tree_core.proofs.mem.MemStorage.get_nodes.Goals as goal
 pub returns-in-None-clause-outside : goal.returns-in-None-clause-outside
 returns-in-None-clause-outside g c below tells held =
     let at = slice_get_read c.args.positions.now (length c.args.positions.now) c.loop-i.i _ refl c.loop-i-test.true c.index-positions-i.is ∙ ap Some (sym c.as_u64-position.ensures) in
-    let none = ap (λ (t : Tree g.row.D.Denot). node_at t c.as_u64-position.result) (sym c.self.view_is) ∙ sym c.in-None.ensures.value in
+    let none = sym c.in-None.ensures in
     subst (λ (p : ℕ). IsFirstAbsent (node_at c.args.self.now) c.args.positions.now p) (sym c.new.ensures)
     (first_absent (node_at c.args.self.now) c.args.positions.now c.loop-i.i c.as_u64-position.result c.loop-i.nodes.items c.loop-i.invariant at none)

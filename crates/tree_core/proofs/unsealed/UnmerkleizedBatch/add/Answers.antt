@@ -4,7 +4,7 @@ use Rattle.tree_shape.specs.Hashing.{leaf_input}
 use Rattle.tree_shape.specs.Shape.{made}
 use Rattle.tree_shape.specs.Slow.{leaf}
 use Rattle.tree_core.specs.Batches.{leaf_count, with_digests}
-use Rattle.tree_core.proofs.Later.{leaf_position}
+use Rattle.tree_shape.proofs.NeededLemmas.{leaf_position}
 use Rattle.tree_core.proofs.unsealed.UnmerkleizedBatch.add.Goals as goal
 
 pub returns-clause-ok : goal.returns-clause-ok
