@@ -127,18 +127,17 @@ fn the_belt_has_its_shape(rt: HostRuntime) {
     }
 }
 
-/// What memory tells at the positions from one to another.
+/// What memory tells at the positions from one to another, each of which it has.
 fn told<R: Readable>(
     alloc: Global,
     memory: &R,
     first: u64,
     end: u64,
-) -> Result<Vec<R::Digest>, AllocError> {
+) -> Result<Vec<R::Digest>, Fail> {
     let mut nodes = Vec::new(alloc);
     for position in first..end {
-        if let Some(digest) = memory.get_node(Position::new(position)) {
-            nodes.push(digest)?;
-        }
+        let node = memory.get_node(Position::new(position));
+        nodes.push(node.ok_or("a node is absent")?)?;
     }
     Ok(nodes)
 }
@@ -169,39 +168,50 @@ fn add_pin<F: Family, D: Digest>(
     tree.add_pinned_nodes(pins)
 }
 
-#[test]
-fn a_tree_is_rebuilt_from_its_pins(rt: HostRuntime) -> Result<(), Fail> {
-    rebuilt_roots::<Mmb, Sha256Digest>();
-    let alloc = rt.alloc();
-    let hasher = Standard::<Sha256Hasher>::new(Bagging::BackwardFold);
-    let mut tree = Mem::<Mmb, Sha256Digest>::new(alloc)?;
+/// The tree of the elements, and its number of nodes.
+fn whole(
+    alloc: Global,
+    hasher: &Standard<Sha256Hasher>,
+) -> Result<(Mem<Mmb, Sha256Digest>, u64), Error<Mmb>> {
+    let mut tree = Mem::new(alloc)?;
     let mut batch = tree.new_batch()?;
     for element in ELEMENTS {
-        batch.add(&hasher, element)?;
+        batch.add(hasher, element)?;
     }
-    tree.apply_batch(&batch.merkleize(&hasher, 0)?)?;
+    tree.apply_batch(&batch.merkleize(hasher, 0)?)?;
     let size = Readable::size(&tree).as_u64();
+    Ok((tree, size))
+}
+
+/// The same, rebuilt from the two peaks of five leaves, of which one stands at 7 and one at 6, and from the nodes behind them.
+fn rebuilt(
+    alloc: Global,
+    tree: &Mem<Mmb, Sha256Digest>,
+    size: u64,
+) -> Result<Mem<Mmb, Sha256Digest>, Fail> {
     let boundary = Location::new(5);
     let mut pins = Vec::new(alloc);
     for pin in Mmb::nodes_to_pin(boundary) {
-        if let Some(digest) = tree.get_node(pin) {
-            pins.push(digest)?;
-        }
+        pins.push(tree.get_node(pin).ok_or("a peak is absent")?)?;
     }
+    let rebuilt = Mem::init(alloc, told(alloc, tree, 8, size)?, boundary, pins)?;
+    Ok(rebuilt)
+}
+
+#[test]
+fn a_tree_is_not_built_from_too_little(rt: HostRuntime) -> Result<(), Fail> {
+    let alloc = rt.alloc();
+    let (tree, size) = whole(alloc, &Standard::new(Bagging::BackwardFold))?;
     let short = Mem::<Mmb, Sha256Digest>::init(
         alloc,
         told(alloc, &tree, 8, size)?,
-        boundary,
+        Location::new(5),
         told(alloc, &tree, 7, 8)?,
     );
     assert!(rt; short.err() == Some(Error::InvalidPinnedNodes));
-    let far = Mem::<Mmb, Sha256Digest>::init(
-        alloc,
-        Vec::new(alloc),
-        Location::new(MAX_LEAVES + 1),
-        Vec::new(alloc),
-    );
-    assert!(rt; far.err() == Some(Error::LocationOverflow(Location::new(MAX_LEAVES + 1))));
+    let past = Location::new(MAX_LEAVES + 1);
+    let far = Mem::<Mmb, Sha256Digest>::init(alloc, Vec::new(alloc), past, Vec::new(alloc));
+    assert!(rt; far.err() == Some(Error::LocationOverflow(past)));
     let cut = Mem::<Mmb, Sha256Digest>::init(
         alloc,
         told(alloc, &tree, 0, 2)?,
@@ -209,17 +219,37 @@ fn a_tree_is_rebuilt_from_its_pins(rt: HostRuntime) -> Result<(), Fail> {
         Vec::new(alloc),
     );
     assert!(rt; cut.err() == Some(Error::MissingNode(Position::new(2))));
-    let mut rebuilt = Mem::init(alloc, told(alloc, &tree, 8, size)?, boundary, pins)?;
+    Ok(())
+}
+
+#[test]
+fn a_tree_is_rebuilt_from_its_pins(rt: HostRuntime) -> Result<(), Fail> {
+    rebuilt_roots::<Mmb, Sha256Digest>();
+    needed_nodes::<Mmb>();
+    let hasher = Standard::new(Bagging::BackwardFold);
+    let (tree, size) = whole(rt.alloc(), &hasher)?;
+    let rebuilt = rebuilt(rt.alloc(), &tree, size)?;
     assert_eq!(rt; rebuilt.leaves().as_u64(), 7);
     assert!(rt; rebuilt.root(&hasher, 0)? == tree.root(&hasher, 0)?);
     assert!(rt; rebuilt.get_node(Position::new(2)).is_none());
-    let Some(digest) = tree.get_node(Position::new(2)) else {
-        return Ok(());
-    };
+    assert!(rt; told(rt.alloc(), &rebuilt, 6, size)? == told(rt.alloc(), &tree, 6, size)?);
+    assert!(rt; rebuilt.get_node(Position::new(size)).is_none());
+    Ok(())
+}
+
+#[test]
+fn further_nodes_are_kept_until_a_prune(rt: HostRuntime) -> Result<(), Fail> {
+    let alloc = rt.alloc();
+    let (tree, size) = whole(alloc, &Standard::new(Bagging::BackwardFold))?;
+    let mut rebuilt = rebuilt(alloc, &tree, size)?;
+    let two = Position::new(2);
+    let digest = tree.get_node(two).ok_or("a node is absent")?;
     assert!(rt; 2 < rebuilt.size().as_u64());
     add_pin(alloc, &mut rebuilt, 2, digest)?;
-    assert!(rt; rebuilt.get_node(Position::new(2)) == tree.get_node(Position::new(2)));
+    assert!(rt; rebuilt.get_node(two) == Some(digest));
+    assert!(rt; told(alloc, &rebuilt, 6, size)? == told(alloc, &tree, 6, size)?);
     rebuilt.prune(Location::new(6))?;
-    assert!(rt; rebuilt.get_node(Position::new(2)).is_none());
+    assert!(rt; rebuilt.get_node(two).is_none());
+    assert!(rt; told(alloc, &rebuilt, 9, size)? == told(alloc, &tree, 9, size)?);
     Ok(())
 }
