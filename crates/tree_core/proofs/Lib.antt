@@ -13,3 +13,4 @@ pub mod PinnedLemmas
 pub mod BuiltLemmas
 pub mod PinningLemmas
 pub mod RebuiltLemmas
+pub mod OverlayLemmas

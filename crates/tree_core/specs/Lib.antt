@@ -9,6 +9,11 @@ pub use Rattle.tree_shape.specs.Root
 pub use Rattle.tree_shape.specs.Mmr
 pub use Rattle.tree_shape.specs.Mmb
 pub use Rattle.tree_shape.specs.Table
+pub use Rattle.tree_proof.specs.Cover
+pub use Rattle.tree_proof.specs.Check
+pub use Rattle.tree_proof.specs.SlowProof
+pub use Rattle.tree_proof.specs.Inputs
+pub use Rattle.tree_verification.specs.Ranges
 pub use Rattle.tree_store.specs.Errors
 pub use Rattle.tree_store.specs.Stores
 pub use Rattle.tree_store.specs.declared.error.Error as TreeErrors
@@ -19,3 +24,4 @@ pub mod Shelf
 pub mod Tree
 pub mod Batches
 pub mod Applied
+pub mod Overlay

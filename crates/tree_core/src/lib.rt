@@ -6,15 +6,18 @@ mod kept;
 mod laws;
 mod mark;
 mod mem;
+mod overlay;
 mod peaks;
 mod sealed;
 mod segment;
 mod shelf;
 mod unsealed;
+pub mod verification;
 
 pub use laws::rebuilt_roots;
 pub use mem::Mem;
 pub use sealed::MerkleizedBatch;
+pub use tree_proof::{Proof, verify};
 pub use tree_shape::{
     Bagging, Digest, Family, Hasher, Location, MAX_LEAVES, Mmb, Mmr, Pins, Position, Sha256Digest,
     Sha256Hasher, Standard, needed_nodes, slow_node, slow_peaks, slow_root, table_laws,

@@ -9,7 +9,9 @@ use std::alloc::{AllocError, Global};
 use std::collections::BTreeMap;
 use std::marker::{Model, PhantomData};
 use std::rc::Rc;
+use tree_proof::Proof;
 use tree_shape::{Digest, Family, Hasher, Location, MAX_LEAVES, Position, Standard};
+use tree_verification::{proof_from_memory, range_proof_from_memory};
 use volume_base::Volume;
 
 /// A tree in memory, pruned at a boundary: some nodes before it, the pins, and all nodes from there on, with their positions.
@@ -59,6 +61,8 @@ impl<F: Family, D: Digest> Mem<F, D> {
     ghost use Rattle.tree_core.specs.Tree.{Tree, node_at, IsSound, IsOf, IsLike, IsPrunedTo, IsGrown, IsBuilt, NotBuilt, IsPinned, empty_tree, prune_answer};
     ghost use Rattle.tree_core.specs.Batches.{BeginsAt, StandsAt, IsUnsealedOf, IsSealedOf};
     ghost use Rattle.tree_core.specs.Applied.{IsLonger, Fits, Refused};
+    ghost use Rattle.tree_proof.specs.Cover.{meets};
+    ghost use Rattle.tree_verification.specs.Ranges.{range_answer, leaf_answer, Proves};
 
     /// The empty tree. It takes no memory.
     pub fn new(alloc: Global) -> Result<Self, Error<F>>
@@ -158,6 +162,27 @@ impl<F: Family, D: Digest> Mem<F, D> {
             d ≡ root_over H.hash self.now.leaves ds inactive_peaks hasher.now) }
     {
         Ok(root_from::<F, H, Mem<F, D>>(self, hasher, self.leaves, inactive_peaks))
+    }
+
+    /// The proof of one leaf.
+    pub fn proof(&self, loc: Location<F>, inactive_peaks: u64) -> Result<Proof<F, D>, Error<F>>
+        requires { inactive_peaks ≤ length (F.shape.heights self.now.leaves) }
+        ensures { Proves F.shape (leaf_answer self.now.leaves loc) self.now.leaves inactive_peaks (meets loc (loc + 1)) (node_at self.now) result }
+    {
+        proof_from_memory(self.alloc, self, self.leaves(), loc, inactive_peaks)
+    }
+
+    /// The proof of the leaves from `start` up to `end`.
+    pub fn range_proof(
+        &self,
+        start: Location<F>,
+        end: Location<F>,
+        inactive_peaks: u64,
+    ) -> Result<Proof<F, D>, Error<F>>
+        requires { inactive_peaks ≤ length (F.shape.heights self.now.leaves) }
+        ensures { Proves F.shape (range_answer self.now.leaves self.now.leaves start end) self.now.leaves inactive_peaks (meets start end) (node_at self.now) result }
+    {
+        range_proof_from_memory(self.alloc, self, self.leaves(), start, end, inactive_peaks)
     }
 
     /// Prunes to a number of leaves. It takes no memory.

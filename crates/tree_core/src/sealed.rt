@@ -1,10 +1,13 @@
 use crate::mark::Mark;
+use crate::overlay::Overlay;
 use crate::segment::{Segment, node_in, nodes_from_place, place_of, share_from};
-use crate::{Error, UnmerkleizedBatch};
+use crate::{Error, Mem, UnmerkleizedBatch};
 use std::alloc::{AllocError, Global};
 use std::marker::Model;
 use std::rc::Rc;
+use tree_proof::Proof;
 use tree_shape::{Digest, Family, Hasher, Location, Position, Standard};
+use tree_verification::{proof_from_memory, range_proof_from_memory};
 
 /// A sealed batch: the mark on which its chain began, and the segments that are kept, its own the last.
 #[derive(Drop)]
@@ -36,6 +39,10 @@ impl<F: Family, D: Digest> MerkleizedBatch<F, D> {
     ghost use Rattle.tree_core.specs.Links.{Link, IsLinked, HasMark, joined_nodes};
     ghost use Rattle.tree_core.specs.Batches.{Sealed, IsSoundSealed, IsSealedOf, IsUnsealedOf, IsChildOf, sealed_node};
     ghost use Rattle.tree_core.specs.Applied.{WhyNot};
+    ghost use Rattle.tree_core.specs.Tree.{IsOf};
+    ghost use Rattle.tree_core.specs.Overlay.{overlaid, AreAlike};
+    ghost use Rattle.tree_proof.specs.Cover.{meets};
+    ghost use Rattle.tree_verification.specs.Ranges.{range_answer, leaf_answer, proof_of, Proves};
 
     /// The batch of these segments, whose leaves follow one another from `first` to `leaves`.
     pub(crate) fn seal(
@@ -81,11 +88,18 @@ impl<F: Family, D: Digest> MerkleizedBatch<F, D> {
         Position::new(F::size(self.leaves))
     }
 
+    /// The position of the first node that this batch and its kept ancestors made.
+    pub(crate) fn first_position(&self) -> u64
+        ensures { result ≡ length (made F.shape self.now.first) }
+    {
+        F::size(self.first)
+    }
+
     /// The node at a position, of those that this batch and its kept ancestors made.
     pub fn get_node(&self, pos: Position<F>) -> Option<D>
         ensures { result ≡ sealed_node F.shape self.now pos }
     {
-        let first = F::size(self.first);
+        let first = self.first_position();
         if pos.as_u64() < first {
             return None;
         }
@@ -103,6 +117,46 @@ impl<F: Family, D: Digest> MerkleizedBatch<F, D> {
         ensures root { IfOk result (λ d. (all : List D) → IsSealedOf F.shape H.hash all self.now → d ≡ root F.shape H.hash all inactive_peaks hasher.now) }
     {
         Ok(self.own().root(hasher, inactive_peaks))
+    }
+
+    /// The proof of one leaf of the tree with this batch, over a tree that has what stands before the batch's nodes.
+    pub fn proof(
+        &self,
+        base: &Mem<F, D>,
+        loc: Location<F>,
+        inactive_peaks: u64,
+    ) -> Result<Proof<F, D>, Error<F>>
+        requires { inactive_peaks ≤ length (F.shape.heights self.now.leaves) }
+        ensures proves { Proves F.shape (leaf_answer self.now.leaves loc) self.now.leaves inactive_peaks (meets loc (loc + 1)) (overlaid F.shape self.now base.now) result }
+        ensures batch { IfOk result (λ proof. (h : Hashing D) (all made : List D) → IsOf F.shape h all base.now → IsSealedOf F.shape h made self.now → AreAlike all made →
+            proof ≡ proof_of F.shape h made inactive_peaks (meets loc (loc + 1))) }
+    {
+        let nodes = Overlay { base, batch: self };
+        proof_from_memory(self.alloc, &nodes, self.leaves(), loc, inactive_peaks)
+    }
+
+    /// The proof of the leaves from `start` up to `end` of the tree with this batch, over a tree that has what stands before the batch's nodes.
+    pub fn range_proof(
+        &self,
+        base: &Mem<F, D>,
+        start: Location<F>,
+        end: Location<F>,
+        inactive_peaks: u64,
+    ) -> Result<Proof<F, D>, Error<F>>
+        requires { inactive_peaks ≤ length (F.shape.heights self.now.leaves) }
+        ensures proves { Proves F.shape (range_answer self.now.leaves self.now.leaves start end) self.now.leaves inactive_peaks (meets start end) (overlaid F.shape self.now base.now) result }
+        ensures batch { IfOk result (λ proof. (h : Hashing D) (all made : List D) → IsOf F.shape h all base.now → IsSealedOf F.shape h made self.now → AreAlike all made →
+            proof ≡ proof_of F.shape h made inactive_peaks (meets start end)) }
+    {
+        let nodes = Overlay { base, batch: self };
+        range_proof_from_memory(
+            self.alloc,
+            &nodes,
+            self.leaves(),
+            start,
+            end,
+            inactive_peaks,
+        )
     }
 
     /// A child, with this batch's segments and its own.

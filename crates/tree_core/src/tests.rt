@@ -4,6 +4,7 @@ ghost use Rattle.std.specs.BTreeMap.{get};
 ghost use Rattle.std.specs.Ordering.{nat_cmp};
 
 use super::*;
+use codec_base::Bytes;
 use std::alloc::{AllocError, AllocFailed, Global};
 use std::collections::BTreeMap;
 use std::test::Fail;
@@ -251,5 +252,58 @@ fn further_nodes_are_kept_until_a_prune(rt: HostRuntime) -> Result<(), Fail> {
     rebuilt.prune(Location::new(6))?;
     assert!(rt; rebuilt.get_node(two).is_none());
     assert!(rt; told(alloc, &rebuilt, 9, size)? == told(alloc, &tree, 9, size)?);
+    Ok(())
+}
+
+/// The proofs of the second and third leaf, and of the second alone, in the tree that a batch makes and in the batch.
+fn proofs_by_a_batch(
+    alloc: Global,
+    tree: &mut Mem<Mmr, Sha256Digest>,
+) -> Result<(Proof<Mmr, Sha256Digest>, Proof<Mmr, Sha256Digest>), Error<Mmr>> {
+    let hasher = Standard::<Sha256Hasher>::new(Bagging::ForwardFold);
+    let mut batch = tree.new_batch()?;
+    batch.add(&hasher, ELEMENTS[0])?;
+    batch.add(&hasher, ELEMENTS[1])?;
+    batch.add(&hasher, ELEMENTS[2])?;
+    let sealed = batch.merkleize(&hasher, 0)?;
+    let two = sealed.range_proof(tree, Location::new(1), Location::new(3), 0)?;
+    let one = sealed.proof(tree, Location::new(1), 0)?;
+    tree.apply_batch(&sealed)?;
+    Ok((two, one))
+}
+
+#[test]
+fn proofs_have_the_nodes_of_their_cover(rt: HostRuntime) -> Result<(), Fail> {
+    let alloc = rt.alloc();
+    let hasher = Standard::<Sha256Hasher>::new(Bagging::ForwardFold);
+    let mut tree = Mem::<Mmr, Sha256Digest>::new(alloc)?;
+    let (two, one) = proofs_by_a_batch(alloc, &mut tree)?;
+    assert_eq!(rt; two.digests.len(), 1);
+    assert_eq!(rt; one.digests.len(), 2);
+    assert!(rt; two == tree.range_proof(Location::new(1), Location::new(3), 0)?);
+    assert!(rt; one == tree.proof(Location::new(1), 0)?);
+    let mut elements = Vec::new(alloc);
+    elements.push(Bytes::from_slice(alloc, ELEMENTS[1])?)?;
+    let root = tree.root(&hasher, 0)?;
+    assert!(rt; verify(alloc, &hasher, &one, Location::new(1), &elements, &root)?);
+    assert!(rt; !verify(alloc, &hasher, &one, Location::new(0), &elements, &root)?);
+    Ok(())
+}
+
+#[test]
+fn proofs_are_refused_in_order(rt: HostRuntime) -> Result<(), Fail> {
+    let mut tree = Mem::<Mmr, Sha256Digest>::new(rt.alloc())?;
+    let (_, _) = proofs_by_a_batch(rt.alloc(), &mut tree)?;
+    let most = Location::new(MAX_LEAVES);
+    assert!(rt; tree.range_proof(most, most, 0).err() == Some(Error::Empty));
+    let past = Location::new(MAX_LEAVES + 1);
+    assert!(rt; tree.range_proof(most, past, 0).err() == Some(Error::LocationOverflow(past)));
+    assert!(rt; tree.proof(most, 0).err() == Some(Error::LocationOverflow(most)));
+    let four = Location::new(4);
+    assert!(rt; tree.proof(Location::new(3), 0).err() == Some(Error::RangeOutOfBounds(four)));
+    tree.prune(Location::new(2))?;
+    assert!(rt;
+        tree.proof(Location::new(1), 0).err() == Some(Error::ElementPruned(Position::new(0)))
+    );
     Ok(())
 }

@@ -1,12 +1,13 @@
 -- Proofs of the leaves of a list, and why one isn't made.
-use Rattle.std.specs.Prelude.{◌≡◌, ℕ, ◌^◌, nat_le, List, length, map, Result, Ok, Err, if◌then◌else◌}
+use Rattle.std.specs.Prelude.{◌≡◌, ℕ, ◌+◌, ◌^◌, nat_le, nat_lt, List, length, map, Option, Result, Ok, Err, IfOk, IfErr, if◌then◌else◌}
 use Rattle.tree_shape.specs.Hashing.{Hashing}
 use Rattle.tree_shape.specs.Shape.{Shape}
 use Rattle.tree_shape.specs.Pins.{position_of}
 use Rattle.tree_proof.specs.declared.proof.Proof.{Proof}
 use Rattle.tree_proof.specs.Cover.{Met, cover, cover_digests}
+use Rattle.tree_store.specs.Stores.{IsTreeOf, IsFirstAbsent}
 use Rattle.tree_store.specs.declared.error.Error.{Error}
-use Rattle.tree_store.specs.declared.error.Error.TheVariants.{Empty, LocationOverflow, RangeOutOfBounds}
+use Rattle.tree_store.specs.declared.error.Error.TheVariants.{Empty, LocationOverflow, RangeOutOfBounds, ElementPruned, Memory}
 
 -- where the nodes of the cover stand, in its order
 abbrev pub cover_positions : Shape → Met → ℕ → List ℕ
@@ -27,3 +28,21 @@ abbrev pub range_answer : {F : Type 0} → ℕ → ℕ → ℕ → ℕ → Resul
 range_answer stored n a b =
     if nat_le b a then Err Empty
     else (if nat_le b (2 ^ 62) then (if nat_le n stored then (if nat_le b n then Ok tt else Err (RangeOutOfBounds b)) else Err (RangeOutOfBounds n)) else Err (LocationOverflow b))
+
+-- the same for one leaf of a tree of n
+abbrev pub leaf_answer : {F : Type 0} → ℕ → ℕ → Result (Unit {0}) (Error F)
+leaf_answer n l = if nat_lt l (2 ^ 62) then range_answer n n l (l + 1) else Err (LocationOverflow l)
+
+-- the first of these positions at which memory has no node is named, or memory is wanting
+abbrev pub IsUnread : {F D : Type 0} → (ℕ → Option D) → List ℕ → Error F → Type 0
+IsUnread told ps (ElementPruned p) = IsFirstAbsent told ps p
+IsUnread told ps Memory = Unit {0}
+IsUnread told ps _ = ⊥
+
+-- what a proof from memory that tells these nodes of a tree of n leaves answers: the refusal that no read decides, or else the proof, or the first node of the cover that isn't there
+pub record Proves {F D : Type 0} (s : Shape) (answer : Result (Unit {0}) (Error F)) (n inactive : ℕ) (met : Met) (told : ℕ → Option D) (result : Result (Proof F D) (Error F)) : Type 0 where
+  pub refused : (e : Error F) → answer ≡ Err e → result ≡ Err e
+  pub within : IfOk result (λ proof. answer ≡ Ok tt)
+  pub form : IfOk result (HasForm s n inactive met)
+  pub proof : IfOk result (λ proof. (h : Hashing D) (all : List D) → IsTreeOf s h all n told → proof ≡ proof_of s h all inactive met)
+  pub unread : answer ≡ Ok tt → IfErr result (IsUnread told (cover_positions s met n))

@@ -3,10 +3,12 @@
 
 mod bounds;
 mod laws;
+mod memory;
 mod ranges;
 mod reading;
 mod walk;
 mod wanted;
 
 pub use laws::range_proofs_check;
+pub use memory::{proof_from_memory, range_proof_from_memory};
 pub use ranges::{historical_range_proof, range_proof};

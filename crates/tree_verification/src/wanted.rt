@@ -2,7 +2,7 @@
 ghost use Rattle.std.specs.Prelude.{◌≡◌, ◌≤◌, ◌<◌, ◌+◌, ◌^◌};
 ghost use Rattle.tree_proof.specs.Cover.{Met, meets};
 
-use tree_shape::{Location, width};
+use tree_shape::width;
 
 /// Leaves that are to be proved.
 pub(crate) trait Wanted {

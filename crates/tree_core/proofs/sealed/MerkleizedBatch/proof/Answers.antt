@@ -1,0 +1,12 @@
+use Rattle.std.proofs.Common.{◌+◌, subst}
+use Rattle.tree_proof.specs.Cover.{meets}
+use Rattle.tree_verification.specs.Ranges.{proof_of}
+use Rattle.tree_core.specs.Batches.{Sealed, IsSoundSealed}
+use Rattle.tree_core.proofs.OverlayLemmas.{overlay-proof}
+use Rattle.tree_core.proofs.sealed.MerkleizedBatch.proof.Goals as goal
+
+pub returns-clause-batch : goal.returns-clause-batch
+returns-clause-batch g c =
+    let s = g.F.Family.shape in
+    let sound = subst (λ (b : Sealed g.row.D.Denot). IsSoundSealed s b) c.self.view_is c.self.invariant in
+    overlay-proof s c.args.self.now c.args.base.now _ (λ h all. proof_of s h all c.args.inactive_peaks (meets c.args.loc (c.args.loc + 1))) c.proof_from_memory.result g.met.F.Family.lawful sound c.leaves.ensures.leaves c.proof_from_memory.ensures.proof
