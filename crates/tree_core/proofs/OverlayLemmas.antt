@@ -13,7 +13,8 @@ use Rattle.tree_core.specs.Links.{joined_nodes}
 use Rattle.tree_core.specs.Tree.{Tree, node_at, IsOf}
 use Rattle.tree_core.specs.Batches.{Sealed, IsSoundSealed, IsSealedOf, sealed_node}
 use Rattle.tree_core.specs.Overlay.{overlaid, AreAlike}
-use Rattle.tree_core.proofs.Later.{get_past, get_front, made-split, made_le, nodes-grow}
+use Rattle.tree_shape.proofs.NeededLemmas.{made_le}
+use Rattle.tree_core.proofs.Later.{get_past, get_front, made-split, nodes-grow}
 use Rattle.tree_core.proofs.LinkLemmas.{joined_of, ends_with}
 
 -- the nodes of a list that another begins, or that it begins, as far as both go

@@ -1,8 +1,17 @@
--- Peaks read one by one.
+-- Nodes read from memory, and peaks read one by one.
 use Rattle.std.specs.Prelude.{◌≡◌, ℕ, ◌-◌, ◌<◌, List, length, Option, Some, IsSome, slice_index_or}
 use Rattle.tree_shape.specs.Shape.{Shape}
 use Rattle.tree_shape.specs.Kept.{PeakOf}
 use Rattle.tree_shape.specs.Pins.{base}
+use Rattle.tree_store.specs.Stores.{IsFirstAbsent}
+use Rattle.tree_store.specs.declared.error.Error.{Error}
+use Rattle.tree_store.specs.declared.error.Error.TheVariants.{Memory, ElementPruned}
+
+-- a read of memory was refused: there is no memory, or the first of these positions without a node is named
+abbrev pub IsAbsent : {F D : Type 0} → (ℕ → Option D) → List ℕ → Error F → Type 0
+IsAbsent told ps (ElementPruned p) = IsFirstAbsent told ps p
+IsAbsent told ps Memory = Unit {0}
+IsAbsent told ps _ = ⊥
 
 -- t tells each peak of n leaves
 abbrev pub TellsPeaks : {D : Type 0} → Shape → ℕ → (ℕ → ℕ → Option D) → Type 0

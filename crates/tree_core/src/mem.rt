@@ -332,10 +332,11 @@ impl<F: Family, D: Digest> Readable for Mem<F, D> {
 }
 
 impl<F: Family, D: Digest> Storage<F> for Mem<F, D> {
-    ghost use Rattle.std.specs.Prelude.{◌≡◌, ◌<◌, length, map, Some, All, AllPairs, IfOk, IfErr};
+    ghost use Rattle.std.specs.Prelude.{◌≡◌, ◌<◌, length, map, Some, Ok, All, AllPairs, IfOk, IfErr};
     ghost use Rattle.tree_shape.specs.Shape.{made};
     ghost use Rattle.volume_base.specs.Volume.{Reads};
     ghost use Rattle.tree_store.specs.Stores.{IsReadFault, IsReadRefusal, IsOutside, IsOutsideOr};
+    ghost use Rattle.tree_core.specs.Reading.{IsAbsent};
     ghost use Rattle.tree_core.specs.Tree.{node_at};
 
     type Digest = D;
@@ -359,6 +360,9 @@ impl<F: Family, D: Digest> Storage<F> for Mem<F, D> {
         ensures fault { position < length (made F.shape self.now.leaves) → IfErr result IsReadFault }
         ensures outside { position < length (made F.shape self.now.leaves) → V.tells → Unit {0} → IfErr result IsOutside }
         ensures reads { Reads V.tells Error.Volume (V.state _vol.old) (V.state _vol.new) result }
+        // It is told from memory, at any position.
+        ensures exact { result ≡ Ok (node_at self.now position) }
+        ensures volume { _vol.new ≡ _vol.old }
     {
         Ok(Mem::get_node(self, position))
     }
@@ -372,6 +376,10 @@ impl<F: Family, D: Digest> Storage<F> for Mem<F, D> {
         ensures fault { All (λ p. p < length (made F.shape self.now.leaves)) positions.now → IfErr result IsReadRefusal }
         ensures outside { All (λ p. p < length (made F.shape self.now.leaves)) positions.now → V.tells → Unit {0} → IfErr result (IsOutsideOr (node_at self.now) positions.now) }
         ensures reads { Reads V.tells Error.Volume (V.state _vol.old) (V.state _vol.new) result }
+        // They are told from memory, at any positions.
+        ensures exact { IfOk result (λ nodes. map Some nodes.items ≡ map (node_at self.now) positions.now) }
+        ensures absent { IfErr result (IsAbsent (node_at self.now) positions.now) }
+        ensures volume { _vol.new ≡ _vol.old }
     {
         let mut nodes = Vec::new(self.alloc);
         for i in 0..positions.len() {
