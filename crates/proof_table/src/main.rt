@@ -1,0 +1,20 @@
+//! Prints how many digests the proof of each range of each small tree has, for both families, with digests over the proofs;
+//! and how many of them are accepted, and of their damaged copies refused.
+#![tactic(auto)]
+
+mod cases;
+mod damage;
+mod elements;
+mod error;
+mod table;
+
+use crate::error::TableError;
+use crate::table::print_family;
+use tree_core::{Mmb, Mmr};
+
+const LEAVES: u64 = 20;
+
+fn main(rt: HostRuntime) -> Result<(), TableError> {
+    print_family::<Mmr>(&rt, rt.alloc(), "mmr", LEAVES)?;
+    print_family::<Mmb>(&rt, rt.alloc(), "mmb", LEAVES)
+}
