@@ -7,6 +7,8 @@ mod damage;
 mod elements;
 mod error;
 mod table;
+#[cfg(test)]
+mod tests;
 
 use crate::error::TableError;
 use crate::table::print_family;

@@ -1,3 +1,4 @@
 mod CoverLemmas
 mod NodeLemmas
 mod WalkLemmas
+mod SeveralLemmas

@@ -1,7 +1,7 @@
 -- What a store tells at the positions of a cover.
 use Rattle.std.proofs.Common.{◌≡◌, ℕ, zero, suc, ◌+◌, ◌-◌, ◌*◌, ◌^◌, ◌≤◌, List, [], ◌∷◌, length, map, take, Some, Option, refl, sym, ◌∙◌, ap, subst, arith}
 use Rattle.std.proofs.Math.Nat.{pow-suc}
-use Rattle.std.specs.Prelude.{slice_get, ◌++◌}
+use Rattle.std.specs.Prelude.{slice_get, ◌++◌, Result, Ok, Err, IfOk}
 use Rattle.std.specs.Option.{option_map}
 use Rattle.std.proofs.lemmas.Option.{slice_get-map, same_Some}
 use Rattle.std.proofs.lemmas.List.{map-append, get_or-take, length-take-le, length-map}
@@ -15,6 +15,11 @@ use Rattle.tree_proof.specs.declared.proof.Proof.{Proof}
 use Rattle.tree_proof.specs.Cover.{Met, cover}
 use Rattle.tree_verification.specs.Ranges.{cover_positions, proof_of}
 use Rattle.tree_verification.proofs.CoverLemmas.{ArePlaced, cover-placed}
+
+-- what a value gives, in a result
+pub ok_gives : {T E : Type 0} (P Q : T → Type 0) → ((x : T) → P x → Q x) → (r : Result T E) → IfOk r P → IfOk r Q
+ok_gives P Q f (Ok x) p = f x p
+ok_gives P Q f (Err e) p = tt
 
 -- what n leaves have stands there in a tree of more
 pub stands-later : (s : Shape) (n m p x k : ℕ) → n ≤ m → Stands (made s n) p x k → Stands (made s m) p x k

@@ -42,6 +42,7 @@ fn prove_from_memory<R: Readable, W: Wanted>(
     wanted: &W,
     inactive_peaks: u64,
 ) -> Result<Proof<R::Family, R::Digest>, Error<R::Family>>
+    requires ready { W.ready wanted.now }
     requires few { leaves ≤ 2 ^ 62 }
     ensures form { IfOk result (HasForm R.Family.shape leaves inactive_peaks (W.met wanted.now)) }
     ensures proof { IfOk result (λ proof. (h : Hashing R.Digest) (all : List R.Digest) → IsTreeOf R.Family.shape h all leaves (R.told nodes.now) → proof ≡ proof_of R.Family.shape h all inactive_peaks (W.met wanted.now)) }

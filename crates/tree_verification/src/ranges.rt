@@ -28,6 +28,7 @@ pub(crate) fn prove<F: Family, S: Storage<F>, V: Volume, W: Wanted>(
     wanted: &W,
     inactive_peaks: u64,
 ) -> Result<Proof<F, S::Digest>, Error<F>>
+    requires ready { W.ready wanted.now }
     requires few { leaves ≤ 2 ^ 62 }
     requires stored { leaves ≤ S.leaves store.now }
     ensures form { IfOk result (HasForm F.shape leaves inactive_peaks (W.met wanted.now)) }

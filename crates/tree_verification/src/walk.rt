@@ -28,6 +28,7 @@ fn push_cover<F: Family, W: Wanted>(
     x: u64,
     height: u32,
 ) -> Result<(), AllocError>
+    requires ready { W.ready wanted.now }
     requires few { x + 2 ^ height ≤ 2 ^ 62 }
     requires low { height < 63 }
     ensures { OnOk result (positions.new.items ≡ positions.old.items ++ map (position_of F.shape) (cover_in (W.met wanted.now) x height)) }
@@ -51,7 +52,8 @@ pub(crate) fn find_cover<F: Family, W: Wanted>(
     wanted: &W,
     leaves: u64,
 ) -> Result<Vec<Position<F>>, AllocError>
-    requires { leaves ≤ 2 ^ 62 }
+    requires ready { W.ready wanted.now }
+    requires few { leaves ≤ 2 ^ 62 }
     ensures { IfOk result (λ positions. positions.items ≡ cover_positions F.shape (W.met wanted.now) leaves) }
 {
     let mut positions = Vec::new(alloc);

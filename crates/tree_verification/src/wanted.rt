@@ -1,17 +1,23 @@
 //! What is to be proved, as the walk over the peaks asks for it.
-ghost use Rattle.std.specs.Prelude.{◌≡◌, ◌≤◌, ◌<◌, ◌+◌, ◌^◌};
-ghost use Rattle.tree_proof.specs.Cover.{Met, meets};
+ghost use Rattle.std.specs.Prelude.{◌≡◌, ◌≤◌, ◌<◌, ◌+◌, ◌^◌, AllPairs};
+ghost use Rattle.tree_proof.specs.Cover.{Met, meets, holds_one};
 
-use tree_shape::width;
+use crate::order::first_from;
+use tree_shape::{Location, width};
 
 /// Leaves that are to be proved.
 pub(crate) trait Wanted {
     /// Whether one of them stands under a node, by its first leaf and height.
     ghost met: { Self → Met };
 
+    /// What finding them rests on.
+    ghost ready: { Self → Type 0 };
+
     /// Whether one of them stands under a node.
     fn is_met(&self, x: u64, height: u32) -> bool
-        requires { (height < 63) × (x + 2 ^ height ≤ 2 ^ 62) }
+        requires ready { ready self.now }
+        requires low { height < 63 }
+        requires room { x + 2 ^ height ≤ 2 ^ 62 }
         ensures { result ≡ met self.now x height };
 }
 
@@ -25,7 +31,26 @@ pub(crate) struct LeafRange {
 impl Wanted for LeafRange {
     ghost met = { λ r. meets r.start r.end };
 
+    ghost ready = { λ r. Unit {0} };
+
     fn is_met(&self, x: u64, height: u32) -> bool {
         self.start < x + width(height) && x < self.end
+    }
+}
+
+/// These leaves, each past the one before it.
+#[derive(Drop)]
+pub(crate) struct Several<'a, F> {
+    pub(crate) locations: &'a [Location<F>],
+}
+
+impl<F> Wanted for Several<'_, F> {
+    ghost met = { λ s. holds_one s.locations.now };
+
+    ghost ready = { λ s. AllPairs (λ l m. l < m) s.locations.now };
+
+    fn is_met(&self, x: u64, height: u32) -> bool {
+        let at = first_from(self.locations, x);
+        at < self.locations.len() && self.locations[at].as_u64() < x + width(height)
     }
 }

@@ -1,13 +1,9 @@
 use Rattle.std.proofs.Common.{take, ◌∙◌, ap}
-use Rattle.std.specs.Prelude.{Result, Ok, Err, IfOk}
 use Rattle.tree_shape.proofs.PinLemmas.{take-all}
 use Rattle.tree_proof.specs.Cover.{meets}
 use Rattle.tree_verification.specs.Ranges.{proof_of}
+use Rattle.tree_verification.proofs.NodeLemmas.{ok_gives}
 use Rattle.tree_verification.proofs.ranges.range_proof.Goals as goal
-
-ok_gives : {T E : Type 0} (P Q : T → Type 0) → ((x : T) → P x → Q x) → (r : Result T E) → IfOk r P → IfOk r Q
-ok_gives P Q f (Ok x) p = f x p
-ok_gives P Q f (Err e) p = tt
 
 pub returns-clause-proof : goal.returns-clause-proof
 returns-clause-proof g c =

@@ -8,7 +8,7 @@ loop-i-init g c =
     let s = g.F.Family.shape in
     let n = c.args.leaves in
     record {
-      walk = first_walk s n c.peak_count-count.result (g.met.F.Family.lawful.peaks n) c.requires c.peak_count-count.ensures;
+      walk = first_walk s n c.peak_count-count.result (g.met.F.Family.lawful.peaks n) c.requires.few c.peak_count-count.ensures;
       found = found_first s (g.W.Wanted.met c.args.wanted.now) n _ _ c.new-positions.ensures.items (omega (arith, c.peak_count-count.ensures));
     }
 

@@ -1,0 +1,46 @@
+//! Proofs of several leaves.
+ghost use Rattle.std.specs.Prelude.{◌≡◌, ℕ, ◌≤◌, List, length, Ok, Err, IfOk, IfErr};
+ghost use Rattle.tree_shape.specs.Hashing.{Hashing};
+ghost use Rattle.volume_base.specs.Volume.{Reads};
+ghost use Rattle.volume_base.specs.Moments.{present};
+ghost use Rattle.tree_store.specs.declared.error.Error.{Error};
+ghost use Rattle.tree_store.specs.Stores.{IsTreeOf, IsReadRefusal, IsOutsideOr};
+ghost use Rattle.tree_proof.specs.Cover.{holds_one};
+ghost use Rattle.tree_verification.specs.Ranges.{cover_positions, proof_of, HasForm};
+ghost use Rattle.tree_verification.specs.Several.{several_answer};
+
+use crate::bounds::leaves_of;
+use crate::order::{check_order, check_within};
+use crate::ranges::prove;
+use crate::wanted::Several;
+use std::alloc::Global;
+use tree_proof::Proof;
+use tree_shape::{Family, Location};
+use tree_store::{Error, Storage};
+use volume_base::Volume;
+
+/// The proof of these leaves, each past the one before it, in the tree that the store has.
+pub fn multi_proof<F: Family, S: Storage<F>, V: Volume>(
+    alloc: Global,
+    vol: &mut V,
+    store: &S,
+    inactive_peaks: u64,
+    locations: &[Location<F>],
+) -> Result<Proof<F, S::Digest>, Error<F>>
+    requires { inactive_peaks ≤ length (F.shape.heights (S.leaves store.now)) }
+    ensures refused { (e : Error F) → several_answer (S.leaves store.now) locations.now ≡ Err e → result ≡ Err e }
+    ensures within { IfOk result (λ proof. several_answer {F = F} (S.leaves store.now) locations.now ≡ Ok tt) }
+    ensures form { IfOk result (HasForm F.shape (S.leaves store.now) inactive_peaks (holds_one locations.now)) }
+    ensures proof { IfOk result (λ proof. V.tells → S.held store.now (present (V.state vol.old)) → (h : Hashing S.Digest) (all : List S.Digest) →
+        IsTreeOf F.shape h all (S.leaves store.now) (S.told store.now (present (V.state vol.old))) → proof ≡ proof_of F.shape h all inactive_peaks (holds_one locations.now)) }
+    ensures fault { several_answer {F = F} (S.leaves store.now) locations.now ≡ Ok tt → IfErr result IsReadRefusal }
+    ensures outside { several_answer {F = F} (S.leaves store.now) locations.now ≡ Ok tt → V.tells → S.held store.now (present (V.state vol.old)) →
+        IfErr result (IsOutsideOr (S.told store.now (present (V.state vol.old))) (cover_positions F.shape (holds_one locations.now) (S.leaves store.now))) }
+    ensures reads { Reads V.tells Error.Volume (V.state vol.old) (V.state vol.new) result }
+{
+    check_order(locations)?;
+    let leaves = leaves_of(store);
+    check_within(locations, leaves)?;
+    let several = Several { locations };
+    prove(alloc, vol, store, leaves, &several, inactive_peaks)
+}
