@@ -4,6 +4,8 @@
 Times are medians of several runs. The peak memory of a child can't be told where it is below this program's own, from
 which the child is made; then that is shown as a bound. The outside program, this one with the word
 `--hashes`, does the hashes that the program does today: all of a list's tree at each seal, by hashlib.
+A seal that copied the operations of its ancestors would show in the memory of a chain that isn't applied: the same bytes in
+more batches would take more.
 """
 import os
 import resource
@@ -64,6 +66,14 @@ def chain(batches):
     return lines
 
 
+def nested(batches):
+    """2 MiB of values in a chain of batches of four appends, each batch on the one before, and none applied."""
+    value, lines = "61" * (2097152 // (4 * batches)), []
+    for b in range(batches):
+        lines += [f"new {b - 1}" if b else "new"] + [f"append {b} {value}"] * 4 + [f"seal {b} - 0"]
+    return lines
+
+
 def written(folder, name, text):
     path = os.path.join(folder, name)
     with open(path, "w", encoding="ascii") as out:
@@ -83,6 +93,9 @@ def main(program):
                 ours, peak = measure([program], path)
                 theirs, _ = measure(HASHES, path)
                 print(f"{title.format(size)}: {ours * 1000:.1f} ms, {memory(peak)}, {(ours - start) / max(theirs - python, 1e-9):.2f} times the outside program")
+        for size in (10, 100, 1000):
+            ours, peak = measure([program], written(folder, "lines", "\n".join(nested(size)) + "\n"))
+            print(f"2 MiB of values in a chain of {size} batches: {ours * 1000:.1f} ms, {memory(peak)}")
         comments = written(folder, "comments", ("#" + "c" * 62 + "\n") * (16777216 // 64))
         ours, peak = measure([program], comments)
         plain = measure(["wc"], comments)[0] + measure(["cat"], comments)[0]

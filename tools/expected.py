@@ -88,9 +88,9 @@ def value_of(word):
 class Batch:
     """A batch by its phase: unsealed, sealed or gone."""
 
-    def __init__(self, phase, whole, base):
-        self.phase, self.whole, self.base = phase, whole, base
-        self.pending, self.boundary, self.floor, self.metadata, self.holds = [], base, 0, None, 0
+    def __init__(self, phase, whole, parent=None):
+        self.phase, self.whole, self.base, self.parent = phase, whole, len(whole), parent
+        self.pending, self.boundary, self.tips, self.floor, self.metadata, self.holds = [], len(whole), [], 0, None, 0
 
 
 class Machine:
@@ -108,6 +108,24 @@ class Machine:
             raise Refused(f"NoBatch {b}")
         return self.batches[b]
 
+    def is_alive(self, b):
+        return is_held(self.batches[b]) or any(is_unsealed(child) and child.parent == b for child in self.batches)
+
+    def reach(self, batch):
+        reached, link = [], batch.parent
+        while link is not None and self.is_alive(link):
+            reached.append(self.batches[link])
+            link = self.batches[link].parent
+        return reached
+
+    def stands_on(self, whole, sizes):
+        return any(self.operations == whole[:size] for size in sizes)
+
+    def new(self, parent):
+        if parent is None:
+            return self.made(Batch("unsealed", self.operations))
+        return self.made(Batch("unsealed", self.batch(parent, is_held).whole, parent))
+
     def append(self, b, value):
         batch = self.batch(b, is_unsealed)
         if len(value) > self.limit:
@@ -119,27 +137,35 @@ class Machine:
         batch = self.batch(b, is_unsealed)
         if len(metadata or b"") > self.limit:
             raise Refused(f"ValueTooLong {len(metadata)}")
-        batch.phase = "gone"
+        reached = self.reach(batch)
+        parent = None if batch.parent is None else self.batches[batch.parent]
+        boundary = batch.base if parent is None else parent.boundary
+        if reached:
+            boundary = max(boundary, reached[-1].base)
+        tips = [len(ancestor.whole) for ancestor in reached]
+        below = self.floor if parent is None else parent.floor
         location = batch.base + len(batch.pending)
-        if self.operations != batch.whole[:batch.base]:
+        batch.phase = "gone"
+        if not self.stands_on(batch.whole, [boundary] + tips):
             raise Refused("StaleBatch")
-        if floor < self.floor:
-            raise Refused(f"FloorRegressed {floor} {self.floor}")
+        if floor < below:
+            raise Refused(f"FloorRegressed {floor} {below}")
         if floor > location:
             raise Refused(f"FloorBeyondSize {floor} {location}")
         batch.phase, batch.holds, batch.floor, batch.metadata = "sealed", 1, floor, metadata
+        batch.boundary, batch.tips = boundary, tips
         batch.whole = batch.whole + batch.pending + [commit(metadata, floor)]
         return f"sealed {len(batch.whole)} {list_root(batch.whole, floor)}"
 
     def apply(self, b):
         batch = self.batch(b, is_held)
-        if self.operations != batch.whole[:batch.boundary]:
+        if not self.stands_on(batch.whole, [batch.boundary] + batch.tips):
             raise Refused("StaleBatch")
         self.operations, self.floor, self.metadata = batch.whole, batch.floor, batch.metadata
         return "applied"
 
     def snapshot(self):
-        batch = Batch("sealed", self.operations, len(self.operations))
+        batch = Batch("sealed", self.operations)
         batch.holds, batch.floor, batch.metadata = 1, self.floor, self.metadata
         return self.made(batch)
 
@@ -157,8 +183,8 @@ class Machine:
 
     def step(self, words):
         name, rest = words[0], words[1:]
-        if words == ["new"]:
-            return self.made(Batch("unsealed", self.operations, len(self.operations)))
+        if name == "new":
+            return self.new(int(rest[0]) if rest else None)
         if name == "append":
             return self.append(int(rest[0]), value_of(rest[1]))
         if name == "seal":
@@ -199,6 +225,7 @@ ELEMENTS = [bytes.fromhex(text) for text in ("000000", "010161", "010162", "0000
 
 # The runs whose digests the tests of the run compare with: name, value limit, lines.
 FIRST_BATCH = ["new", "append 0 61", "append 0 62", "seal 0 - 0", "apply 0"]
+TWO_BATCHES = ["new", "append 0 61", "seal 0 - 0", "new 0", "append 1 62", "seal 1 - 0"]
 RUNS = [
     ("fresh opening", VALUE_LIMIT, []),
     ("first batch", VALUE_LIMIT, FIRST_BATCH + ["size", "size", "size"]),
@@ -208,6 +235,14 @@ RUNS = [
     ("floors and metadata", VALUE_LIMIT, ["new", "append 0 61", "append 0 62", "seal 0 - 4", "seal 0 - 3", "new", "append 1 61", "append 1 62",
                                           "seal 1 6d 3", "metadata", "apply 1", "size", "metadata", "new", "seal 2 - 2", "new", "seal 3 . 4", "apply 3", "metadata"]),
     ("snapshot", VALUE_LIMIT, FIRST_BATCH + ["apply 0", "snapshot", "apply 1", "apply 1"]),
+    ("two-batch chain", VALUE_LIMIT, TWO_BATCHES + ["apply 1", "apply 0", "apply 1"]),
+    ("chain applied one by one", VALUE_LIMIT, TWO_BATCHES + ["apply 0", "apply 1"]),
+    ("equal siblings", VALUE_LIMIT, ["new", "new", "append 0 61", "append 1 61", "seal 0 - 0", "seal 1 - 0", "apply 0", "new 1", "append 2 62", "seal 2 - 0", "apply 2"]),
+    ("released ancestor", VALUE_LIMIT, TWO_BATCHES + ["release 0", "new 1", "append 2 63", "seal 2 - 0", "seal 2 - 0"]),
+    ("released ancestor that was applied", VALUE_LIMIT, TWO_BATCHES + ["apply 0", "release 0", "new 1", "append 2 63", "seal 2 - 0", "apply 2"]),
+    ("child that keeps its parent alive", VALUE_LIMIT, TWO_BATCHES + ["new 0", "release 0", "new 0", "new 1", "append 3 63", "seal 3 - 0", "release 2", "new 1", "seal 4 - 0", "apply 3"]),
+    ("seal that loses its hold", VALUE_LIMIT, TWO_BATCHES + ["new 0", "release 0", "seal 2 - 9", "new 1", "seal 3 - 0"]),
+    ("floors of a chain", VALUE_LIMIT, ["new", "seal 0 - 1", "new 0", "new 0", "seal 1 - 0", "seal 2 - 1", "apply 2", "size"]),
     ("holds", VALUE_LIMIT, ["new", "append 0 61", "hold 0", "seal 0 - 0", "hold 0", "release 0", "release 0", "release 0", "hold 0", "apply 0", "new", "release 1", "append 1 61", "release 2"]),
 ]
 

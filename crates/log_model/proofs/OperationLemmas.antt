@@ -32,6 +32,11 @@ leaves_from-append s h m i (x ∷ xs) ys =
     let e : i + length (x ∷ xs) ≡ i + 1 + length xs = omega arith in
     rw e (ap (λ ds. h.digest (leaf_input (s.position i 0) (m.encoding x)) ∷ ds) (leaves_from-append s h m (i + 1) xs ys))
 
+-- there are as many leaves as operations
+pub length-leaves_from : {D Op V : Type 0} (s : Shape) (h : Hashing D) (m : Meaning Op V) (i : ℕ) (ops : List Op) → length (leaves_from s h m i ops) ≡ length ops
+length-leaves_from s h m i [] = refl
+length-leaves_from s h m i (op ∷ ops) = ap suc (length-leaves_from s h m (i + 1) ops)
+
 -- there are no more inactive peaks than peaks
 pub inactive-within : (s : Shape) (n floor : ℕ) → inactive s n floor ≤ length (s.heights n)
 inactive-within s n floor =

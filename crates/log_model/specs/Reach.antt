@@ -1,5 +1,5 @@
 -- What a batch reaches through its parents, and where it may be sealed and applied.
-use Rattle.std.specs.Prelude.{ℕ, zero, suc, Bool, false, ◌||◌, ◌==◌, nat_lt, List, [], ◌∷◌, length, map, count_by, Option, Some, None, if◌then◌else◌}
+use Rattle.std.specs.Prelude.{ℕ, zero, suc, Bool, false, ◌||◌, ◌==◌, nat_lt, List, [], ◌∷◌, length, map, Option, Some, None, if◌then◌else◌}
 use Rattle.std.specs.List.{list_any}
 use Rattle.std.specs.Option.{option_map_or}
 use Rattle.log_model.specs.Meaning.{Meaning}
@@ -18,13 +18,9 @@ is_child p (Unsealed u) = names p u.parent
 is_child p (Sealed c) = false
 is_child p Gone = false
 
--- How many unsealed batches have parent p.
-abbrev pub children : {Op : Type 0} → State Op → ℕ → ℕ
-children s p = count_by (is_child p) s.batches
-
 -- Whether a sealed batch p is alive: it is held, or an unsealed batch has it as parent.
 abbrev pub is_alive : {Op : Type 0} → State Op → ℕ → SealedBatch Op → Bool
-is_alive s p c = is_held c || nat_lt 0 (children s p)
+is_alive s p c = is_held c || list_any (is_child p) s.batches
 
 -- The sealed batch that it is, if it is one.
 abbrev pub as_sealed : {Op : Type 0} → Batch Op → Option (SealedBatch Op)

@@ -5,7 +5,7 @@ mod logged;
 mod root;
 
 pub use logged::Logged;
-pub use root::{floor_of_operations, root_of_operations};
+pub use root::{floor_of_operations, push_leaves, root_of_leaves};
 
 #[cfg(test)]
 mod tests;

@@ -1,5 +1,4 @@
-ghost use Rattle.std.specs.Prelude.{◌≡◌, ◌≤◌, ◌+◌, ◌^◌, ◌++◌, length, IfOk, OnOk, IsOkUnless};
-ghost use Rattle.tree_shape.specs.Shape.{inactive};
+ghost use Rattle.std.specs.Prelude.{◌≡◌, ◌≤◌, ◌+◌, ◌^◌, ◌++◌, List, length, IfOk, OnOk, IsOkUnless};
 ghost use Rattle.log_model.specs.Operations.{floor_of, leaves_from, root_of};
 
 use crate::Logged;
@@ -17,31 +16,8 @@ pub fn floor_of_operations<O: Logged>(operations: &[O]) -> u64
     }
 }
 
-/// The floor of a list that stands in two parts.
-#[tactic(auto, using(crate::proofs::OperationLemmas::floor_of_append))]
-fn floor_of_parts<O: Logged>(first: &[O], others: &[O]) -> u64
-    ensures { result ≡ floor_of O.meaning (first.now ++ others.now) }
-{
-    if others.is_empty() {
-        floor_of_operations(first)
-    } else {
-        floor_of_operations(others)
-    }
-}
-
-/// How many peaks of a list that stands in two parts end at or below its floor.
-fn inactive_of_parts<F: Family, O: Logged>(first: &[O], others: &[O]) -> u64
-    requires { length first.now + length others.now ≤ 2 ^ 62 }
-    ensures value { result ≡ inactive F.shape (length first.now + length others.now) (floor_of O.meaning (first.now ++ others.now)) }
-    ensures within { result ≤ length (F.shape.heights (length first.now + length others.now)) }
-{
-    let leaves = Location::new(first.len() as u64 + others.len() as u64);
-    let floor = Location::new(floor_of_parts(first, others));
-    F::inactive_peaks(leaves, floor)
-}
-
-/// Adds the digests of the leaves that more operations are.
-fn push_leaves<F: Family, H: Hasher, O: Logged>(
+/// Adds the digests of the leaves that more operations of a list are.
+pub fn push_leaves<F: Family, H: Hasher, O: Logged>(
     alloc: Global,
     hasher: &Standard<H>,
     leaves: &mut Vec<H::Digest>,
@@ -60,20 +36,19 @@ fn push_leaves<F: Family, H: Hasher, O: Logged>(
     Ok(())
 }
 
-/// The root of a list of operations that stands in two parts, by hashing all of it.
-pub fn root_of_operations<F: Family, H: Hasher, O: Logged>(
+/// The root of the list of operations whose leaves these are and whose floor this is, by hashing all nodes.
+pub fn root_of_leaves<F: Family, H: Hasher, O: Logged>(
     alloc: Global,
-    first: &[O],
-    others: &[O],
+    leaves: &[H::Digest],
+    floor: u64,
 ) -> Result<H::Digest, CodecError>
-    requires { length first.now + length others.now ≤ 2 ^ 62 }
-    ensures root { IfOk result (λ root. root ≡ root_of F.shape H.hash O.meaning (first.now ++ others.now)) }
+    requires { length leaves.now ≤ 2 ^ 62 }
+    ensures root { (ops : List O) → leaves.now ≡ leaves_from F.shape H.hash O.meaning 0 ops → floor ≡ floor_of O.meaning ops → IfOk result (λ root. root ≡ root_of F.shape H.hash O.meaning ops) }
     ensures memory { IsOkUnless result CodecError.Memory }
 {
     let hasher = Standard::<H>::new(Bagging::ForwardFold);
-    let mut leaves = Vec::new(alloc);
-    push_leaves::<F, H, O>(alloc, &hasher, &mut leaves, first)?;
-    push_leaves::<F, H, O>(alloc, &hasher, &mut leaves, others)?;
-    let inactive = inactive_of_parts::<F, O>(first, others);
-    Ok(slow_root::<F, H>(alloc, &hasher, &leaves, inactive)?)
+    let count = Location::new(leaves.len() as u64);
+    let below = Location::new(floor);
+    let inactive = F::inactive_peaks(count, below);
+    Ok(slow_root::<F, H>(alloc, &hasher, leaves, inactive)?)
 }

@@ -1,5 +1,5 @@
 -- Lines that say commands.
-use Rattle.std.proofs.Common.{◌≡◌, ◌⊎◌, inl, inr, ℕ, ◌+◌, List, [], ◌∷◌, ◌++◌, length, get_or, Option, Some, None, refl, sym, ◌∙◌, ap, subst, append_assoc, arith}
+use Rattle.std.proofs.Common.{◌≡◌, inl, inr, ℕ, ◌+◌, List, [], ◌∷◌, ◌++◌, length, get_or, Option, Some, None, refl, sym, ◌∙◌, ap, subst, append_assoc, arith}
 use Rattle.std.specs.Prelude.{codes}
 use Rattle.std.specs.List.{onto_first}
 use Rattle.std.proofs.lemmas.Fmt.{decimal_injective}
@@ -55,16 +55,32 @@ apart words xs ys k m n e f g h differ = differ (sym g ∙ ap (letter k) (sym e 
 
 -- words say one command
 one_command : (words : List (List ℕ)) (a b : Command) → WordsSay words a → WordsSay words b → a ≡ b
-one_command words New New p q = refl
-one_command words New (Append b w) p q = absurd (apart words _ _ 0 110 97 p q.2 refl refl (λ e. omega (arith, e)))
-one_command words New (Seal b n g) p q = absurd (apart words _ _ 0 110 115 p q.3 refl refl (λ e. omega (arith, e)))
-one_command words New (Apply b) p q = absurd (apart words _ _ 0 110 97 p q.1 refl refl (λ e. omega (arith, e)))
-one_command words New (Hold b) p q = absurd (apart words _ _ 0 110 104 p q.1 refl refl (λ e. omega (arith, e)))
-one_command words New (Release b) p q = absurd (apart words _ _ 0 110 114 p q.1 refl refl (λ e. omega (arith, e)))
-one_command words New Snapshot p q = absurd (apart words _ _ 0 110 115 p q refl refl (λ e. omega (arith, e)))
-one_command words New Size p q = absurd (apart words _ _ 0 110 115 p q refl refl (λ e. omega (arith, e)))
-one_command words New Metadata p q = absurd (apart words _ _ 0 110 109 p q refl refl (λ e. omega (arith, e)))
-one_command words (Append a v) New p q = absurd (apart words _ _ 0 97 110 p.2 q refl refl (λ e. omega (arith, e)))
+one_command words (New None) (New None) p q = refl
+one_command words (New None) (New (Some b)) p q = absurd (let e = sym p ∙ q.1 in cc)
+one_command words (New None) (Append b w) p q = absurd (apart words _ _ 0 110 97 p q.2 refl refl (λ e. omega (arith, e)))
+one_command words (New None) (Seal b n g) p q = absurd (apart words _ _ 0 110 115 p q.3 refl refl (λ e. omega (arith, e)))
+one_command words (New None) (Apply b) p q = absurd (apart words _ _ 0 110 97 p q.1 refl refl (λ e. omega (arith, e)))
+one_command words (New None) (Hold b) p q = absurd (apart words _ _ 0 110 104 p q.1 refl refl (λ e. omega (arith, e)))
+one_command words (New None) (Release b) p q = absurd (apart words _ _ 0 110 114 p q.1 refl refl (λ e. omega (arith, e)))
+one_command words (New None) Snapshot p q = absurd (apart words _ _ 0 110 115 p q refl refl (λ e. omega (arith, e)))
+one_command words (New None) Size p q = absurd (apart words _ _ 0 110 115 p q refl refl (λ e. omega (arith, e)))
+one_command words (New None) Metadata p q = absurd (apart words _ _ 0 110 109 p q refl refl (λ e. omega (arith, e)))
+one_command words (New (Some a)) (New None) p q = absurd (let e = sym p.1 ∙ q in cc)
+one_command words (New (Some a)) (New (Some b)) p q =
+    let same = sym p.1 ∙ q.1 in
+    let numbers : p.0 ≡ q.0 = cc in
+    let number = one_number q.0 a b (rw numbers at p.2) q.2 in
+    cc
+one_command words (New (Some a)) (Append b w) p q = absurd (apart words _ _ 0 110 97 p.1 q.2 refl refl (λ e. omega (arith, e)))
+one_command words (New (Some a)) (Seal b n g) p q = absurd (apart words _ _ 0 110 115 p.1 q.3 refl refl (λ e. omega (arith, e)))
+one_command words (New (Some a)) (Apply b) p q = absurd (apart words _ _ 0 110 97 p.1 q.1 refl refl (λ e. omega (arith, e)))
+one_command words (New (Some a)) (Hold b) p q = absurd (apart words _ _ 0 110 104 p.1 q.1 refl refl (λ e. omega (arith, e)))
+one_command words (New (Some a)) (Release b) p q = absurd (apart words _ _ 0 110 114 p.1 q.1 refl refl (λ e. omega (arith, e)))
+one_command words (New (Some a)) Snapshot p q = absurd (apart words _ _ 0 110 115 p.1 q refl refl (λ e. omega (arith, e)))
+one_command words (New (Some a)) Size p q = absurd (apart words _ _ 0 110 115 p.1 q refl refl (λ e. omega (arith, e)))
+one_command words (New (Some a)) Metadata p q = absurd (apart words _ _ 0 110 109 p.1 q refl refl (λ e. omega (arith, e)))
+one_command words (Append a v) (New None) p q = absurd (apart words _ _ 0 97 110 p.2 q refl refl (λ e. omega (arith, e)))
+one_command words (Append a v) (New (Some b)) p q = absurd (apart words _ _ 0 97 110 p.2 q.1 refl refl (λ e. omega (arith, e)))
 one_command words (Append a v) (Append b w) p q =
     let same = sym p.2 ∙ q.2 in
     let numbers : p.0 ≡ q.0 = cc in
@@ -79,7 +95,8 @@ one_command words (Append a v) (Release b) p q = absurd (apart words _ _ 0 97 11
 one_command words (Append a v) Snapshot p q = absurd (apart words _ _ 0 97 115 p.2 q refl refl (λ e. omega (arith, e)))
 one_command words (Append a v) Size p q = absurd (apart words _ _ 0 97 115 p.2 q refl refl (λ e. omega (arith, e)))
 one_command words (Append a v) Metadata p q = absurd (apart words _ _ 0 97 109 p.2 q refl refl (λ e. omega (arith, e)))
-one_command words (Seal a m f) New p q = absurd (apart words _ _ 0 115 110 p.3 q refl refl (λ e. omega (arith, e)))
+one_command words (Seal a m f) (New None) p q = absurd (apart words _ _ 0 115 110 p.3 q refl refl (λ e. omega (arith, e)))
+one_command words (Seal a m f) (New (Some b)) p q = absurd (apart words _ _ 0 115 110 p.3 q.1 refl refl (λ e. omega (arith, e)))
 one_command words (Seal a m f) (Append b w) p q = absurd (apart words _ _ 0 115 97 p.3 q.2 refl refl (λ e. omega (arith, e)))
 one_command words (Seal a m f) (Seal b n g) p q =
     let same = sym p.3 ∙ q.3 in
@@ -96,7 +113,8 @@ one_command words (Seal a m f) (Release b) p q = absurd (apart words _ _ 0 115 1
 one_command words (Seal a m f) Snapshot p q = absurd (apart words _ _ 1 101 110 p.3 q refl refl (λ e. omega (arith, e)))
 one_command words (Seal a m f) Size p q = absurd (apart words _ _ 1 101 105 p.3 q refl refl (λ e. omega (arith, e)))
 one_command words (Seal a m f) Metadata p q = absurd (apart words _ _ 0 115 109 p.3 q refl refl (λ e. omega (arith, e)))
-one_command words (Apply a) New p q = absurd (apart words _ _ 0 97 110 p.1 q refl refl (λ e. omega (arith, e)))
+one_command words (Apply a) (New None) p q = absurd (apart words _ _ 0 97 110 p.1 q refl refl (λ e. omega (arith, e)))
+one_command words (Apply a) (New (Some b)) p q = absurd (apart words _ _ 0 97 110 p.1 q.1 refl refl (λ e. omega (arith, e)))
 one_command words (Apply a) (Append b w) p q = absurd (apart words _ _ 3 108 101 p.1 q.2 refl refl (λ e. omega (arith, e)))
 one_command words (Apply a) (Seal b n g) p q = absurd (apart words _ _ 0 97 115 p.1 q.3 refl refl (λ e. omega (arith, e)))
 one_command words (Apply a) (Apply b) p q =
@@ -109,7 +127,8 @@ one_command words (Apply a) (Release b) p q = absurd (apart words _ _ 0 97 114 p
 one_command words (Apply a) Snapshot p q = absurd (apart words _ _ 0 97 115 p.1 q refl refl (λ e. omega (arith, e)))
 one_command words (Apply a) Size p q = absurd (apart words _ _ 0 97 115 p.1 q refl refl (λ e. omega (arith, e)))
 one_command words (Apply a) Metadata p q = absurd (apart words _ _ 0 97 109 p.1 q refl refl (λ e. omega (arith, e)))
-one_command words (Hold a) New p q = absurd (apart words _ _ 0 104 110 p.1 q refl refl (λ e. omega (arith, e)))
+one_command words (Hold a) (New None) p q = absurd (apart words _ _ 0 104 110 p.1 q refl refl (λ e. omega (arith, e)))
+one_command words (Hold a) (New (Some b)) p q = absurd (apart words _ _ 0 104 110 p.1 q.1 refl refl (λ e. omega (arith, e)))
 one_command words (Hold a) (Append b w) p q = absurd (apart words _ _ 0 104 97 p.1 q.2 refl refl (λ e. omega (arith, e)))
 one_command words (Hold a) (Seal b n g) p q = absurd (apart words _ _ 0 104 115 p.1 q.3 refl refl (λ e. omega (arith, e)))
 one_command words (Hold a) (Apply b) p q = absurd (apart words _ _ 0 104 97 p.1 q.1 refl refl (λ e. omega (arith, e)))
@@ -122,7 +141,8 @@ one_command words (Hold a) (Release b) p q = absurd (apart words _ _ 0 104 114 p
 one_command words (Hold a) Snapshot p q = absurd (apart words _ _ 0 104 115 p.1 q refl refl (λ e. omega (arith, e)))
 one_command words (Hold a) Size p q = absurd (apart words _ _ 0 104 115 p.1 q refl refl (λ e. omega (arith, e)))
 one_command words (Hold a) Metadata p q = absurd (apart words _ _ 0 104 109 p.1 q refl refl (λ e. omega (arith, e)))
-one_command words (Release a) New p q = absurd (apart words _ _ 0 114 110 p.1 q refl refl (λ e. omega (arith, e)))
+one_command words (Release a) (New None) p q = absurd (apart words _ _ 0 114 110 p.1 q refl refl (λ e. omega (arith, e)))
+one_command words (Release a) (New (Some b)) p q = absurd (apart words _ _ 0 114 110 p.1 q.1 refl refl (λ e. omega (arith, e)))
 one_command words (Release a) (Append b w) p q = absurd (apart words _ _ 0 114 97 p.1 q.2 refl refl (λ e. omega (arith, e)))
 one_command words (Release a) (Seal b n g) p q = absurd (apart words _ _ 0 114 115 p.1 q.3 refl refl (λ e. omega (arith, e)))
 one_command words (Release a) (Apply b) p q = absurd (apart words _ _ 0 114 97 p.1 q.1 refl refl (λ e. omega (arith, e)))
@@ -135,7 +155,8 @@ one_command words (Release a) (Release b) p q =
 one_command words (Release a) Snapshot p q = absurd (apart words _ _ 0 114 115 p.1 q refl refl (λ e. omega (arith, e)))
 one_command words (Release a) Size p q = absurd (apart words _ _ 0 114 115 p.1 q refl refl (λ e. omega (arith, e)))
 one_command words (Release a) Metadata p q = absurd (apart words _ _ 0 114 109 p.1 q refl refl (λ e. omega (arith, e)))
-one_command words Snapshot New p q = absurd (apart words _ _ 0 115 110 p q refl refl (λ e. omega (arith, e)))
+one_command words Snapshot (New None) p q = absurd (apart words _ _ 0 115 110 p q refl refl (λ e. omega (arith, e)))
+one_command words Snapshot (New (Some b)) p q = absurd (apart words _ _ 0 115 110 p q.1 refl refl (λ e. omega (arith, e)))
 one_command words Snapshot (Append b w) p q = absurd (apart words _ _ 0 115 97 p q.2 refl refl (λ e. omega (arith, e)))
 one_command words Snapshot (Seal b n g) p q = absurd (apart words _ _ 1 110 101 p q.3 refl refl (λ e. omega (arith, e)))
 one_command words Snapshot (Apply b) p q = absurd (apart words _ _ 0 115 97 p q.1 refl refl (λ e. omega (arith, e)))
@@ -144,7 +165,8 @@ one_command words Snapshot (Release b) p q = absurd (apart words _ _ 0 115 114 p
 one_command words Snapshot Snapshot p q = refl
 one_command words Snapshot Size p q = absurd (apart words _ _ 1 110 105 p q refl refl (λ e. omega (arith, e)))
 one_command words Snapshot Metadata p q = absurd (apart words _ _ 0 115 109 p q refl refl (λ e. omega (arith, e)))
-one_command words Size New p q = absurd (apart words _ _ 0 115 110 p q refl refl (λ e. omega (arith, e)))
+one_command words Size (New None) p q = absurd (apart words _ _ 0 115 110 p q refl refl (λ e. omega (arith, e)))
+one_command words Size (New (Some b)) p q = absurd (apart words _ _ 0 115 110 p q.1 refl refl (λ e. omega (arith, e)))
 one_command words Size (Append b w) p q = absurd (apart words _ _ 0 115 97 p q.2 refl refl (λ e. omega (arith, e)))
 one_command words Size (Seal b n g) p q = absurd (apart words _ _ 1 105 101 p q.3 refl refl (λ e. omega (arith, e)))
 one_command words Size (Apply b) p q = absurd (apart words _ _ 0 115 97 p q.1 refl refl (λ e. omega (arith, e)))
@@ -153,7 +175,8 @@ one_command words Size (Release b) p q = absurd (apart words _ _ 0 115 114 p q.1
 one_command words Size Snapshot p q = absurd (apart words _ _ 1 105 110 p q refl refl (λ e. omega (arith, e)))
 one_command words Size Size p q = refl
 one_command words Size Metadata p q = absurd (apart words _ _ 0 115 109 p q refl refl (λ e. omega (arith, e)))
-one_command words Metadata New p q = absurd (apart words _ _ 0 109 110 p q refl refl (λ e. omega (arith, e)))
+one_command words Metadata (New None) p q = absurd (apart words _ _ 0 109 110 p q refl refl (λ e. omega (arith, e)))
+one_command words Metadata (New (Some b)) p q = absurd (apart words _ _ 0 109 110 p q.1 refl refl (λ e. omega (arith, e)))
 one_command words Metadata (Append b w) p q = absurd (apart words _ _ 0 109 97 p q.2 refl refl (λ e. omega (arith, e)))
 one_command words Metadata (Seal b n g) p q = absurd (apart words _ _ 0 109 115 p q.3 refl refl (λ e. omega (arith, e)))
 one_command words Metadata (Apply b) p q = absurd (apart words _ _ 0 109 97 p q.1 refl refl (λ e. omega (arith, e)))
@@ -178,7 +201,8 @@ other_head words others n e h = sym h ∙ sym (ap head_byte e) ∙ head_hash wor
 
 -- words that begin with a number sign say no command
 hash_says_nothing : (words : List (List ℕ)) (c : Command) → WordsSay (onto_first 35 words) c → ⊥
-hash_says_nothing words New p = absurd (let e = other_head words _ 110 p refl in omega (arith, e))
+hash_says_nothing words (New None) p = absurd (let e = other_head words _ 110 p refl in omega (arith, e))
+hash_says_nothing words (New (Some b)) p = absurd (let e = other_head words _ 110 p.1 refl in omega (arith, e))
 hash_says_nothing words (Append b v) p = absurd (let e = other_head words _ 97 p.2 refl in omega (arith, e))
 hash_says_nothing words (Seal b m f) p = absurd (let e = other_head words _ 115 p.3 refl in omega (arith, e))
 hash_says_nothing words (Apply b) p = absurd (let e = other_head words _ 97 p.1 refl in omega (arith, e))
@@ -190,7 +214,8 @@ hash_says_nothing words Metadata p = absurd (let e = other_head words _ 109 p re
 
 -- the empty word is no command
 empty_says_nothing : (c : Command) → WordsSay ([] ∷ []) c → ⊥
-empty_says_nothing New p = cc
+empty_says_nothing (New None) p = cc
+empty_says_nothing (New (Some b)) p = let e = p.1 in cc
 empty_says_nothing (Append b v) p = let e = p.2 in cc
 empty_says_nothing (Seal b m f) p = let e = p.3 in cc
 empty_says_nothing (Apply b) p = let e = p.1 in cc

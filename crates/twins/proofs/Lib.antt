@@ -10,3 +10,7 @@ pub mod Endings
 pub mod RunLaws
 pub mod RunGood
 pub mod HexText
+pub mod HistoryLemmas
+pub mod Handlers
+pub mod LinkLemmas
+pub mod Sealing

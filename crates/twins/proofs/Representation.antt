@@ -1,49 +1,27 @@
--- What a change of the batches in memory means.
-use Rattle.std.proofs.Common.{◌≡◌, ◌⊎◌, inl, inr, ℕ, ◌+◌, ◌-◌, ◌<◌, ◌≤◌, Bool, true, false, zero, suc, List, [], ◌∷◌, append-nil, ◌++◌, length, map, take, get_or, Option, Some, None, refl, sym, ◌∙◌, ap, subst, arith}
-use Rattle.std.specs.Prelude.{nat_lt, nat_le, slice_set}
-use Rattle.std.specs.Bool.{Decides}
+-- What the lists and the batches in memory mean.
+use Rattle.std.proofs.Common.{◌≡◌, ℕ, ◌<◌, ◌≤◌, Bool, true, false, cond, zero, suc, List, [], ◌∷◌, ◌++◌, length, map, take, get_or, Option, Some, None, refl, sym, ◌∙◌, ap, subst, arith, take-take, append_assoc}
+use Rattle.std.specs.Prelude.{nat_lt, nat_le, slice_set, IfSome, IsSomeAnd}
+use Rattle.std.specs.List.{list_any}
+use Rattle.std.specs.Option.{option_map}
 use Rattle.std.specs.Cmp.Lexicographic.{pointwise}
 use Rattle.std.proofs.Math.ListN.{get_or-map}
-use Rattle.std.proofs.Math.Seq.{map-set_same, take-length, take-append_seam}
-use Rattle.std.proofs.lemmas.List.{map-set, length-take, length-append, length-take-le, take-append-le}
-use Rattle.std.proofs.lemmas.Bool.{cases_lt}
+use Rattle.std.proofs.Math.Seq.{map-set_same, take-length}
+use Rattle.std.proofs.lemmas.List.{map-set, map-append, length-take, take-append-le}
 use Rattle.std.proofs.lemmas.Bool.Decides.{nat_tests}
-use Rattle.std.proofs.lemmas.Slice.Eq.{slice_eq-Decides}
+use Rattle.std.proofs.lemmas.Option.{none-some, same_Some, slice_get_read, get_or_from_slice_get}
 use Rattle.log_model.specs.Batches as batches
-use Rattle.log_model.specs.Operations.{floor_of, last_value}
-use Rattle.log_model.specs.Machine.{State, batch_at, with_batch, stands_at, max_leaves}
-use Rattle.log_model.specs.GoodLaws.{floor-sealed}
+use Rattle.log_model.specs.Machine.{State, batch_at, with_batch, with_new, stands_at}
+use Rattle.log_model.specs.Reach as model
+use Rattle.log_model.specs.Reach.{stands_on, is_child, if_alive, alive_at, linked, reach_from, link_bound, tips_of, oldest_base}
+use Rattle.log_model.specs.ReachLaws.{LinksFall, reach_end, reach_more}
+use Rattle.twins.specs.Operation.{Operation, meaning}
+use Rattle.twins.specs.Lists.{list_at, AreBelow, lists_in, count_in, Extends}
+use Rattle.twins.specs.StateOf.{length_at, lengths, unsealed_of, sealed_of, batch_of, state_from, IsFront, AreFronts, as_sealed, linked_in, LinkKept, BatchKept, BatchesKept}
 use Rattle.twins.specs.declared.batch.Batch.{Batch}
 use Rattle.twins.specs.declared.batch.Batch.TheVariants.{Unsealed, Sealed, Gone}
 use Rattle.twins.specs.declared.batch.UnsealedBatch.{UnsealedBatch}
 use Rattle.twins.specs.declared.batch.SealedBatch.{SealedBatch}
-use Rattle.op_codec.specs.declared.keyless.Operation.TheVariants.{Append, Commit}
-use Rattle.twins.specs.declared.command.Answer.TheVariants as answer
-use Rattle.twins.specs.declared.command.Refusal.{Refusal}
-use Rattle.twins.specs.declared.command.Refusal.TheVariants.{NoBatch, ValueTooLong, StaleBatch, LocationOverflow, FloorRegressed, FloorBeyondSize}
-use Rattle.twins.specs.Step.{append_to, seal_refusal, metadata_length, seal, apply, hold, release, root_of_list}
-use Rattle.std.proofs.lemmas.Option.{slice_get_read, get_or_from_slice_get}
-use Rattle.twins.specs.Operation.{Operation, meaning, operation_decide}
-use Rattle.twins.specs.StateOf.{unsealed_of, list_of, batch_of, state_from, BatchKept}
-
-pub batch_at-from : (ops : List Operation) (bs : List Batch) (b : ℕ) → batch_at (state_from ops bs) b ≡ batch_of ops (get_or bs b Gone)
-batch_at-from ops bs b = get_or-map (batch_of ops) bs b Gone
-
-pub from-set : (ops : List Operation) (bs : List Batch) (b : ℕ) (x : Batch) → state_from ops (slice_set bs b x) ≡ with_batch (state_from ops bs) b (batch_of ops x)
-from-set ops bs b x = ap (λ (xs : List (batches.Batch Operation)). record { ops = ops; batches = xs }) (map-set (batch_of ops) bs b x)
-
-same_lists : (xs ys : List Operation) → Decides (pointwise meaning.same xs ys) (xs ≡ ys)
-same_lists xs ys = slice_eq-Decides operation_decide xs ys _ refl
-
-is_false : (b : Bool) (P : Type 0) → Decides b P → (P → ⊥) → b ≡ false
-is_false false P h no_way = refl
-is_false true P h no_way = absurd (no_way (h.0 refl))
-
-pub stands : (s : State Operation) (list : List Operation) (n : ℕ) → s.ops ≡ take n list → stands_at meaning s list n ≡ true
-stands s list n e = (same_lists s.ops (take n list)).1 e
-
-pub stands_not : (s : State Operation) (list : List Operation) (n : ℕ) → (length s.ops ≡ length (take n list) → ⊥) → stands_at meaning s list n ≡ false
-stands_not s list n differ = is_false _ _ (same_lists s.ops (take n list)) (λ e. differ (ap length e))
+use Rattle.twins.specs.declared.history.History.{History}
 
 pub lt_false : (m n : ℕ) → n ≤ m → nat_lt m n ≡ false
 lt_false m n le = grind (arith, nat_tests)
@@ -58,249 +36,314 @@ le_false m n lt = grind (arith, nat_tests)
 pub read_at : (bs : List Batch) (b : ℕ) (x : Batch) → b < length bs → x ≡ get_or bs b x → get_or bs b Gone ≡ x
 read_at bs b x lt e = get_or_from_slice_get bs b x Gone (slice_get_read bs (length bs) b x refl lt e)
 
--- ---- an append
+-- a sealed batch that a link names
+pub sealed_is : (x : Batch) (c : SealedBatch) → as_sealed x ≡ Some c → x ≡ Sealed c
+sealed_is (Unsealed u) c e = absurd (none-some c e)
+sealed_is (Sealed d) c e = ap Sealed (same_Some d c e)
+sealed_is Gone c e = absurd (none-some c e)
 
-pub append_done : (limit : ℕ) (ops : List Operation) (bs : List Batch) (b : ℕ) (v : List ℕ) (u u' : UnsealedBatch) → get_or bs b Gone ≡ Unsealed u
-    → length v ≤ limit → u.base + length u.own.items < max_leaves → u'.base ≡ u.base → u'.own.items ≡ u.own.items ++ (Append v ∷ [])
-    → (answer.Done, state_from ops (slice_set bs b (Unsealed u'))) ≡ append_to limit (state_from ops bs) b v (batch_at (state_from ops bs) b)
-append_done limit ops bs b v u u' e short few base own =
-    rw (batch_at-from ops bs b, e, lt_false limit (length v) short, le_false max_leaves (u.base + length u.own.items) few)
-    (ap (λ s. (answer.Done, s)) (from-set ops bs b (Unsealed u') ∙ rw (base, own) refl))
+-- ---- batches and their meanings
 
--- ---- an apply
+module _ (lists : List (List Operation)) (head : ℕ) where
+  pub batch_at-from : (bs : List Batch) (b : ℕ) → batch_at (state_from lists head bs) b ≡ batch_of lists (get_or bs b Gone)
+  batch_at-from bs b = get_or-map (batch_of lists) bs b Gone
 
-length-shared : (ops own : List Operation) (shared n : ℕ) → n ≤ shared → shared ≤ length ops → length (take n (take shared ops ++ own)) ≡ n
-length-shared ops own shared n low high =
-    let front : length (take shared ops) ≡ shared = length-take-le shared ops high in
-    let whole = length-append (take shared ops) own in
-    length-take-le n (take shared ops ++ own) (omega arith)
+  pub from-set : (bs : List Batch) (b : ℕ) (x : Batch) → state_from lists head (slice_set bs b x) ≡ with_batch (state_from lists head bs) b (batch_of lists x)
+  from-set bs b x = ap (λ (xs : List (batches.Batch Operation)). record { ops = list_at lists head; batches = xs }) (map-set (batch_of lists) bs b x)
 
-pub apply_free : (ops : List Operation) (bs : List Batch) (b : ℕ) (c : SealedBatch) → get_or bs b Gone ≡ Sealed c → c.holds ≡ 0
-    → (answer.Refused (NoBatch b), state_from ops (slice_set bs b (Sealed c))) ≡ apply (state_from ops bs) b (batch_at (state_from ops bs) b)
-apply_free ops bs b c e free =
-    let still : map (batch_of ops) (slice_set bs b (Sealed c)) ≡ map (batch_of ops) bs = map-set_same (batch_of ops) bs b (Sealed c) Gone (ap (batch_of ops) (sym e)) in
-    rw (batch_at-from ops bs b, e, still, free) refl
+  pub from-push : (bs : List Batch) (x : Batch) → state_from lists head (bs ++ (x ∷ [])) ≡ with_new (state_from lists head bs) (batch_of lists x)
+  from-push bs x = ap (λ (xs : List (batches.Batch Operation)). record { ops = list_at lists head; batches = xs }) (map-append (batch_of lists) bs (x ∷ []))
 
-pub apply_stale : (taken : ℕ) (ops : List Operation) (bs : List Batch) (b : ℕ) (c : SealedBatch) → get_or bs b Gone ≡ Sealed c → BatchKept taken ops (Sealed c) → 0 < c.holds → (length ops ≡ c.boundary → ⊥)
-    → (answer.Refused StaleBatch, state_from ops (slice_set bs b (Sealed c))) ≡ apply (state_from ops bs) b (batch_at (state_from ops bs) b)
-apply_stale taken ops bs b c e kept held differ =
-    let size = length-shared ops c.own.items c.shared c.boundary kept.0 kept.1 in
-    let stale : stands_at meaning (state_from ops bs) (list_of ops c) c.boundary ≡ false = stands_not (state_from ops bs) _ _ (λ same. differ (same ∙ size)) in
-    let still : map (batch_of ops) (slice_set bs b (Sealed c)) ≡ map (batch_of ops) bs = map-set_same (batch_of ops) bs b (Sealed c) Gone (ap (batch_of ops) (sym e)) in
-    rw (batch_at-from ops bs b, e, lt_true 0 c.holds held, stale, still) refl
+  -- a batch that is put in its own place
+  pub from-same : (bs : List Batch) (b : ℕ) (x : Batch) → get_or bs b Gone ≡ x → state_from lists head (slice_set bs b x) ≡ state_from lists head bs
+  from-same bs b x e =
+      ap (λ (xs : List (batches.Batch Operation)). record { ops = list_at lists head; batches = xs }) (map-set_same (batch_of lists) bs b x Gone (ap (batch_of lists) (sym e)))
 
--- a batch is kept, and means the same, over a longer log
-pub kept_longer : (taken : ℕ) (ops more : List Operation) (x : Batch) → BatchKept taken ops x → BatchKept taken (ops ++ more) x
-kept_longer taken ops more (Unsealed u) kept = let l = length-append ops more in (omega (arith, l, kept.0), kept.1)
-kept_longer taken ops more (Sealed c) kept =
-    let l = length-append ops more in
-    (kept.0, omega (arith, l, kept.1), kept.2, rw (take-append-le c.shared ops more kept.1) kept.3, kept.4)
-kept_longer taken ops more Gone kept = tt
+  sealed-of : (x : Batch) → model.as_sealed (batch_of lists x) ≡ option_map (sealed_of lists) (as_sealed x)
+  sealed-of (Unsealed u) = refl
+  sealed-of (Sealed c) = refl
+  sealed-of Gone = refl
 
-same_longer : (taken : ℕ) (ops more : List Operation) (x : Batch) → BatchKept taken ops x → batch_of (ops ++ more) x ≡ batch_of ops x
-same_longer taken ops more (Unsealed u) kept = rw (take-append-le u.base ops more kept.0) refl
-same_longer taken ops more (Sealed c) kept = rw (take-append-le c.shared ops more kept.1) refl
-same_longer taken ops more Gone kept = refl
+  pub linked-from : (bs : List Batch) (link : Option ℕ) → linked (state_from lists head bs) link ≡ option_map (sealed_of lists) (linked_in bs link)
+  linked-from bs None = refl
+  linked-from bs (Some p) = ap model.as_sealed (batch_at-from bs p) ∙ sealed-of (get_or bs p Gone)
 
-all_longer : (taken : ℕ) (ops more : List Operation) (bs : List Batch) → ((b : ℕ) → BatchKept taken ops (get_or bs b Gone)) → map (batch_of (ops ++ more)) bs ≡ map (batch_of ops) bs
-all_longer taken ops more [] kept = refl
-all_longer taken ops more (x ∷ bs) kept = rw (same_longer taken ops more x (kept 0), all_longer taken ops more bs (λ b. kept (suc b))) refl
+  -- what is alive under a link
+  module _ (bs : List Batch) where
+    not_linked : (p : ℕ) (x : Batch) → as_sealed x ≡ None → if_alive (state_from lists head bs) p (batch_of lists x) ≡ None
+    not_linked p (Unsealed u) e = refl
+    not_linked p (Sealed c) e = absurd (none-some c (sym e))
+    not_linked p Gone e = refl
 
--- the log at the boundary of a batch shares all of its list that it can
-shares_all : (taken : ℕ) (ops : List Operation) (c : SealedBatch) → BatchKept taken ops (Sealed c) → length ops ≡ c.boundary → take c.shared ops ≡ ops
-shares_all taken ops c kept e = let s : c.shared ≡ length ops = omega (arith, e, kept.0, kept.1) in rw s (take-length ops)
+    pub alive_not : (link : Option ℕ) → linked_in bs link ≡ None → alive_at (state_from lists head bs) link ≡ None
+    alive_not None e = refl
+    alive_not (Some p) e = rw (batch_at-from bs p) (not_linked p (get_or bs p Gone) e)
 
-pub apply_done : (taken : ℕ) (ops ops' : List Operation) (bs : List Batch) (b : ℕ) (c c' : SealedBatch) → get_or bs b Gone ≡ Sealed c → ((q : ℕ) → BatchKept taken ops (get_or bs q Gone)) → 0 < c.holds
-    → length ops ≡ c.boundary → ops' ≡ ops ++ c.own.items → c'.boundary ≡ c.boundary → c'.shared ≡ length ops' → c'.own.items ≡ [] → c'.holds ≡ c.holds
-    → (answer.Applied, state_from ops' (slice_set bs b (Sealed c'))) ≡ apply (state_from ops bs) b (batch_at (state_from ops bs) b)
-apply_done taken ops ops' bs b c c' e kept held at_end longer boundary shared own holds =
-    let P : Batch → Type 0 = BatchKept taken ops in
-    let here : BatchKept taken ops (Sealed c) = subst P e (kept b) in
-    let front = shares_all taken ops c here at_end in
-    let whole : take c.shared ops ++ c.own.items ≡ ops' = rw front (sym longer) in
-    let fresh : stands_at meaning (state_from ops bs) (take c.shared ops ++ c.own.items) c.boundary ≡ true =
-    stands (state_from ops bs) _ _ (sym (ap (λ (xs : List Operation). take c.boundary (xs ++ c.own.items)) front ∙ rw (sym at_end) (take-append_seam ops c.own.items))) in
-    let this : batch_of ops' (Sealed c') ≡ batch_of ops' (Sealed c) =
-    rw (boundary, shared, own, holds, longer, take-length (ops ++ c.own.items), take-append-le c.shared ops c.own.items here.1, front, append-nil (ops ++ c.own.items)) refl in
-    let still : map (batch_of ops') (slice_set bs b (Sealed c')) ≡ map (batch_of ops) bs =
-    map-set_same (batch_of ops') bs b (Sealed c') Gone (this ∙ ap (batch_of ops') (sym e)) ∙ rw longer (all_longer taken ops c.own.items bs kept) in
-    rw (batch_at-from ops bs b, e, lt_true 0 c.holds held, fresh, still, whole) refl
+    alive_if : (p : ℕ) (c : SealedBatch) (t : Bool) → linked_in bs (Some p) ≡ Some c → model.is_alive (state_from lists head bs) p (sealed_of lists c) ≡ t
+        → alive_at (state_from lists head bs) (Some p) ≡ cond t (Some (sealed_of lists c)) None
+    alive_if p c t e is = rw (batch_at-from bs p, sealed_is (get_or bs p Gone) c e, is) refl
 
--- what holds of each batch holds where one is replaced, or added
-pub set_keeps : (P : Batch → Type 0) (bs : List Batch) (b : ℕ) (x : Batch) → ((q : ℕ) → P (get_or bs q Gone)) → P x → (q : ℕ) → P (get_or (slice_set bs b x) q Gone)
-set_keeps P [] b x f h q = f q
-set_keeps P (y ∷ bs) zero x f h zero = h
-set_keeps P (y ∷ bs) zero x f h (suc q) = f (suc q)
-set_keeps P (y ∷ bs) (suc b) x f h zero = f zero
-set_keeps P (y ∷ bs) (suc b) x f h (suc q) = set_keeps P bs b x (λ r. f (suc r)) h q
+    -- it is held, or not, and has a child, or hasn't
+    pub alive_held : (p : ℕ) (c : SealedBatch) → linked_in bs (Some p) ≡ Some c → 0 < c.holds → alive_at (state_from lists head bs) (Some p) ≡ Some (sealed_of lists c)
+    alive_held p c e held = alive_if p c true e (rw (lt_true 0 c.holds held) refl)
 
-pub push_keeps : (P : Batch → Type 0) (bs : List Batch) (x : Batch) → ((q : ℕ) → P (get_or bs q Gone)) → P x → (q : ℕ) → P (get_or (bs ++ (x ∷ [])) q Gone)
-push_keeps P [] x f h zero = h
-push_keeps P [] x f h (suc q) = f (suc q)
-push_keeps P (y ∷ bs) x f h zero = f zero
-push_keeps P (y ∷ bs) x f h (suc q) = push_keeps P bs x (λ r. f (suc r)) h q
+    pub alive_child : (p : ℕ) (c : SealedBatch) (t : Bool) → linked_in bs (Some p) ≡ Some c → c.holds ≡ 0 → t ≡ list_any (is_child p) (map (batch_of lists) bs)
+        → alive_at (state_from lists head bs) (Some p) ≡ cond t (Some (sealed_of lists c)) None
+    alive_child p c t e free child = alive_if p c t e (rw (free, child) refl)
 
-pub kept_applied : (taken : ℕ) (ops ops' : List Operation) (bs : List Batch) (b : ℕ) (c c' : SealedBatch) → get_or bs b Gone ≡ Sealed c → ((q : ℕ) → BatchKept taken ops (get_or bs q Gone))
-    → length ops ≡ c.boundary → ops' ≡ ops ++ c.own.items → c'.boundary ≡ c.boundary → c'.shared ≡ length ops' → c'.own.items ≡ [] → c'.root ≡ c.root → c'.holds ≡ c.holds
-    → (length ops' ≤ max_leaves) × (c.root ≡ root_of_list ops') × ((q : ℕ) → BatchKept taken ops' (get_or (slice_set bs b (Sealed c')) q Gone))
-kept_applied taken ops ops' bs b c c' e kept at_end longer boundary shared own root holds =
-    let P : Batch → Type 0 = BatchKept taken ops in
-    let P' : Batch → Type 0 = BatchKept taken ops' in
-    let here : BatchKept taken ops (Sealed c) = subst P e (kept b) in
-    let front = shares_all taken ops c here at_end in
-    let size : length ops' ≡ length ops + length c.own.items = rw longer (length-append ops c.own.items) in
-    let few : length ops' ≤ max_leaves = omega (arith, size, at_end, here.0, here.1, here.2) in
-    let whole : c.root ≡ root_of_list ops' = here.3 ∙ ap root_of_list (rw front (sym longer)) in
-    let all_of : take (length ops') ops' ++ [] ≡ ops' = rw take-length (append-nil ops') in
-    let this : BatchKept taken ops' (Sealed c') =
-    (omega (arith, boundary, shared, size, at_end), omega (arith, shared), rw own (omega (arith, shared, few)), rw (root, shared, own, all_of) whole, omega (arith, holds, here.4)) in
-    let others : (q : ℕ) → BatchKept taken ops' (get_or bs q Gone) = λ q. rw longer (kept_longer taken ops c.own.items (get_or bs q Gone) (kept q)) in
-    (few, whole, set_keeps P' bs b (Sealed c') others this)
+    on_link : (link : Option ℕ) (p : ℕ) (c : SealedBatch) → link ≡ Some p → Some c ≡ linked_in bs link → linked_in bs (Some p) ≡ Some c
+    on_link link p c is e = ap (linked_in bs) (sym is) ∙ sym e
 
--- ---- a seal
+    pub living_held : (link : Option ℕ) (p : ℕ) (c : SealedBatch) → link ≡ Some p → Some c ≡ linked_in bs link → 0 < c.holds → Some (sealed_of lists c) ≡ alive_at (state_from lists head bs) link
+    living_held link p c is e held = sym (ap (alive_at (state_from lists head bs)) is ∙ alive_held p c (on_link link p c is e) held)
 
-set_set : (bs : List Batch) (b : ℕ) (x y : Batch) → slice_set (slice_set bs b x) b y ≡ slice_set bs b y
-set_set [] b x y = refl
-set_set (z ∷ bs) zero x y = refl
-set_set (z ∷ bs) (suc b) x y = ap (λ (ys : List Batch). z ∷ ys) (set_set bs b x y)
+    pub living_child : (link : Option ℕ) (p : ℕ) (c : SealedBatch) → link ≡ Some p → Some c ≡ linked_in bs link → c.holds ≡ 0 → true ≡ list_any (is_child p) (map (batch_of lists) bs) → Some (sealed_of lists c) ≡ alive_at (state_from lists head bs) link
+    living_child link p c is e free child = sym (ap (alive_at (state_from lists head bs)) is ∙ alive_child p c true (on_link link p c is e) free child)
 
-from-sets : (ops : List Operation) (bs : List Batch) (b : ℕ) (x y : Batch) → state_from ops (slice_set (slice_set bs b x) b y) ≡ with_batch (state_from ops bs) b (batch_of ops y)
-from-sets ops bs b x y = ap (state_from ops) (set_set bs b x y) ∙ from-set ops bs b y
+    pub living_not : (link : Option ℕ) (p : ℕ) (c : SealedBatch) → link ≡ Some p → Some c ≡ linked_in bs link → c.holds ≡ 0 → false ≡ list_any (is_child p) (map (batch_of lists) bs) → None ≡ alive_at (state_from lists head bs) link
+    living_not link p c is e free child = sym (ap (alive_at (state_from lists head bs)) is ∙ alive_child p c false (on_link link p c is e) free child)
 
-length-front : (ops : List Operation) (n : ℕ) → n ≤ length ops → length (take n (take n ops)) ≡ n
-length-front ops n le = length-take-le n (take n ops) (let l = length-take-le n ops le in omega (arith, l))
+  -- the reach goes on where a batch is alive
+  module _ (bs : List Batch) (falls : (p : ℕ) (c : SealedBatch) → get_or bs p Gone ≡ Sealed c → link_bound c.parent ≤ p) where
+    abbrev parent_of : batches.Batch Operation → Option ℕ
+    parent_of (batches.Unsealed u) = None
+    parent_of (batches.Sealed c) = c.parent
+    parent_of batches.Gone = None
 
--- the refusals of a seal
+    falls_at : (p : ℕ) (x : Batch) (c : batches.SealedBatch Operation) → get_or bs p Gone ≡ x → batch_of lists x ≡ batches.Sealed c → link_bound c.parent ≤ p
+    falls_at p (Unsealed u) c is e = absurd (let never : batches.Unsealed (unsealed_of lists u) ≡ batches.Sealed c = e in cc)
+    falls_at p (Sealed d) c is e = let same : d.parent ≡ c.parent = ap parent_of e in rw (← same) (falls p d is)
+    falls_at p Gone c is e = absurd (let never : batches.Gone ≡ batches.Sealed c = e in cc)
 
-pub refused_stale : (taken : ℕ) (ops : List Operation) (bs : List Batch) (u : UnsealedBatch) (floor : ℕ) → BatchKept taken ops (Unsealed u) → (length ops ≡ u.base → ⊥)
-    → Some StaleBatch ≡ seal_refusal (state_from ops bs) (unsealed_of ops u) floor
-refused_stale taken ops bs u floor kept differ =
-    let stale : stands_at meaning (state_from ops bs) (take u.base ops) u.base ≡ false = stands_not (state_from ops bs) _ _ (λ same. differ (same ∙ length-front ops u.base kept.0)) in
-    rw stale refl
+    links_fall : LinksFall (state_from lists head bs)
+    links_fall p c e = falls_at p (get_or bs p Gone) c refl (sym (batch_at-from bs p) ∙ e)
 
--- the log at the base of a batch is the list on which it stands
-at_base : (ops : List Operation) (bs : List Batch) (n : ℕ) → length ops ≡ n → stands_at meaning (state_from ops bs) (take n ops) n ≡ true
-at_base ops bs n e = stands (state_from ops bs) _ _ (sym (rw (sym e, take-length ops) (take-length ops)))
+    abbrev Reached : Option ℕ → List (batches.SealedBatch Operation)
+    Reached link = reach_from (state_from lists head bs) (link_bound link) link
 
-pub refused_full : (ops : List Operation) (bs : List Batch) (u : UnsealedBatch) (floor size : ℕ) → length ops ≡ u.base → size ≡ u.base + length u.own.items + 1 → max_leaves < size
-    → Some (LocationOverflow size) ≡ seal_refusal (state_from ops bs) (unsealed_of ops u) floor
-refused_full ops bs u floor size at_end count over =
-    let full : nat_lt max_leaves (u.base + length u.own.items + 1) ≡ true = lt_true max_leaves (u.base + length u.own.items + 1) (omega (arith, count, over)) in
-    rw (at_base ops bs u.base at_end, full, count) refl
+    pub reached_end : (link : Option ℕ) → alive_at (state_from lists head bs) link ≡ None → Reached link ≡ []
+    reached_end link e = reach_end (state_from lists head bs) links_fall link e
 
-pub refused_fallen : (ops : List Operation) (bs : List Batch) (u : UnsealedBatch) (floor below : ℕ) → length ops ≡ u.base → u.base + length u.own.items + 1 ≤ max_leaves
-    → below ≡ floor_of meaning ops → floor < below → Some (FloorRegressed floor below) ≡ seal_refusal (state_from ops bs) (unsealed_of ops u) floor
-refused_fallen ops bs u floor below at_end fits is low =
-    let room : nat_lt max_leaves (u.base + length u.own.items + 1) ≡ false = lt_false max_leaves (u.base + length u.own.items + 1) fits in
-    let fallen : nat_lt floor (floor_of meaning ops) ≡ true = lt_true floor (floor_of meaning ops) (omega (arith, is, low)) in
-    rw (at_base ops bs u.base at_end, room, fallen, is) refl
+    pub reached_more : (link : Option ℕ) (c : SealedBatch) → alive_at (state_from lists head bs) link ≡ Some (sealed_of lists c) → Reached link ≡ sealed_of lists c ∷ Reached c.parent
+    reached_more None c e = absurd (none-some (sealed_of lists c) e)
+    reached_more (Some p) c e = reach_more (state_from lists head bs) links_fall p (sealed_of lists c) e
 
-pub refused_past : (ops : List Operation) (bs : List Batch) (u : UnsealedBatch) (floor below location : ℕ) → length ops ≡ u.base → u.base + length u.own.items + 1 ≤ max_leaves
-    → below ≡ floor_of meaning ops → below ≤ floor → location ≡ u.base + length u.own.items → location < floor
-    → Some (FloorBeyondSize floor location) ≡ seal_refusal (state_from ops bs) (unsealed_of ops u) floor
-refused_past ops bs u floor below location at_end fits is high there past =
-    let room : nat_lt max_leaves (u.base + length u.own.items + 1) ≡ false = lt_false max_leaves (u.base + length u.own.items + 1) fits in
-    let risen : nat_lt floor (floor_of meaning ops) ≡ false = lt_false floor (floor_of meaning ops) (omega (arith, is, high)) in
-    let beyond : nat_lt (u.base + length u.own.items) floor ≡ true = lt_true (u.base + length u.own.items) floor (omega (arith, there, past)) in
-    rw (at_base ops bs u.base at_end, room, risen, beyond, there) refl
+    pub tips_more : (link : Option ℕ) (c : SealedBatch) (tips : List ℕ) (all : List ℕ) → alive_at (state_from lists head bs) link ≡ Some (sealed_of lists c) → lengths lists tips ++ tips_of (Reached link) ≡ all
+        → lengths lists (tips ++ (c.list ∷ [])) ++ tips_of (Reached c.parent) ≡ all
+    tips_more link c tips all e told =
+        ap (λ (xs : List ℕ). xs ++ tips_of (Reached c.parent)) (map-append (length_at lists) tips (c.list ∷ []))
+        ∙ append_assoc (lengths lists tips) (length_at lists c.list ∷ []) (tips_of (Reached c.parent))
+        ∙ ap (λ (xs : List ℕ). lengths lists tips ++ xs) (sym (ap tips_of (reached_more link c e)))
+        ∙ told
 
-pub refused_not : (ops : List Operation) (bs : List Batch) (u : UnsealedBatch) (floor below : ℕ) → length ops ≡ u.base → u.base + length u.own.items + 1 ≤ max_leaves
-    → below ≡ floor_of meaning ops → below ≤ floor → floor ≤ u.base + length u.own.items → None ≡ seal_refusal (state_from ops bs) (unsealed_of ops u) floor
-refused_not ops bs u floor below at_end fits is high within =
-    let room : nat_lt max_leaves (u.base + length u.own.items + 1) ≡ false = lt_false max_leaves (u.base + length u.own.items + 1) fits in
-    let risen : nat_lt floor (floor_of meaning ops) ≡ false = lt_false floor (floor_of meaning ops) (omega (arith, is, high)) in
-    let inside : nat_lt (u.base + length u.own.items) floor ≡ false = lt_false (u.base + length u.own.items) floor within in
-    rw (at_base ops bs u.base at_end, room, risen, inside) refl
+-- the base of the oldest of those that are left, or the one that was found before
+abbrev pub oldest_of : Option ℕ → List (batches.SealedBatch Operation) → Option ℕ
+oldest_of found [] = found
+oldest_of found (c ∷ cs) = oldest_base (c ∷ cs)
 
-same_or_not : (m n : ℕ) → (m ≡ n) ⊎ (m ≡ n → ⊥)
-same_or_not m n = elim (cases_lt m n) [
-  | inl lt ↦ inr (λ e. omega (arith, lt, e))
-  | inr le ↦ elim (cases_lt n m) [
-    | inl lt ↦ inr (λ e. omega (arith, lt, e))
-    | inr ge ↦ inl (omega (arith, le, ge))
-  ]
-]
+pub oldest_none : (cs : List (batches.SealedBatch Operation)) → oldest_of None cs ≡ oldest_base cs
+oldest_none [] = refl
+oldest_none (c ∷ cs) = refl
 
--- a seal that isn't refused stands on the whole log, and fits
-stands_here : (taken : ℕ) (ops : List Operation) (bs : List Batch) (u : UnsealedBatch) (floor : ℕ) → BatchKept taken ops (Unsealed u) → None ≡ seal_refusal (state_from ops bs) (unsealed_of ops u) floor → length ops ≡ u.base
-stands_here taken ops bs u floor kept none = elim (same_or_not (length ops) u.base) [
-  | inl same ↦ same
-  | inr differ ↦ let never = none ∙ sym (refused_stale taken ops bs u floor kept differ) in absurd (cc)
-]
+pub oldest_more : (c : batches.SealedBatch Operation) (cs : List (batches.SealedBatch Operation)) → oldest_of (Some c.base) cs ≡ oldest_base (c ∷ cs)
+oldest_more c [] = refl
+oldest_more c (d ∷ cs) = refl
 
-fits_here : (taken : ℕ) (ops : List Operation) (bs : List Batch) (u : UnsealedBatch) (floor : ℕ) → BatchKept taken ops (Unsealed u) → None ≡ seal_refusal (state_from ops bs) (unsealed_of ops u) floor → u.base + length u.own.items + 1 ≤ max_leaves
-fits_here taken ops bs u floor kept none = elim (cases_lt max_leaves (u.base + length u.own.items + 1)) [
-  | inl over ↦ let never = none ∙ sym (refused_full ops bs u floor (u.base + length u.own.items + 1) (stands_here taken ops bs u floor kept none) refl over) in absurd (cc)
-  | inr fits ↦ fits
-]
+-- ---- fronts
 
-pub seals : (taken : ℕ) (ops : List Operation) (bs : List Batch) (u : UnsealedBatch) (floor : ℕ) → BatchKept taken ops (Unsealed u) → None ≡ seal_refusal (state_from ops bs) (unsealed_of ops u) floor
-    → (length ops ≡ u.base) × (u.base + length u.own.items + 1 ≤ max_leaves)
-seals taken ops bs u floor kept none = (stands_here taken ops bs u floor kept none, fits_here taken ops bs u floor kept none)
+module _ (h : History) where
+  pub whole_front : (i : ℕ) → i < count_in h → IsFront h i i
+  whole_front i lt = (lt, sym (take-length (list_at (lists_in h) i)))
 
--- so it is for a batch in its place, whatever list holds the log
-pub seals_at : (taken : ℕ) (ops now : List Operation) (bs : List Batch) (b : ℕ) (u : UnsealedBatch) (floor : ℕ) → now ≡ ops → get_or bs b Gone ≡ Unsealed u → ((q : ℕ) → BatchKept taken ops (get_or bs q Gone))
-    → None ≡ seal_refusal (state_from now bs) (unsealed_of now u) floor → (length ops ≡ u.base) × (u.base + length u.own.items + 1 ≤ max_leaves)
-seals_at taken ops now bs b u floor same e kept none =
-    let P : Batch → Type 0 = BatchKept taken ops in
-    seals taken ops bs u floor (subst P e (kept b)) (rw same at none)
+  front_within : (i j : ℕ) → IsFront h i j → length_at (lists_in h) i ≤ length_at (lists_in h) j
+  front_within i j f = let e = ap length f.1 ∙ length-take (length_at (lists_in h) i) (list_at (lists_in h) j) in omega (arith, e)
 
--- with the commit it is one longer
-pub length-ended : (own own' : List Operation) (commit : Operation) → own' ≡ own ++ (commit ∷ []) → length own' ≡ length own + 1
-length-ended own own' commit e = ap length e ∙ length-append own (commit ∷ [])
+  pub front_front : (i j k : ℕ) → IsFront h i j → IsFront h j k → IsFront h i k
+  front_front i j k a b = (
+    a.0,
+    a.1 ∙ ap (take (length_at (lists_in h) i)) b.1 ∙ take-take (length_at (lists_in h) i) (length_at (lists_in h) j) (list_at (lists_in h) k) (front_within i j a),
+  )
 
-pub seal_long : (limit : ℕ) (ops : List Operation) (bs : List Batch) (b : ℕ) (metadata : Option (List ℕ)) (floor : ℕ) (u : UnsealedBatch) → get_or bs b Gone ≡ Unsealed u → limit < metadata_length metadata
-    → (answer.Refused (ValueTooLong (metadata_length metadata)), state_from ops (slice_set bs b (Unsealed u))) ≡ seal limit (state_from ops bs) b metadata floor (batch_at (state_from ops bs) b)
-seal_long limit ops bs b metadata floor u e long =
-    let still : map (batch_of ops) (slice_set bs b (Unsealed u)) ≡ map (batch_of ops) bs = map-set_same (batch_of ops) bs b (Unsealed u) Gone (ap (batch_of ops) (sym e)) in
-    rw (batch_at-from ops bs b, e, lt_true limit (metadata_length metadata) long, still) refl
+  pub fronts_push : (ids : List ℕ) (i j : ℕ) → AreFronts h ids j → IsFront h i j → AreFronts h (ids ++ (i ∷ [])) j
+  fronts_push [] i j fs f = (f, tt)
+  fronts_push (k ∷ ids) i j fs f = (fs.0, fronts_push ids i j fs.1 f)
 
-pub seal_lost : (limit : ℕ) (ops : List Operation) (bs : List Batch) (b : ℕ) (metadata : Option (List ℕ)) (floor : ℕ) (u : UnsealedBatch) (x : Batch) (refusal : Refusal) → get_or bs b Gone ≡ Unsealed u
-    → metadata_length metadata ≤ limit → Some refusal ≡ seal_refusal (state_from ops bs) (unsealed_of ops u) floor
-    → (answer.Refused refusal, state_from ops (slice_set (slice_set bs b x) b Gone)) ≡ seal limit (state_from ops bs) b metadata floor (batch_at (state_from ops bs) b)
-seal_lost limit ops bs b metadata floor u x refusal e short why =
-    rw (batch_at-from ops bs b, e, lt_false limit (metadata_length metadata) short, sym why, from-sets ops bs b x Gone) refl
+  -- what a link names has a list that is a front
+  abbrev pub LinkFront : List Batch → ℕ → Option ℕ → Type 0
+  LinkFront bs base link = IfSome (linked_in bs link) (λ c. IsFront h c.list base)
 
-pub seal_done : (limit : ℕ) (ops : List Operation) (bs : List Batch) (b : ℕ) (metadata : Option (List ℕ)) (floor : ℕ) (u : UnsealedBatch) (x : Batch) (size : ℕ) (c : SealedBatch) → get_or bs b Gone ≡ Unsealed u
-    → metadata_length metadata ≤ limit → None ≡ seal_refusal (state_from ops bs) (unsealed_of ops u) floor → length ops ≡ u.base
-    → size ≡ u.base + length c.own.items → c.boundary ≡ u.base → c.shared ≡ u.base → c.own.items ≡ u.own.items ++ (Commit metadata floor ∷ []) → c.root ≡ root_of_list (ops ++ c.own.items) → c.holds ≡ 1
-    → (answer.Sealed size c.root, state_from ops (slice_set (slice_set bs b x) b (Sealed c))) ≡ seal limit (state_from ops bs) b metadata floor (batch_at (state_from ops bs) b)
-seal_done limit ops bs b metadata floor u x size c e short none at_end count boundary shared own root holds =
-    let front : take u.base ops ≡ ops = rw (sym at_end) (take-length ops) in
-    let long : length (ops ++ (u.own.items ++ (Commit metadata floor ∷ []))) ≡ size = rw (sym own) (omega (arith, at_end, count, length-append ops c.own.items)) in
-    let sets : floor_of meaning (ops ++ (u.own.items ++ (Commit metadata floor ∷ []))) ≡ floor = rw (← front) (floor-sealed meaning (λ v. Unit {0}) (Commit metadata floor) (unsealed_of ops u) (Commit metadata floor) floor refl) in
-    rw (batch_at-from ops bs b, e, lt_false limit (metadata_length metadata) short, sym none, from-sets ops bs b x (Sealed c), boundary, shared, root, own, holds, front, long, sets) refl
+  same_front : (o : Option SealedBatch) (base : ℕ) → base < count_in h → IsSomeAnd o (λ c. c.list ≡ base) → IfSome o (λ c. IsFront h c.list base)
+  same_front None base lt e = absurd e
+  same_front (Some c) base lt e = subst (λ i. IsFront h i base) (sym e) (whole_front base lt)
 
-pub kept_sealed : (taken : ℕ) (ops : List Operation) (bs : List Batch) (b : ℕ) (u : UnsealedBatch) (x : Batch) (commit : Operation) (c : SealedBatch) → ((q : ℕ) → BatchKept taken ops (get_or bs q Gone)) → length ops ≡ u.base
-    → u.base + length u.own.items + 1 ≤ max_leaves → c.boundary ≡ u.base → c.shared ≡ u.base → c.own.items ≡ u.own.items ++ (commit ∷ []) → c.root ≡ root_of_list (ops ++ c.own.items) → 0 < taken → c.holds ≡ 1
-    → (q : ℕ) → BatchKept taken ops (get_or (slice_set (slice_set bs b x) b (Sealed c)) q Gone)
-kept_sealed taken ops bs b u x commit c kept at_end fits boundary shared own root some holds =
-    let P : Batch → Type 0 = BatchKept taken ops in
-    let front : take c.shared ops ≡ ops = rw (shared, sym at_end) (take-length ops) in
-    let l : length c.own.items ≡ length u.own.items + 1 = ap length own ∙ length-append u.own.items (commit ∷ []) in
-    let this : BatchKept taken ops (Sealed c) = (omega (arith, boundary, shared), omega (arith, shared, at_end), omega (arith, shared, l, fits), rw front root, omega (arith, holds, some)) in
-    rw (set_set bs b x (Sealed c)) (set_keeps P bs b (Sealed c) kept this)
+  pub link_front : (bs : List Batch) (b base : ℕ) (link : Option ℕ) → base < count_in h → LinkKept bs b base link → LinkFront bs base link
+  link_front bs b base None lt k = tt
+  link_front bs b base (Some p) lt k = same_front (as_sealed (get_or bs p Gone)) base lt k.1
 
--- ---- holds
+  front_on : (o : Option SealedBatch) (i j : ℕ) → IsFront h i j → IfSome o (λ c. IsFront h c.list i) → IfSome o (λ c. IsFront h c.list j)
+  front_on None i j f k = tt
+  front_on (Some c) i j f k = front_front c.list i j k f
 
-pub hold_done : (ops : List Operation) (bs : List Batch) (b : ℕ) (c c' : SealedBatch) → get_or bs b Gone ≡ Sealed c → 0 < c.holds → c' ≡ record c { holds = c.holds + 1 }
-    → (answer.Done, state_from ops (slice_set bs b (Sealed c'))) ≡ hold (state_from ops bs) b (batch_at (state_from ops bs) b)
-hold_done ops bs b c c' e held more =
-    rw (batch_at-from ops bs b, e, lt_true 0 c.holds held, more) (ap (λ s. (answer.Done, s)) (from-set ops bs b (Sealed (record c { holds = c.holds + 1 }))))
+  module _ (taken : ℕ) (bs : List Batch) (kept : BatchesKept taken h bs) where
+    pub linked_kept : (p : ℕ) (c : SealedBatch) → linked_in bs (Some p) ≡ Some c → BatchKept taken h bs p (Sealed c)
+    linked_kept p c e = subst (BatchKept taken h bs p) (sealed_is (get_or bs p Gone) c e) (kept p)
 
-pub release_done : (ops : List Operation) (bs : List Batch) (b : ℕ) (c c' : SealedBatch) → get_or bs b Gone ≡ Sealed c → 0 < c.holds → c' ≡ record c { holds = c.holds - 1 }
-    → (answer.Done, state_from ops (slice_set bs b (Sealed c'))) ≡ release (state_from ops bs) b (batch_at (state_from ops bs) b)
-release_done ops bs b c c' e held less =
-    rw (batch_at-from ops bs b, e, lt_true 0 c.holds held, less) (ap (λ s. (answer.Done, s)) (from-set ops bs b (Sealed (record c { holds = c.holds - 1 }))))
+    -- the base of what a link names is a front, and what its own link names has a front
+    pub reach_fronts : (link : Option ℕ) (c : SealedBatch) (base : ℕ) → linked_in bs link ≡ Some c → IsFront h c.list base → IsFront h c.base base × LinkFront bs base c.parent
+    reach_fronts None c base e f = absurd (none-some c e)
+    reach_fronts (Some p) c base e f =
+        let k = linked_kept p c e in
+        let under = front_front c.base c.list base k.1 f in
+        (under, front_on (linked_in bs c.parent) c.base base under (link_front bs p c.base c.parent k.1.0 k.5))
 
-pub release_lost : (ops : List Operation) (bs : List Batch) (b : ℕ) (u : UnsealedBatch) (x : Batch) → get_or bs b Gone ≡ Unsealed u
-    → (answer.Done, state_from ops (slice_set (slice_set bs b x) b Gone)) ≡ release (state_from ops bs) b (batch_at (state_from ops bs) b)
-release_lost ops bs b u x e = rw (batch_at-from ops bs b, e) (ap (λ s. (answer.Done, s)) (from-sets ops bs b x Gone))
+  -- where the present list stands, by number
+  module _ (head : ℕ) (bs : List Batch) where
+    pub stands_front : (i j : ℕ) → IsFront h i j → pointwise meaning.same (list_at (lists_in h) head) (list_at (lists_in h) i) ≡ stands_at meaning (state_from (lists_in h) head bs) (list_at (lists_in h) j) (length_at (lists_in h) i)
+    stands_front i j f = ap (λ (xs : List Operation). pointwise meaning.same (list_at (lists_in h) head) xs) f.1
 
--- the value that ends a list is that of its last operation
-pub last_value-last : (ops : List Operation) (d : Operation) → 0 < length ops → last_value meaning ops ≡ meaning.value (get_or ops (length ops - 1) d)
-last_value-last [] d lt = absurd (omega arith)
-last_value-last (op ∷ []) d lt = refl
-last_value-last (op ∷ next ∷ ops) d lt =
-    let e : length (op ∷ next ∷ ops) - 1 ≡ suc (length (next ∷ ops) - 1) = omega arith in
-    rw e (last_value-last (next ∷ ops) d (omega arith))
+    pub stands_fronts : (ids : List ℕ) (j : ℕ) → AreFronts h ids j
+        → list_any (λ i. pointwise meaning.same (list_at (lists_in h) head) (list_at (lists_in h) i)) ids ≡ list_any (stands_at meaning (state_from (lists_in h) head bs) (list_at (lists_in h) j)) (lengths (lists_in h) ids)
+    stands_fronts [] j fs = refl
+    stands_fronts (i ∷ ids) j fs = rw (stands_front i j fs.0, stands_fronts ids j fs.1) refl
+
+pub fronts_below : (h : History) (ids : List ℕ) (j : ℕ) → AreFronts h ids j → AreBelow (count_in h) ids
+fronts_below h [] j fs = tt
+fronts_below h (i ∷ ids) j fs = (fs.0.0, fronts_below h ids j fs.1)
+
+-- ---- what stays kept
+
+-- what holds of each batch and its number holds where one is replaced, or added
+set_all : (P : ℕ → Batch → Type 0) (bs : List Batch) (b : ℕ) (x : Batch) → ((q : ℕ) → P q (get_or bs q Gone)) → P b x → (q : ℕ) → P q (get_or (slice_set bs b x) q Gone)
+set_all P [] b x f h q = f q
+set_all P (y ∷ bs) zero x f h zero = h
+set_all P (y ∷ bs) zero x f h (suc q) = f (suc q)
+set_all P (y ∷ bs) (suc b) x f h zero = f zero
+set_all P (y ∷ bs) (suc b) x f h (suc q) = set_all (λ r. P (suc r)) bs b x (λ r. f (suc r)) h q
+
+push_all : (P : ℕ → Batch → Type 0) (bs : List Batch) (x : Batch) → ((q : ℕ) → P q (get_or bs q Gone)) → P (length bs) x → (q : ℕ) → P q (get_or (bs ++ (x ∷ [])) q Gone)
+push_all P [] x f h zero = h
+push_all P [] x f h (suc q) = f (suc q)
+push_all P (y ∷ bs) x f h zero = f zero
+push_all P (y ∷ bs) x f h (suc q) = push_all (λ r. P (suc r)) bs x (λ r. f (suc r)) h q
+
+map_all : (P : ℕ → Batch → Type 0) (f g : Batch → batches.Batch Operation) (bs : List Batch) → ((q : ℕ) (x : Batch) → P q x → f x ≡ g x) → ((q : ℕ) → P q (get_or bs q Gone)) → map f bs ≡ map g bs
+map_all P f g [] same k = refl
+map_all P f g (y ∷ bs) same k = rw (same 0 y (k 0), map_all (λ q. P (suc q)) f g bs (λ q x. same (suc q) x) (λ q. k (suc q))) refl
+
+-- what was sealed stays sealed, with its list
+abbrev pub Keeps : Batch → Batch → Type 0
+Keeps old new = IfSome (as_sealed old) (λ c. IsSomeAnd (as_sealed new) (λ d. d.list ≡ c.list))
+
+pub keeps_self : (x : Batch) → Keeps x x
+keeps_self (Unsealed u) = tt
+keeps_self (Sealed c) = refl
+keeps_self Gone = tt
+
+still_sealed : (base : ℕ) (o n : Option SealedBatch) → IfSome o (λ c. IsSomeAnd n (λ d. d.list ≡ c.list)) → IsSomeAnd o (λ c. c.list ≡ base) → IsSomeAnd n (λ c. c.list ≡ base)
+still_sealed base None n k e = absurd e
+still_sealed base (Some c) None k e = absurd k
+still_sealed base (Some c) (Some d) k e = k ∙ e
+
+module _ (bs ds : List Batch) (keeps : (q : ℕ) → Keeps (get_or bs q Gone) (get_or ds q Gone)) where
+  still_linked : (b base : ℕ) (link : Option ℕ) → LinkKept bs b base link → LinkKept ds b base link
+  still_linked b base None k = tt
+  still_linked b base (Some p) k = (k.0, still_sealed base (as_sealed (get_or bs p Gone)) (as_sealed (get_or ds p Gone)) (keeps p) k.1)
+
+  still_kept : (taken : ℕ) (h : History) (b : ℕ) (x : Batch) → BatchKept taken h bs b x → BatchKept taken h ds b x
+  still_kept taken h b (Unsealed u) k = (k.0, k.1, k.2, still_linked b u.base u.parent k.3)
+  still_kept taken h b (Sealed c) k = (k.0, k.1, k.2, k.3, k.4, still_linked b c.base c.parent k.5)
+  still_kept taken h b Gone k = tt
+
+set_keeps : (bs : List Batch) (b : ℕ) (x : Batch) → Keeps (get_or bs b Gone) x → (q : ℕ) → Keeps (get_or bs q Gone) (get_or (slice_set bs b x) q Gone)
+set_keeps [] b x h q = keeps_self (get_or [] q Gone)
+set_keeps (y ∷ bs) zero x h zero = h
+set_keeps (y ∷ bs) zero x h (suc q) = keeps_self (get_or bs q Gone)
+set_keeps (y ∷ bs) (suc b) x h zero = keeps_self y
+set_keeps (y ∷ bs) (suc b) x h (suc q) = set_keeps bs b x h q
+
+push_keeps : (bs : List Batch) (x : Batch) (q : ℕ) → Keeps (get_or bs q Gone) (get_or (bs ++ (x ∷ [])) q Gone)
+push_keeps [] x q = tt
+push_keeps (y ∷ bs) x zero = keeps_self y
+push_keeps (y ∷ bs) x (suc q) = push_keeps bs x q
+
+module _ (taken : ℕ) (h : History) (bs : List Batch) (kept : BatchesKept taken h bs) where
+  pub kept_set : (b : ℕ) (x : Batch) → BatchKept taken h bs b x → Keeps (get_or bs b Gone) x → BatchesKept taken h (slice_set bs b x)
+  kept_set b x k keeps =
+      let ds = slice_set bs b x in
+      let stays = set_keeps bs b x keeps in
+      set_all (BatchKept taken h ds) bs b x (λ q. still_kept bs ds stays taken h q (get_or bs q Gone) (kept q)) (still_kept bs ds stays taken h b x k)
+
+  pub kept_push : (x : Batch) → BatchKept taken h bs (length bs) x → BatchesKept taken h (bs ++ (x ∷ []))
+  kept_push x k =
+      let ds = bs ++ (x ∷ []) in
+      let stays = push_keeps bs x in
+      push_all (BatchKept taken h ds) bs x (λ q. still_kept bs ds stays taken h q (get_or bs q Gone) (kept q)) (still_kept bs ds stays taken h (length bs) x k)
+
+-- an unsealed batch may become anything
+pub unsealed_keeps : (bs : List Batch) (b : ℕ) (u : UnsealedBatch) (x : Batch) → get_or bs b Gone ≡ Unsealed u → Keeps (get_or bs b Gone) x
+unsealed_keeps bs b u x e = rw e tt
+
+-- ---- a longer history
+
+module _ (old new : History) (more : Extends old new) where
+  front_later : (i j : ℕ) → j < count_in old → IsFront old i j → IsFront new i j
+  front_later i j lt f = (let n = more.count in omega (arith, f.0, n), rw (more.same i f.0, more.same j lt) f.1)
+
+  fronts_later : (ids : List ℕ) (j : ℕ) → j < count_in old → AreFronts old ids j → AreFronts new ids j
+  fronts_later [] j lt fs = tt
+  fronts_later (i ∷ ids) j lt fs = (front_later i j lt fs.0, fronts_later ids j lt fs.1)
+
+  pub lengths_later : (ids : List ℕ) (j : ℕ) → AreFronts old ids j → lengths (lists_in new) ids ≡ lengths (lists_in old) ids
+  lengths_later [] j fs = refl
+  lengths_later (i ∷ ids) j fs = rw (more.same i fs.0.0, lengths_later ids j fs.1) refl
+
+  module _ (taken : ℕ) (bs : List Batch) where
+    kept_later : (b : ℕ) (x : Batch) → BatchKept taken old bs b x → BatchKept taken new bs b x
+    kept_later b (Unsealed u) k = (let n = more.count in omega (arith, k.0, n), k.1, k.2, k.3)
+    kept_later b (Sealed c) k = (let n = more.count in omega (arith, k.0, n), front_later c.base c.list k.0 k.1, front_later c.boundary c.list k.0 k.2, fronts_later c.tips.items c.list k.0 k.3, k.4, k.5)
+    kept_later b Gone k = tt
+
+    same_later : (b : ℕ) (x : Batch) → BatchKept taken old bs b x → batch_of (lists_in new) x ≡ batch_of (lists_in old) x
+    same_later b (Unsealed u) k = rw (more.same u.base k.0) refl
+    same_later b (Sealed c) k = rw (more.same c.list k.0, more.same c.base k.1.0, more.same c.boundary k.2.0, lengths_later c.tips.items c.list k.3) refl
+    same_later b Gone k = refl
+
+    pub all_kept_later : BatchesKept taken old bs → BatchesKept taken new bs
+    all_kept_later kept = λ b. kept_later b (get_or bs b Gone) (kept b)
+
+    pub all_same_later : BatchesKept taken old bs → map (batch_of (lists_in new)) bs ≡ map (batch_of (lists_in old)) bs
+    all_same_later kept = map_all (BatchKept taken old bs) (batch_of (lists_in new)) (batch_of (lists_in old)) bs same_later kept
+
+  -- a front of a list is one of a list that begins with it
+  pub front_longer : (i base list : ℕ) (own : List Operation) → base < count_in old → IsFront old i base → list_at (lists_in new) list ≡ list_at (lists_in old) base ++ own → IsFront new i list
+  front_longer i base list own lt f e =
+      let within = front_within old i base f in
+      let n = more.count in (
+        omega (arith, f.0, n),
+        rw (more.same i f.0, e, take-append-le (length_at (lists_in old) i) (list_at (lists_in old) base) own within) f.1,
+      )
+
+  pub fronts_longer : (ids : List ℕ) (base list : ℕ) (own : List Operation) → base < count_in old → AreFronts old ids base → list_at (lists_in new) list ≡ list_at (lists_in old) base ++ own → AreFronts new ids list
+  fronts_longer [] base list own lt fs e = tt
+  fronts_longer (i ∷ ids) base list own lt fs e = (front_longer i base list own lt fs.0 e, fronts_longer ids base list own lt fs.1 e)
+
+-- ---- by number
+
+module _ (h : History) (head : ℕ) (bs : List Batch) (list boundary : ℕ) (tips : List ℕ) (front : IsFront h boundary list) (fronts : AreFronts h tips list) where
+  abbrev Here : State Operation
+  Here = state_from (lists_in h) head bs
+
+  pub stands_first : true ≡ pointwise meaning.same (list_at (lists_in h) head) (list_at (lists_in h) boundary) → true ≡ stands_on meaning Here (list_at (lists_in h) list) (length_at (lists_in h) boundary) (lengths (lists_in h) tips)
+  stands_first e = rw (← stands_front h head bs boundary list front, ← e) refl
+
+  pub stands_rest : (r : Bool) → false ≡ pointwise meaning.same (list_at (lists_in h) head) (list_at (lists_in h) boundary) → r ≡ list_any (λ i. pointwise meaning.same (list_at (lists_in h) head) (list_at (lists_in h) i)) tips
+      → r ≡ stands_on meaning Here (list_at (lists_in h) list) (length_at (lists_in h) boundary) (lengths (lists_in h) tips)
+  stands_rest r e is = is ∙ rw (← stands_front h head bs boundary list front, ← e) (stands_fronts h head bs tips list fronts)
+
+pub oldest_below : (h : History) (o : Option ℕ) (base : ℕ) → IfSome o (λ i. IsFront h i base) → IfSome o (λ i. i < count_in h)
+oldest_below h None base f = tt
+oldest_below h (Some i) base f = f.0
+
+-- a batch that is put in its own place stays kept
+pub kept_same : (taken : ℕ) (h : History) (bs : List Batch) (kept : BatchesKept taken h bs) (b : ℕ) (x : Batch) → get_or bs b Gone ≡ x → BatchesKept taken h (slice_set bs b x)
+kept_same taken h bs kept b x e = kept_set taken h bs kept b x (subst (BatchKept taken h bs b) e (kept b)) (rw e (keeps_self x))

@@ -1,5 +1,5 @@
 -- Each step keeps a state good.
-use Rattle.std.proofs.Common.{◌≡◌, ℕ, ◌+◌, ◌-◌, ◌<◌, ◌≤◌, Bool, true, false, cond, List, [], ◌∷◌, ◌++◌, length, take, Option, Some, None, refl, ◌∙◌, subst, arith}
+use Rattle.std.proofs.Common.{◌≡◌, ℕ, ◌+◌, ◌-◌, ◌<◌, ◌≤◌, Bool, true, false, cond, List, [], ◌∷◌, length, Option, Some, None, refl, subst, arith}
 use Rattle.std.specs.Prelude.{nat_lt, nat_le, IfSome}
 use Rattle.std.proofs.lemmas.Bool.Decides.{nat_tests}
 use Rattle.log_model.specs.Batches.{Batch, UnsealedBatch, Unsealed, Sealed, Gone, size_of, is_held}
@@ -8,13 +8,13 @@ use Rattle.log_model.specs.Operations.{floor_of}
 use Rattle.log_model.specs.Reach.{floor_below, may_seal, may_apply}
 use Rattle.log_model.specs.ReachLaws.{floor_here, stood_alone}
 use Rattle.log_model.specs.Good.{IsGoodBatch}
-use Rattle.log_model.specs.GoodLaws.{good_lost, good_with_append, good_with_sealed, good_with_holds, good_begun, good_snapshot_taken, good_applied, good_opened}
+use Rattle.log_model.specs.GoodLaws.{good_lost, good_with_append, good_with_sealed, good_with_holds, good_begun, good_begun_after, good_snapshot_taken, good_applied, good_opened}
 use Rattle.twins.specs.Operation.{Operation, meaning, operation_decide}
 use Rattle.op_codec.specs.declared.keyless.Operation.TheVariants.{Append, Commit}
 use Rattle.twins.specs.declared.command.Command.{Command}
 use Rattle.twins.specs.declared.command.Command.TheVariants as command
 use Rattle.twins.specs.declared.command.Refusal.{Refusal}
-use Rattle.twins.specs.Step.{Outcome, step, append_to, seal_refusal, metadata_length, sealed_or_lost, seal, apply, hold, release, plain_commit}
+use Rattle.twins.specs.Step.{Outcome, step, begin, begin_on, append_to, seal_refusal, metadata_length, sealed_or_lost, seal, apply, hold, release, plain_commit}
 use Rattle.twins.specs.Trace.{state_after, fresh_state}
 use Rattle.twins.specs.Good.{IsGoodState, StepsStayGood, RunsAreGood}
 use Rattle.twins.proofs.RunLaws.{either}
@@ -33,13 +33,13 @@ either_why P true x y p q = p refl
 either_why P false x y p q = q refl
 
 -- what a seal that nothing refuses stands on
-record SealFits (s : State Operation) (u : UnsealedBatch Operation) (floor : ℕ) : Type 0 where
+pub record SealFits (s : State Operation) (u : UnsealedBatch Operation) (floor : ℕ) : Type 0 where
   pub here : may_seal meaning s u ≡ true
   pub few : size_of u + 1 ≤ max_leaves
   pub low : floor_below meaning s u ≤ floor
   pub high : floor ≤ size_of u
 
-seal_fits : (s : State Operation) (u : UnsealedBatch Operation) (floor : ℕ) → seal_refusal s u floor ≡ None → SealFits s u floor
+pub seal_fits : (s : State Operation) (u : UnsealedBatch Operation) (floor : ℕ) → seal_refusal s u floor ≡ None → SealFits s u floor
 seal_fits s u floor = either_why (λ r. r ≡ None → SealFits s u floor) (may_seal meaning s u) _ _
     (λ here. either_why (λ r. r ≡ None → SealFits s u floor) (nat_lt max_leaves (size_of u + 1)) _ _ (λ e none. absurd (cc))
     (λ few. either_why (λ r. r ≡ None → SealFits s u floor) (nat_lt floor (floor_below meaning s u)) _ _ (λ e none. absurd (cc))
@@ -91,8 +91,17 @@ module _ (limit : ℕ) (s : State Operation) (g : IsGoodState limit s) (b : ℕ)
   release_good (Unsealed u) is = good_lost meaning (Allowed limit) plain_commit s b u g is
   release_good Gone is = g
 
+begin_good_on : (limit : ℕ) (s : State Operation) (g : IsGoodState limit s) (p : ℕ) (x : Batch Operation) → batch_at s p ≡ x → IsGoodState limit (begin_on s p x).1
+begin_good_on limit s g p (Sealed c) is = either (λ o. IsGoodState limit o.1) (is_held c) _ _ (λ h. good_begun_after meaning (Allowed limit) plain_commit s p c g is) (λ h. g)
+begin_good_on limit s g p (Unsealed u) is = g
+begin_good_on limit s g p Gone is = g
+
+begin_good : (limit : ℕ) (s : State Operation) (g : IsGoodState limit s) (parent : Option ℕ) → IsGoodState limit (begin s parent).1
+begin_good limit s g None = good_begun meaning (Allowed limit) plain_commit s g
+begin_good limit s g (Some p) = begin_good_on limit s g p (batch_at s p) refl
+
 pub stay_good : StepsStayGood
-stay_good limit s command.New g = good_begun meaning (Allowed limit) plain_commit s g
+stay_good limit s (command.New parent) g = begin_good limit s g parent
 stay_good limit s (command.Append b v) g = append_good limit s g b v (batch_at s b) refl
 stay_good limit s (command.Seal b metadata floor) g = seal_good limit s g b metadata floor (batch_at s b) refl
 stay_good limit s (command.Apply b) g = apply_good limit s g b (batch_at s b) refl

@@ -1,5 +1,5 @@
 -- The laws of whole runs.
-use Rattle.std.proofs.Common.{◌≡◌, ◌⊎◌, inl, inr, ℕ, zero, suc, ◌+◌, ◌<◌, ◌≤◌, Bool, true, false, cond, List, [], ◌∷◌, ◌++◌, length, take, get_or, Option, Some, None, refl, ap, subst, arith}
+use Rattle.std.proofs.Common.{◌≡◌, ◌⊎◌, inl, inr, ℕ, zero, suc, ◌<◌, ◌≤◌, Bool, true, false, cond, List, [], ◌∷◌, ◌++◌, length, take, get_or, Option, Some, None, refl, ap, subst, arith}
 use Rattle.std.specs.Prelude.{nat_lt, nat_le, slice_get, unwrap_or}
 use Rattle.std.specs.List.Sorted.{IsNonDecreasingBy}
 use Rattle.log_model.specs.Batches.{Batch, UnsealedBatch, Unsealed, Sealed, Gone, size_of, is_held}
@@ -12,7 +12,7 @@ use Rattle.twins.specs.declared.command.Command.TheVariants as command
 use Rattle.twins.specs.declared.command.Answer.TheVariants as answer
 use Rattle.twins.specs.declared.command.Refusal.{Refusal}
 use Rattle.twins.specs.declared.command.Reply.{Reply}
-use Rattle.twins.specs.Step.{Outcome, step, reply, append_to, seal_refusal, metadata_length, sealed_or_lost, seal, apply, hold, release}
+use Rattle.twins.specs.Step.{Outcome, step, reply, begin, begin_on, append_to, seal_refusal, metadata_length, sealed_or_lost, seal, apply, hold, release}
 use Rattle.twins.specs.Trace.{trace, replies_from, state_after, fresh_state}
 use Rattle.twins.specs.Laws.{SizesNeverFall, TellsList, RepliesTellLists, RunsContinue, RefusalsKeep}
 
@@ -55,8 +55,17 @@ release_grows s b (Sealed c) = either (Grows s) (is_held c) _ _ (λ h. omega ari
 release_grows s b (Unsealed u) = omega arith
 release_grows s b Gone = omega arith
 
+begin_grows_on : (s : State Operation) (p : ℕ) (x : Batch Operation) → Grows s (begin_on s p x)
+begin_grows_on s p (Sealed c) = either (Grows s) (is_held c) _ _ (λ h. omega arith) (λ h. omega arith)
+begin_grows_on s p (Unsealed u) = omega arith
+begin_grows_on s p Gone = omega arith
+
+begin_grows : (s : State Operation) (parent : Option ℕ) → Grows s (begin s parent)
+begin_grows s None = omega arith
+begin_grows s (Some p) = begin_grows_on s p (batch_at s p)
+
 step_grows : (limit : ℕ) (s : State Operation) (c : Command) → Grows s (step limit s c)
-step_grows limit s command.New = omega arith
+step_grows limit s (command.New parent) = begin_grows s parent
 step_grows limit s (command.Append b v) = append_grows limit s b v (batch_at s b)
 step_grows limit s (command.Seal b metadata floor) = seal_grows limit s b metadata floor (batch_at s b)
 step_grows limit s (command.Apply b) = apply_grows s b (batch_at s b)
@@ -150,8 +159,17 @@ release_keeps s b c (Sealed d) = either (Keeps s c) (is_held d) _ _ (λ h r is. 
 release_keeps s b c (Unsealed u) = λ r is. absurd (cc)
 release_keeps s b c Gone = λ r is. inl refl
 
+begin_keeps_on : (s : State Operation) (p : ℕ) (c : Command) (x : Batch Operation) → Keeps s c (begin_on s p x)
+begin_keeps_on s p c (Sealed d) = either (Keeps s c) (is_held d) _ _ (λ h r is. absurd (cc)) (λ h r is. inl refl)
+begin_keeps_on s p c (Unsealed u) = λ r is. inl refl
+begin_keeps_on s p c Gone = λ r is. inl refl
+
+begin_keeps : (s : State Operation) (parent : Option ℕ) (c : Command) → Keeps s c (begin s parent)
+begin_keeps s None c = λ r is. absurd (cc)
+begin_keeps s (Some p) c = begin_keeps_on s p c (batch_at s p)
+
 pub keep : RefusalsKeep
-keep limit s command.New r is = absurd (cc)
+keep limit s (command.New parent) r is = begin_keeps s parent (command.New parent) r is
 keep limit s (command.Append b v) r is = append_keeps limit s b v (command.Append b v) (batch_at s b) r is
 keep limit s (command.Seal b metadata floor) r is = seal_keeps limit s b metadata floor (batch_at s b) r is
 keep limit s (command.Apply b) r is = apply_keeps s b (command.Apply b) (batch_at s b) r is

@@ -30,7 +30,8 @@ pub record IsNumberWord (text : List ℕ) (n : ℕ) : Type 0 where
 
 -- these words say the command
 abbrev pub WordsSay : List (List ℕ) → Command → Type 0
-WordsSay words New = words ≡ codes "new" ∷ []
+WordsSay words (New None) = words ≡ codes "new" ∷ []
+WordsSay words (New (Some b)) = (number : List ℕ) × (words ≡ codes "new" ∷ number ∷ []) × IsNumberWord number b
 WordsSay words (Append b value) = (number : List ℕ) × (text : List ℕ) × (words ≡ codes "append" ∷ number ∷ text ∷ []) × IsNumberWord number b × IsBytesWord text value
 WordsSay words (Seal b metadata floor) = (number : List ℕ) × (text : List ℕ) × (last : List ℕ) × (words ≡ codes "seal" ∷ number ∷ text ∷ last ∷ []) × IsNumberWord number b × IsMetadataWord text metadata × IsNumberWord last floor
 WordsSay words (Apply b) = (number : List ℕ) × (words ≡ codes "apply" ∷ number ∷ []) × IsNumberWord number b

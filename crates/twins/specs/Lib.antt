@@ -6,6 +6,7 @@ pub mod Bad
 pub mod Operation
 pub mod Step
 pub mod Trace
+pub mod Lists
 pub mod StateOf
 pub mod Pending
 pub mod Text

@@ -1,49 +1,90 @@
 -- What the run keeps in memory, and what it means.
-use Rattle.std.specs.Prelude.{◌≡◌, ℕ, ◌+◌, ◌<◌, ◌≤◌, List, [], ◌++◌, length, map, take, slice_index_or, None}
+use Rattle.std.specs.Prelude.{◌≡◌, ℕ, ◌<◌, ◌≤◌, List, [], ◌∷◌, length, map, take, slice_index_or, Option, Some, None, IsSomeAnd}
 use Rattle.log_model.specs.Batches as batches
+use Rattle.log_model.specs.Good.{AreAppends}
 use Rattle.log_model.specs.Machine.{State, max_leaves}
 use Rattle.log_model.specs.Operations.{floor_of}
+use Rattle.log_model.specs.Reach.{reach, tips_of, effective_boundary}
 use Rattle.twins.specs.Operation.{Operation, meaning}
+use Rattle.twins.specs.Lists.{list_at, lists_in, count_in, IsHistory}
 use Rattle.twins.specs.declared.batch.Batch.{Batch}
 use Rattle.twins.specs.declared.batch.UnsealedBatch.{UnsealedBatch}
 use Rattle.twins.specs.declared.batch.SealedBatch.{SealedBatch}
 use Rattle.twins.specs.declared.batch.Batch.TheVariants.{Unsealed, Sealed, Gone}
+use Rattle.twins.specs.declared.history.History.{History}
 use Rattle.twins.specs.declared.machine.Machine.{Machine}
-use Rattle.twins.specs.Step.{root_of_list}
 
--- A batch over the log's list, of which it keeps only how much it shares, and its own operations.
-abbrev pub unsealed_of : List Operation → UnsealedBatch → batches.UnsealedBatch Operation
-unsealed_of ops u = record { parent = None; list = take u.base ops; base = u.base; pending = u.own.items }
+abbrev pub length_at : List (List Operation) → ℕ → ℕ
+length_at lists i = length (list_at lists i)
 
-abbrev pub list_of : List Operation → SealedBatch → List Operation
-list_of ops c = take c.shared ops ++ c.own.items
+abbrev pub lengths : List (List Operation) → List ℕ → List ℕ
+lengths lists ids = map (length_at lists) ids
 
-abbrev pub sealed_of : List Operation → SealedBatch → batches.SealedBatch Operation
-sealed_of ops c = record { parent = None; list = list_of ops c; base = c.boundary; boundary = c.boundary; tips = []; floor = floor_of meaning (list_of ops c); holds = c.holds }
+-- A batch, with the lists of a history in place of their numbers.
+abbrev pub unsealed_of : List (List Operation) → UnsealedBatch → batches.UnsealedBatch Operation
+unsealed_of lists u = record { parent = u.parent; list = list_at lists u.base; base = length_at lists u.base; pending = u.own.items }
 
-abbrev pub batch_of : List Operation → Batch → batches.Batch Operation
-batch_of ops (Unsealed u) = batches.Unsealed (unsealed_of ops u)
-batch_of ops (Sealed c) = batches.Sealed (sealed_of ops c)
-batch_of ops Gone = batches.Gone
+abbrev pub sealed_of : List (List Operation) → SealedBatch → batches.SealedBatch Operation
+sealed_of lists c = record {
+  parent = c.parent;
+  list = list_at lists c.list;
+  base = length_at lists c.base;
+  boundary = length_at lists c.boundary;
+  tips = lengths lists c.tips.items;
+  floor = floor_of meaning (list_at lists c.list);
+  holds = c.holds;
+}
 
-abbrev pub state_from : List Operation → List Batch → State Operation
-state_from ops bs = record { ops = ops; batches = map (batch_of ops) bs }
+abbrev pub batch_of : List (List Operation) → Batch → batches.Batch Operation
+batch_of lists (Unsealed u) = batches.Unsealed (unsealed_of lists u)
+batch_of lists (Sealed c) = batches.Sealed (sealed_of lists c)
+batch_of lists Gone = batches.Gone
+
+-- The log's list is one of the lists, by its number.
+abbrev pub state_from : List (List Operation) → ℕ → List Batch → State Operation
+state_from lists head bs = record { ops = list_at lists head; batches = map (batch_of lists) bs }
 
 -- What the machine in memory means.
 abbrev pub state_of : Machine → State Operation
-state_of m = state_from m.ops.items m.batches.items
+state_of m = state_from (lists_in m.history) m.head m.batches.items
 
--- What a batch shares is there, its boundary lies within, it isn't too long, its kept root is that of its list, and it's held no more often than steps were taken.
-abbrev pub BatchKept : ℕ → List Operation → Batch → Type 0
-BatchKept taken ops (Unsealed u) = (u.base ≤ length ops) × (u.base + length u.own.items ≤ max_leaves)
-BatchKept taken ops (Sealed c) = (c.boundary ≤ c.shared) × (c.shared ≤ length ops) × (c.shared + length c.own.items ≤ max_leaves) × (c.root ≡ root_of_list (list_of ops c)) × (c.holds ≤ taken)
-BatchKept taken ops Gone = Unit {0}
+-- List i is there, and it is the first of list j.
+abbrev pub IsFront : History → ℕ → ℕ → Type 0
+IsFront h i j = (i < count_in h) × (list_at (lists_in h) i ≡ take (length_at (lists_in h) i) (list_at (lists_in h) j))
 
--- The invariant of what the run keeps: so of each batch, and the kept root is that of the list.
+abbrev pub AreFronts : History → List ℕ → ℕ → Type 0
+AreFronts h [] j = Unit {0}
+AreFronts h (i ∷ ids) j = IsFront h i j × AreFronts h ids j
+
+-- The sealed batch that a link names, if it names one.
+abbrev pub as_sealed : Batch → Option SealedBatch
+as_sealed (Unsealed u) = None
+as_sealed (Sealed c) = Some c
+as_sealed Gone = None
+
+abbrev pub linked_in : List Batch → Option ℕ → Option SealedBatch
+linked_in bs None = None
+linked_in bs (Some p) = as_sealed (slice_index_or bs p Gone)
+
+-- A parent is a sealed batch of a lower number, whose list is the one on which its child was made.
+abbrev pub LinkKept : List Batch → ℕ → ℕ → Option ℕ → Type 0
+LinkKept bs b base None = Unit {0}
+LinkKept bs b base (Some p) = (p < b) × IsSomeAnd (as_sealed (slice_index_or bs p Gone)) (λ c. c.list ≡ base)
+
+-- The lists of a batch are there, and all are first of its own; its appends are appends, and not too many; its parent fits; it's held no more often than steps were taken.
+abbrev pub BatchKept : ℕ → History → List Batch → ℕ → Batch → Type 0
+BatchKept taken h bs b (Unsealed u) = (u.base < count_in h) × (length u.own.items ≤ max_leaves) × AreAppends meaning u.own.items × LinkKept bs b u.base u.parent
+BatchKept taken h bs b (Sealed c) = (c.list < count_in h) × IsFront h c.base c.list × IsFront h c.boundary c.list × AreFronts h c.tips.items c.list × (c.holds ≤ taken) × LinkKept bs b c.base c.parent
+BatchKept taken h bs b Gone = Unit {0}
+
+abbrev pub BatchesKept : ℕ → History → List Batch → Type 0
+BatchesKept taken h bs = (b : ℕ) → BatchKept taken h bs b (slice_index_or bs b Gone)
+
+-- The invariant of what the run keeps.
 pub record IsKept (m : Machine) : Type 0 where
-  pub few : length m.ops.items ≤ max_leaves
-  pub root : m.root ≡ root_of_list m.ops.items
-  pub batches : (b : ℕ) → BatchKept m.taken m.ops.items (slice_index_or m.batches.items b Gone)
+  pub history : IsHistory m.history
+  pub head : m.head < count_in m.history
+  pub batches : BatchesKept m.taken m.history m.batches.items
 
 -- A batch is held less often than steps were taken.
 abbrev pub HeldLess : ℕ → Batch → Type 0
@@ -55,3 +96,10 @@ HeldLess taken Gone = Unit {0}
 pub record HasRoom (m : Machine) : Type 0 where
   pub some : 0 < m.taken
   pub less : (b : ℕ) → HeldLess m.taken (slice_index_or m.batches.items b Gone)
+
+-- Where an unsealed batch may be applied once it is sealed: the boundary that holds for it, and the tips in its reach. All are first of the list on which it stands.
+pub record IsPlace (m : Machine) (u : UnsealedBatch) (boundary : ℕ) (tips : List ℕ) : Type 0 where
+  pub boundary_is : length_at (lists_in m.history) boundary ≡ effective_boundary (state_of m) (unsealed_of (lists_in m.history) u)
+  pub tips_are : lengths (lists_in m.history) tips ≡ tips_of (reach (state_of m) (unsealed_of (lists_in m.history) u))
+  pub front : IsFront m.history boundary u.base
+  pub fronts : AreFronts m.history tips u.base

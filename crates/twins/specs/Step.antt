@@ -36,6 +36,19 @@ refused s r = (answer.Refused r, s)
 abbrev pub lost : State Operation → ℕ → Refusal → Outcome
 lost s b r = (answer.Refused r, with_batch s b Gone)
 
+-- A new batch on batch p, which is held.
+abbrev pub begin_on : State Operation → ℕ → Batch Operation → Outcome
+begin_on s p (Sealed c) =
+    if is_held c then (answer.Batch (length s.batches), begun s (Some p) c.list)
+    else refused s (NoBatch p)
+begin_on s p (Unsealed u) = refused s (NoBatch p)
+begin_on s p Gone = refused s (NoBatch p)
+
+-- A new batch on the present list, or on a sealed batch.
+abbrev pub begin : State Operation → Option ℕ → Outcome
+begin s None = (answer.Batch (length s.batches), begun s None s.ops)
+begin s (Some p) = begin_on s p (batch_at s p)
+
 -- A value, of at most this length, joins the appends of batch b.
 abbrev pub append_to : ℕ → State Operation → ℕ → List ℕ → Batch Operation → Outcome
 append_to limit s b v (Unsealed u) =
@@ -105,7 +118,7 @@ release s b Gone = refused s (NoBatch b)
 
 -- What a command answers, and the state that it leaves, where values have at most this length.
 abbrev pub step : ℕ → State Operation → Command → Outcome
-step limit s command.New = (answer.Batch (length s.batches), begun s None s.ops)
+step limit s (command.New parent) = begin s parent
 step limit s (command.Append b v) = append_to limit s b v (batch_at s b)
 step limit s (command.Seal b metadata floor) = seal limit s b metadata floor (batch_at s b)
 step limit s (command.Apply b) = apply s b (batch_at s b)

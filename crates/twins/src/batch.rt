@@ -1,22 +1,27 @@
 use crate::operation::Operation;
-use tree_shape::Sha256Digest;
 
-/// A batch that takes appends. Its list is the first `base` operations of the log's, then its own.
+/// A batch that takes appends. Its list is one of the history, with its own operations behind it.
 #[derive(Drop)]
 pub struct UnsealedBatch {
+    /// The number of the batch on which it was made, where it was made on one.
+    pub parent: Option<u64>,
+    /// The number of the list on which it stands.
     pub base: u64,
     pub own: Vec<Operation>,
 }
 
-/// A batch that a commit has ended. Its list is the first `shared` operations of the log's, then its own.
+/// A batch that a commit has ended. Lists are named by their numbers in the history.
 #[derive(Drop)]
 pub struct SealedBatch {
-    /// The size of the log on which it may be applied.
+    /// The number of the batch on which it was made, where it was made on one.
+    pub parent: Option<u64>,
+    pub list: u64,
+    /// The list on which it was made.
+    pub base: u64,
+    /// The oldest list on which it may be applied.
     pub boundary: u64,
-    pub shared: u64,
-    pub own: Vec<Operation>,
-    /// The root of its list.
-    pub root: Sha256Digest,
+    /// The lists of its ancestors on which it may be applied, the newest first.
+    pub tips: Vec<u64>,
     /// How often the caller holds it.
     pub holds: u64,
 }

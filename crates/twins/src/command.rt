@@ -4,8 +4,8 @@ use tree_shape::Sha256Digest;
 /// A command of the program, one line of its input.
 #[derive(PartialEq, Eq, Drop)]
 pub enum Command {
-    /// Makes an unsealed batch on the present state.
-    New,
+    /// Makes an unsealed batch on the present state, or on a sealed batch.
+    New(Option<u64>),
     /// Adds a value to an unsealed batch.
     Append(u64, Bytes),
     /// Closes an unsealed batch by a commit, with metadata or without, and a floor.

@@ -1,69 +1,43 @@
-ghost use Rattle.std.specs.Prelude.{◌≡◌, ◌≤◌, ◌<◌, ◌+◌, ◌-◌, ◌^◌, ◌++◌, [], ◌∷◌, List, length, IfOk, OnOk, OnErr, IsOkUnless};
-ghost use Rattle.log_model.specs.Machine.{batch_at, max_leaves};
-ghost use Rattle.twins.specs.Step.{append_to, seal_refusal, metadata_length, seal, apply, hold, release, step, reply, root_of_list};
-ghost use Rattle.twins.specs.Trace.{fresh_state};
-ghost use Rattle.twins.specs.StateOf.{BatchKept, IsKept, HasRoom, unsealed_of, state_from, state_of};
-ghost use Rattle.op_codec.specs.Keyless.{value_of};
-ghost use Rattle.op_codec.specs.declared.keyless.Operation.TheVariants.{Commit};
-ghost use Rattle.log_model.specs.Operations.{last_value};
+ghost use Rattle.std.specs.Prelude.{◌≡◌, ◌<◌, ◌+◌, ◌-◌, ◌^◌, ℕ, length, slice_index_or, IfOk, IfErr, IfSome, OnOk, IsOkUnless};
+ghost use Rattle.std.specs.Option.{option_map, option_map_or};
+ghost use Rattle.log_model.specs.Machine.{batch_at, max_leaves, begun};
+ghost use Rattle.log_model.specs.Operations.{floor_of};
+ghost use Rattle.log_model.specs.Reach.{linked, later, stands_on, sealed_here};
 ghost use Rattle.twins.specs.Operation.{meaning};
-ghost use Rattle.twins.specs.declared.batch.Batch.{Batch};
-ghost use Rattle.twins.specs.declared.batch.Batch.TheVariants.{Unsealed};
+ghost use Rattle.twins.specs.Step.{begin, append_to, seal_refusal, metadata_length, done_sealing, seal, apply, hold, release, step, reply};
+ghost use Rattle.twins.specs.Trace.{fresh_state};
+ghost use Rattle.twins.specs.Lists.{list_at, lists_in, count_in};
+ghost use Rattle.twins.specs.StateOf.{unsealed_of, length_at, lengths, IsFront, AreFronts, LinkKept, BatchKept, IsKept, HasRoom, IsPlace, state_of};
+ghost use Rattle.op_codec.specs.declared.keyless.Operation.TheVariants.{Commit};
+ghost use Rattle.twins.specs.declared.batch.Batch.TheVariants.{Unsealed, Gone};
+ghost use Rattle.twins.specs.declared.batch.UnsealedBatch.{UnsealedBatch};
 
 use crate::batch::{Batch, SealedBatch, UnsealedBatch};
 use crate::command::{Answer, Command, Refusal, Reply};
-use crate::operation::Operation;
+use crate::history::History;
+use crate::links::{linked, reach_of};
 use codec_base::{Bytes, CodecError, Duplicate};
-use log_model::{floor_of_operations, root_of_operations};
 use op_codec::keyless;
 use std::alloc::Global;
 use std::mem::replace;
-use tree_shape::{Location, MAX_LEAVES, Mmr, Sha256Digest, Sha256Hasher};
+use tree_shape::{Location, MAX_LEAVES};
 
-/// The list of operations with its root, and the batches by number.
+/// The lists that the run has made, the number of the log's, and the batches by number.
 #[derive(Drop)]
 pub struct Machine {
-    pub ops: Vec<Operation>,
-    pub root: Sha256Digest,
+    pub history: History,
+    pub head: u64,
     pub batches: Vec<Batch>,
     pub limit: u64,
     /// How many steps were taken.
     pub taken: u64,
 }
 
-/// The root of a list of operations that stands in two parts.
-fn root_of(
-    alloc: Global,
-    first: &[Operation],
-    others: &[Operation],
-) -> Result<Sha256Digest, CodecError>
-    requires { length first.now + length others.now ≤ 2 ^ 62 }
-    ensures root { IfOk result (λ root. root ≡ root_of_list (first.now ++ others.now)) }
-    ensures memory { IsOkUnless result CodecError.Memory }
-{
-    root_of_operations::<Mmr, Sha256Hasher, Operation>(alloc, first, others)
-}
-
-/// Why a seal of this floor loses a batch on the log, if it does.
-fn seal_refusal(ops: &[Operation], batch: &UnsealedBatch, floor: u64) -> Option<Refusal>
-    requires { (batch.now.base ≤ length ops.now) × (batch.now.base + length batch.now.own.items ≤ max_leaves) }
-    ensures { (bs : List Batch) → result ≡ seal_refusal (state_from ops.now bs) (unsealed_of ops.now batch.now) floor }
-{
-    if ops.len() as u64 != batch.base {
-        return Some(Refusal::StaleBatch);
-    }
-    let location = batch.base + batch.own.len() as u64;
-    if location >= MAX_LEAVES {
-        return Some(Refusal::LocationOverflow(location + 1));
-    }
-    let below = floor_of_operations(ops);
-    if floor < below {
-        return Some(Refusal::FloorRegressed(floor, below));
-    }
-    if floor > location {
-        return Some(Refusal::FloorBeyondSize(floor, location));
-    }
-    None
+/// Where a batch may be applied that is sealed now: the boundary that holds for it, and the tips in its reach.
+#[derive(Drop)]
+struct Place {
+    boundary: u64,
+    tips: Vec<u64>,
 }
 
 /// The length of metadata, 0 where there is none.
@@ -76,56 +50,6 @@ fn metadata_length(metadata: &Option<Bytes>) -> u64
     }
 }
 
-/// A copy of the value of an operation; of a commit, of its metadata.
-fn copied_value(op: &Operation) -> Result<Option<Bytes>, CodecError>
-    ensures value { IfOk result (λ v. v ≡ value_of op.now) }
-    ensures memory { IsOkUnless result CodecError.Memory }
-{
-    match op {
-        keyless::Operation::Append(value) => Ok(Some(value.duplicate()?)),
-        keyless::Operation::Commit(metadata, _) => metadata.duplicate(),
-    }
-}
-
-/// The value of the operation that ends the log; of a commit, its metadata.
-fn last_value(ops: &[Operation]) -> Result<Option<Bytes>, CodecError>
-    ensures value { IfOk result (λ v. v ≡ last_value meaning ops.now) }
-    ensures memory { IsOkUnless result CodecError.Memory }
-{
-    match ops {
-        [.., last] => copied_value(last),
-        [] => Ok(None),
-    }
-}
-
-/// A batch on the whole log, ended by a commit. Its own operations move to the result.
-fn ended(
-    alloc: Global,
-    ops: &[Operation],
-    batch: &mut UnsealedBatch,
-    metadata: &Option<Bytes>,
-    floor: u64,
-) -> Result<SealedBatch, CodecError>
-    requires { length ops.now + length batch.old.own.items < 2 ^ 62 }
-    ensures boundary { IfOk result (λ c. c.boundary ≡ batch.old.base) }
-    ensures shared { IfOk result (λ c. c.shared ≡ batch.old.base) }
-    ensures own { IfOk result (λ c. c.own.items ≡ batch.old.own.items ++ Commit metadata.now floor ∷ []) }
-    ensures root { IfOk result (λ c. c.root ≡ root_of_list (ops.now ++ c.own.items)) }
-    ensures holds { IfOk result (λ c. c.holds ≡ 1) }
-    ensures memory { IsOkUnless result CodecError.Memory }
-{
-    let commit = keyless::Operation::Commit(metadata.duplicate()?, Location::new(floor));
-    batch.own.push(commit)?;
-    let root = root_of(alloc, ops, &batch.own)?;
-    Ok(SealedBatch {
-        boundary: batch.base,
-        shared: batch.base,
-        own: replace(&mut batch.own, Vec::new(alloc)),
-        root,
-        holds: 1,
-    })
-}
-
 impl Machine {
     /// The list on a fresh volume: one commit.
     pub fn new(alloc: Global, limit: u64) -> Result<Self, CodecError>
@@ -135,30 +59,53 @@ impl Machine {
         ensures taken { IfOk result (λ m. m.taken ≡ 0) }
         ensures memory { IsOkUnless result CodecError.Memory }
     {
-        let mut ops = Vec::new(alloc);
-        ops.push(keyless::Operation::Commit(None, Location::new(0)))?;
-        let root = root_of(alloc, &ops, &[])?;
+        let history = History::new(alloc)?;
         Ok(Machine {
-            ops,
-            root,
+            history,
+            head: 0,
             batches: Vec::new(alloc),
             limit,
             taken: 0,
         })
     }
 
-    /// Makes an unsealed batch on the present list.
-    fn begin(&mut self, alloc: Global) -> Result<Answer, CodecError>
+    /// The list on which a new batch stands: its parent's, which has to be held, or the log's.
+    fn list_for(&self, parent: Option<u64>) -> Result<u64, Refusal>
+        requires { IsKept self.now }
+        ensures list { IfOk result (λ list. begin (state_of self.now) parent ≡ (Answer.Batch (length self.now.batches.items), begun (state_of self.now) parent (list_at (lists_in self.now.history) list))) }
+        ensures there { IfOk result (λ list. list < count_in self.now.history) }
+        ensures link { IfOk result (λ list. LinkKept self.now.batches.items (length self.now.batches.items) list parent) }
+        ensures refused { IfErr result (λ refusal. begin (state_of self.now) parent ≡ (Answer.Refused refusal, state_of self.now)) }
+    {
+        let Some(p) = parent else {
+            return Ok(self.head);
+        };
+        let Some(batch) = linked(&self.batches, parent) else {
+            return Err(Refusal::NoBatch(p));
+        };
+        if batch.holds == 0 {
+            return Err(Refusal::NoBatch(p));
+        }
+        Ok(batch.list)
+    }
+
+    /// Makes an unsealed batch on the present list, or on a sealed batch.
+    fn begin(&mut self, alloc: Global, parent: Option<u64>) -> Result<Answer, CodecError>
         requires { IsKept self.old }
-        ensures ok { IfOk result (λ a. (a, state_of self.new) ≡ step self.old.limit (state_of self.old) Command.New) }
+        ensures ok { IfOk result (λ a. (a, state_of self.new) ≡ begin (state_of self.old) parent) }
         ensures kept { OnOk result (IsKept self.new) }
         ensures limit { self.new.limit ≡ self.old.limit }
         ensures taken { self.new.taken ≡ self.old.taken }
         ensures memory { IsOkUnless result CodecError.Memory }
     {
+        let base = match self.list_for(parent) {
+            Ok(list) => list,
+            Err(refusal) => return Ok(Answer::Refused(refusal)),
+        };
         let number = self.batches.len() as u64;
         self.batches.push(Batch::Unsealed(UnsealedBatch {
-            base: self.ops.len() as u64,
+            parent,
+            base,
             own: Vec::new(alloc),
         }))?;
         Ok(Answer::Batch(number))
@@ -181,7 +128,7 @@ impl Machine {
                 if value.len() > self.limit {
                     return Ok(Answer::Refused(Refusal::ValueTooLong(value.len())));
                 }
-                let size = batch.base + batch.own.len() as u64;
+                let size = self.history.size(batch.base) + batch.own.len() as u64;
                 if size >= MAX_LEAVES {
                     return Ok(Answer::Refused(Refusal::LocationOverflow(size + 1)));
                 }
@@ -194,7 +141,142 @@ impl Machine {
         }
     }
 
-    /// Ends an unsealed batch by a commit.
+    /// Whether the log is a list up to its boundary, or up to one of these tips.
+    fn stands_on(&self, list: u64, boundary: u64, tips: &[u64]) -> bool
+        requires kept { IsKept self.now }
+        requires boundary { IsFront self.now.history boundary list }
+        requires tips { AreFronts self.now.history tips.now list }
+        ensures { result ≡ stands_on meaning (state_of self.now) (list_at (lists_in self.now.history) list) (length_at (lists_in self.now.history) boundary) (lengths (lists_in self.now.history) tips.now) }
+    {
+        if self.history.is_same(self.head, boundary) {
+            return true;
+        }
+        self.history.is_among(self.head, tips)
+    }
+
+    /// The later of an inherited boundary and a base; the boundary where there is no base.
+    fn later(&self, inherited: u64, base: Option<u64>) -> u64
+        requires kept { IsKept self.now }
+        requires there { inherited < count_in self.now.history }
+        requires base { IfSome base (λ i. i < count_in self.now.history) }
+        ensures value { length_at (lists_in self.now.history) result ≡ later (length_at (lists_in self.now.history) inherited) (option_map (length_at (lists_in self.now.history)) base) }
+        ensures front { (list : ℕ) → IsFront self.now.history inherited list → IfSome base (λ i. IsFront self.now.history i list) → IsFront self.now.history result list }
+    {
+        let Some(base) = base else {
+            return inherited;
+        };
+        if self.history.size(inherited) < self.history.size(base) {
+            base
+        } else {
+            inherited
+        }
+    }
+
+    /// The boundary that a batch inherits.
+    fn inherited(&self, parent: Option<u64>, base: u64) -> u64
+        requires kept { IsKept self.now }
+        requires base { base < count_in self.now.history }
+        requires link { (b : ℕ) × LinkKept self.now.batches.items b base parent }
+        ensures value { length_at (lists_in self.now.history) result ≡ option_map_or (λ c. c.boundary) (linked (state_of self.now) parent) (length_at (lists_in self.now.history) base) }
+        ensures front { IsFront self.now.history result base }
+    {
+        match linked(&self.batches, parent) {
+            Some(batch) => batch.boundary,
+            None => base,
+        }
+    }
+
+    /// The floor that a batch builds on.
+    fn floor_below(&self, parent: Option<u64>) -> u64
+        requires kept { IsKept self.now }
+        ensures { result ≡ option_map_or (λ c. c.floor) (linked (state_of self.now) parent) (floor_of meaning (list_at (lists_in self.now.history) self.now.head)) }
+    {
+        match linked(&self.batches, parent) {
+            Some(batch) => self.history.floor(batch.list),
+            None => self.history.floor(self.head),
+        }
+    }
+
+    /// Where an unsealed batch stands.
+    fn place(&self, alloc: Global, batch: &UnsealedBatch) -> Result<Place, CodecError>
+        requires kept { IsKept self.now }
+        requires batch { (b : ℕ) × BatchKept self.now.taken self.now.history self.now.batches.items b (Unsealed batch.now) }
+        ensures place { IfOk result (λ w. IsPlace self.now batch.now w.boundary w.tips.items) }
+        ensures memory { IsOkUnless result CodecError.Memory }
+    {
+        let reach = reach_of(alloc, &self.batches, batch.parent)?;
+        let inherited = self.inherited(batch.parent, batch.base);
+        let boundary = self.later(inherited, reach.oldest);
+        Ok(Place {
+            boundary,
+            tips: reach.tips,
+        })
+    }
+
+    /// Why a seal of this floor loses an unsealed batch in its place, if it does.
+    fn seal_refusal(&self, batch: &UnsealedBatch, place: &Place, floor: u64) -> Option<Refusal>
+        requires kept { IsKept self.now }
+        requires batch { (b : ℕ) × BatchKept self.now.taken self.now.history self.now.batches.items b (Unsealed batch.now) }
+        requires place { IsPlace self.now batch.now place.now.boundary place.now.tips.items }
+        ensures { result ≡ seal_refusal (state_of self.now) (unsealed_of (lists_in self.now.history) batch.now) floor }
+    {
+        if !self.stands_on(batch.base, place.boundary, &place.tips) {
+            return Some(Refusal::StaleBatch);
+        }
+        let location = self.history.size(batch.base) + batch.own.len() as u64;
+        if location >= MAX_LEAVES {
+            return Some(Refusal::LocationOverflow(location + 1));
+        }
+        let below = self.floor_below(batch.parent);
+        if floor < below {
+            return Some(Refusal::FloorRegressed(floor, below));
+        }
+        if floor > location {
+            return Some(Refusal::FloorBeyondSize(floor, location));
+        }
+        None
+    }
+
+    /// Ends an unsealed batch, in its place, by a commit. Its own operations move to the list that it becomes.
+    fn end(
+        &mut self,
+        alloc: Global,
+        b: u64,
+        place: Place,
+        metadata: &Option<Bytes>,
+        floor: u64,
+    ) -> Result<Answer, CodecError>
+        requires kept { IsKept self.old }
+        requires some { 0 < self.old.taken }
+        requires there { b < length self.old.batches.items }
+        requires place { (u : UnsealedBatch) × (slice_index_or self.old.batches.items b Gone ≡ Unsealed u) × IsPlace self.old u place.boundary place.tips.items × (length_at (lists_in self.old.history) u.base + length u.own.items < max_leaves) }
+        ensures ok { IfOk result (λ a. (u : UnsealedBatch) → slice_index_or self.old.batches.items b Gone ≡ Unsealed u → (a, state_of self.new) ≡ done_sealing (state_of self.old) b (sealed_here (state_of self.old) (unsealed_of (lists_in self.old.history) u) (Commit metadata.now floor) floor)) }
+        ensures kept { OnOk result (IsKept self.new) }
+        ensures limit { self.new.limit ≡ self.old.limit }
+        ensures taken { self.new.taken ≡ self.old.taken }
+        ensures memory { IsOkUnless result CodecError.Memory }
+    {
+        let commit = keyless::Operation::Commit(metadata.duplicate()?, Location::new(floor));
+        let Batch::Unsealed(mut batch) = replace(&mut self.batches[b as usize], Batch::Gone) else {
+            return Ok(Answer::Refused(Refusal::NoBatch(b)));
+        };
+        batch.own.push(commit)?;
+        let list = self.history.add(alloc, batch.base, batch.own)?;
+        self.batches[b as usize] = Batch::Sealed(SealedBatch {
+            parent: batch.parent,
+            list,
+            base: batch.base,
+            boundary: place.boundary,
+            tips: place.tips,
+            holds: 1,
+        });
+        Ok(Answer::Sealed {
+            size: self.history.size(list),
+            root: self.history.root(list),
+        })
+    }
+
+    /// Ends an unsealed batch by a commit, or loses it.
     fn seal(
         &mut self,
         alloc: Global,
@@ -213,53 +295,40 @@ impl Machine {
         if b >= self.batches.len() as u64 {
             return Ok(Answer::Refused(Refusal::NoBatch(b)));
         }
-        match &mut self.batches[b as usize] {
-            Batch::Unsealed(batch) => {
-                let long = metadata_length(metadata);
-                if long > self.limit {
-                    return Ok(Answer::Refused(Refusal::ValueTooLong(long)));
-                }
-                if let Some(refusal) = seal_refusal(&self.ops, batch, floor) {
-                    self.batches[b as usize] = Batch::Gone;
-                    return Ok(Answer::Refused(refusal));
-                }
-                let sealed = ended(alloc, &self.ops, batch, metadata, floor)?;
-                let root = sealed.root;
-                let size = sealed.shared + sealed.own.len() as u64;
-                self.batches[b as usize] = Batch::Sealed(sealed);
-                Ok(Answer::Sealed { size, root })
-            }
-            _ => Ok(Answer::Refused(Refusal::NoBatch(b))),
+        let Batch::Unsealed(batch) = &self.batches[b as usize] else {
+            return Ok(Answer::Refused(Refusal::NoBatch(b)));
+        };
+        let long = metadata_length(metadata);
+        if long > self.limit {
+            return Ok(Answer::Refused(Refusal::ValueTooLong(long)));
         }
+        let place = self.place(alloc, batch)?;
+        if let Some(refusal) = self.seal_refusal(batch, &place, floor) {
+            self.batches[b as usize] = Batch::Gone;
+            return Ok(Answer::Refused(refusal));
+        }
+        self.end(alloc, b, place, metadata, floor)
     }
 
-    /// Makes the list that of a sealed batch, whose own operations move to it.
-    fn apply(&mut self, b: u64) -> Result<Answer, CodecError>
+    /// Makes the list that of a sealed batch.
+    fn apply(&mut self, b: u64) -> Answer
         requires { IsKept self.old }
-        ensures ok { IfOk result (λ a. (a, state_of self.new) ≡ apply (state_of self.old) b (batch_at (state_of self.old) b)) }
-        ensures kept { OnOk result (IsKept self.new) }
+        ensures ok { (result, state_of self.new) ≡ apply (state_of self.old) b (batch_at (state_of self.old) b) }
+        ensures kept { IsKept self.new }
         ensures limit { self.new.limit ≡ self.old.limit }
         ensures taken { self.new.taken ≡ self.old.taken }
-        ensures memory { IsOkUnless result CodecError.Memory }
     {
-        if b >= self.batches.len() as u64 {
-            return Ok(Answer::Refused(Refusal::NoBatch(b)));
+        let Some(batch) = linked(&self.batches, Some(b)) else {
+            return Answer::Refused(Refusal::NoBatch(b));
+        };
+        if batch.holds == 0 {
+            return Answer::Refused(Refusal::NoBatch(b));
         }
-        match &mut self.batches[b as usize] {
-            Batch::Sealed(batch) => {
-                if batch.holds == 0 {
-                    return Ok(Answer::Refused(Refusal::NoBatch(b)));
-                }
-                if self.ops.len() as u64 != batch.boundary {
-                    return Ok(Answer::Refused(Refusal::StaleBatch));
-                }
-                self.ops.append(&mut batch.own)?;
-                batch.shared = self.ops.len() as u64;
-                self.root = batch.root;
-                Ok(Answer::Applied)
-            }
-            _ => Ok(Answer::Refused(Refusal::NoBatch(b))),
+        if !self.stands_on(batch.list, batch.boundary, &batch.tips) {
+            return Answer::Refused(Refusal::StaleBatch);
         }
+        self.head = batch.list;
+        Answer::Applied
     }
 
     /// Holds a sealed batch once more.
@@ -324,12 +393,12 @@ impl Machine {
         ensures memory { IsOkUnless result CodecError.Memory }
     {
         let number = self.batches.len() as u64;
-        let size = self.ops.len() as u64;
         self.batches.push(Batch::Sealed(SealedBatch {
-            boundary: size,
-            shared: size,
-            own: Vec::new(alloc),
-            root: self.root,
+            parent: None,
+            list: self.head,
+            base: self.head,
+            boundary: self.head,
+            tips: Vec::new(alloc),
             holds: 1,
         }))?;
         Ok(Answer::Batch(number))
@@ -346,19 +415,19 @@ impl Machine {
         ensures memory { IsOkUnless result CodecError.Memory }
     {
         match command {
-            Command::New => self.begin(alloc),
+            Command::New(parent) => self.begin(alloc, *parent),
             Command::Append(b, value) => self.append(*b, value),
             Command::Seal(b, metadata, floor) => self.seal(alloc, *b, metadata, *floor),
-            Command::Apply(b) => self.apply(*b),
+            Command::Apply(b) => Ok(self.apply(*b)),
             Command::Hold(b) => Ok(self.hold(*b)),
             Command::Release(b) => Ok(self.release(*b)),
             Command::Snapshot => self.snapshot(alloc),
             Command::Size => Ok(Answer::Size {
-                size: self.ops.len() as u64,
+                size: self.history.size(self.head),
                 start: 0,
-                floor: floor_of_operations(&self.ops),
+                floor: self.history.floor(self.head),
             }),
-            Command::Metadata => Ok(Answer::Metadata(last_value(&self.ops)?)),
+            Command::Metadata => Ok(Answer::Metadata(self.history.last_value(self.head)?)),
         }
     }
 
@@ -367,11 +436,12 @@ impl Machine {
         requires { IsKept self.now }
         ensures { result ≡ reply (answer, state_of self.now) }
     {
+        let root = self.history.root(self.head);
         Reply {
             answer,
-            size: self.ops.len() as u64,
-            full_root: self.root,
-            compact_root: self.root,
+            size: self.history.size(self.head),
+            full_root: root,
+            compact_root: root,
         }
     }
 

@@ -4,8 +4,10 @@
 mod batch;
 mod command;
 mod config;
+mod history;
 mod laws;
 mod lines;
+mod links;
 mod machine;
 mod main_call;
 mod operation;

@@ -160,6 +160,19 @@ fn only_number(mut words: Words<'_>) -> Option<u64>
     Some(n)
 }
 
+/// Reads the words behind `new`.
+fn read_new(words: Words<'_>) -> Option<Command>
+    ensures { IsReading (codes "new" ∷ words.entry) result }
+{
+    if words.is_empty() {
+        return Some(Command::New(None));
+    }
+    let Some(b) = only_number(words) else {
+        return None;
+    };
+    Some(Command::New(Some(b)))
+}
+
 /// Reads the words behind `apply`.
 fn read_apply(words: Words<'_>) -> Option<Command>
     ensures { IsReading (codes "apply" ∷ words.entry) result }
@@ -195,6 +208,9 @@ fn read_words(alloc: Global, name: &[u8], words: Words<'_>) -> Result<Option<Com
     ensures command { IfOk result (IsReading (name.now ∷ words.entry)) }
     ensures memory { IsOkUnless result CodecError.Memory }
 {
+    if name == b"new".as_slice() {
+        return Ok(read_new(words));
+    }
     if name == b"append".as_slice() {
         return read_append(alloc, words);
     }
@@ -212,9 +228,6 @@ fn read_words(alloc: Global, name: &[u8], words: Words<'_>) -> Result<Option<Com
     }
     if !words.is_empty() {
         return Ok(None);
-    }
-    if name == b"new".as_slice() {
-        return Ok(Some(Command::New));
     }
     if name == b"snapshot".as_slice() {
         return Ok(Some(Command::Snapshot));

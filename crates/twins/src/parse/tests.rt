@@ -7,10 +7,11 @@ use std::test::Fail;
 fn reads_each_command(rt: HostRuntime) -> Result<(), Fail> {
     let alloc = rt.alloc();
     let input =
-        b"new\nappend 18446744073709551615 aBCd\nappend 0 .\nseal 10 - 0\nseal 2 . 18446744073709551615\nseal 3 6D 4\napply 7\nhold 8\nrelease 18446744073709551615\nsnapshot\nsize\nmetadata";
+        b"new\nnew 18446744073709551615\nappend 18446744073709551615 aBCd\nappend 0 .\nseal 10 - 0\nseal 2 . 18446744073709551615\nseal 3 6D 4\napply 7\nhold 8\nrelease 18446744073709551615\nsnapshot\nsize\nmetadata";
     let commands = parse_commands(alloc, input)?;
     let wanted = vec![in alloc;
-        Command::New,
+        Command::New(None),
+        Command::New(Some(18446744073709551615)),
         Command::Append(18446744073709551615, Bytes::from_slice(alloc, b"\xab\xcd")?),
         Command::Append(0, Bytes::new(alloc)),
         Command::Seal(10, None, 0),
@@ -32,7 +33,7 @@ fn skips_comments_and_empty_lines(rt: HostRuntime) -> Result<(), Fail> {
     let alloc = rt.alloc();
     for input in [b"\n# new\n\n#\nnew\n#".as_slice(), b"new".as_slice()] {
         let commands = parse_commands(alloc, input)?;
-        assert!(rt; commands == vec![in alloc; Command::New]?);
+        assert!(rt; commands == vec![in alloc; Command::New(None)]?);
     }
     for input in [b"".as_slice(), b"\n\n".as_slice(), b"# \xff\n#".as_slice()] {
         let commands = parse_commands(alloc, input)?;
@@ -44,7 +45,7 @@ fn skips_comments_and_empty_lines(rt: HostRuntime) -> Result<(), Fail> {
 #[test]
 fn names_the_first_bad_line(rt: HostRuntime) -> Result<(), Fail> {
     let alloc = rt.alloc();
-    let cases: [(&[u8], u64); 33] = [
+    let cases: [(&[u8], u64); 35] = [
         (b"size\nfoo\nfoo", 2),
         (b"\n# one\n\nsize\nfoo\n# two\nfoo", 5),
         (b" # new\n", 1),
@@ -52,7 +53,9 @@ fn names_the_first_bad_line(rt: HostRuntime) -> Result<(), Fail> {
         (b"New\n", 1),
         (b" new\n", 1),
         (b"new \n", 1),
-        (b"new 0\n", 1),
+        (b"new 00\n", 1),
+        (b"new 0 0\n", 1),
+        (b"new \n", 1),
         (b"size 0\n", 1),
         (b"new\0\n", 1),
         (b"append 0\n", 1),

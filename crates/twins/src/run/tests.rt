@@ -22,6 +22,12 @@ const FLOOR_THREE: &str = "b73119d13c1c31d43e6bd3fff7af90c339f626a50c1a6d89ac973
 
 const FLOOR_FOUR: &str = "246b131a53ed770d0d697b2b02706136fe5008be5a0d163056239dab4df364c7";
 
+const CHAIN_OF_TWO: &str = "b42e6a769f5032061ac9fad8ee99399866c02a50a73af2afcf9e76416585cd7c";
+
+const CHAIN_OF_THREE: &str = "ca4d099b1566cc6bc7172b27a20f0c90d207bc0a937de213e8047bd2bdcee56c";
+
+const FLOOR_ONE: &str = "92c263cb2863f4d939ea86e119c7153bffb4792f048208aa2ed42383fb740c73";
+
 fn run_lines(
     rt: &(impl Abort + AllocGlobal),
     limit: u64,
@@ -239,6 +245,264 @@ fn holds_and_releases(rt: HostRuntime) -> Result<(), Fail> {
             ("ok", 1, COMMIT),
             ("refused NoBatch 1", 1, COMMIT),
             ("refused NoBatch 2", 1, COMMIT),
+        ],
+    )
+}
+
+#[test]
+fn two_batch_chain(rt: HostRuntime) -> Result<(), Fail> {
+    compare(
+        &rt,
+        1048576,
+        b"new\nappend 0 61\nseal 0 - 0\nnew 0\nappend 1 62\nseal 1 - 0\napply 1\napply 0\napply 1\n",
+        &[
+            ("opened start=0", 1, COMMIT),
+            ("batch 0", 1, COMMIT),
+            ("ok", 1, COMMIT),
+            (
+                "sealed 3 d5777e06b8b06315af2f1cd14fe605c39b312a2917452f4bae1a7e0f583d2cc6",
+                1,
+                COMMIT,
+            ),
+            ("batch 1", 1, COMMIT),
+            ("ok", 1, COMMIT),
+            (
+                "sealed 5 b42e6a769f5032061ac9fad8ee99399866c02a50a73af2afcf9e76416585cd7c",
+                1,
+                COMMIT,
+            ),
+            ("applied", 5, CHAIN_OF_TWO),
+            ("refused StaleBatch", 5, CHAIN_OF_TWO),
+            ("refused StaleBatch", 5, CHAIN_OF_TWO),
+        ],
+    )
+}
+
+#[test]
+fn chain_applied_one_by_one(rt: HostRuntime) -> Result<(), Fail> {
+    compare(
+        &rt,
+        1048576,
+        b"new\nappend 0 61\nseal 0 - 0\nnew 0\nappend 1 62\nseal 1 - 0\napply 0\napply 1\n",
+        &[
+            ("opened start=0", 1, COMMIT),
+            ("batch 0", 1, COMMIT),
+            ("ok", 1, COMMIT),
+            (
+                "sealed 3 d5777e06b8b06315af2f1cd14fe605c39b312a2917452f4bae1a7e0f583d2cc6",
+                1,
+                COMMIT,
+            ),
+            ("batch 1", 1, COMMIT),
+            ("ok", 1, COMMIT),
+            (
+                "sealed 5 b42e6a769f5032061ac9fad8ee99399866c02a50a73af2afcf9e76416585cd7c",
+                1,
+                COMMIT,
+            ),
+            ("applied", 3, FIRST_VALUE),
+            ("applied", 5, CHAIN_OF_TWO),
+        ],
+    )
+}
+
+#[test]
+fn equal_siblings(rt: HostRuntime) -> Result<(), Fail> {
+    compare(
+        &rt,
+        1048576,
+        b"new\nnew\nappend 0 61\nappend 1 61\nseal 0 - 0\nseal 1 - 0\napply 0\nnew 1\nappend 2 62\nseal 2 - 0\napply 2\n",
+        &[
+            ("opened start=0", 1, COMMIT),
+            ("batch 0", 1, COMMIT),
+            ("batch 1", 1, COMMIT),
+            ("ok", 1, COMMIT),
+            ("ok", 1, COMMIT),
+            (
+                "sealed 3 d5777e06b8b06315af2f1cd14fe605c39b312a2917452f4bae1a7e0f583d2cc6",
+                1,
+                COMMIT,
+            ),
+            (
+                "sealed 3 d5777e06b8b06315af2f1cd14fe605c39b312a2917452f4bae1a7e0f583d2cc6",
+                1,
+                COMMIT,
+            ),
+            ("applied", 3, FIRST_VALUE),
+            ("batch 2", 3, FIRST_VALUE),
+            ("ok", 3, FIRST_VALUE),
+            (
+                "sealed 5 b42e6a769f5032061ac9fad8ee99399866c02a50a73af2afcf9e76416585cd7c",
+                3,
+                FIRST_VALUE,
+            ),
+            ("applied", 5, CHAIN_OF_TWO),
+        ],
+    )
+}
+
+#[test]
+fn released_ancestor(rt: HostRuntime) -> Result<(), Fail> {
+    compare(
+        &rt,
+        1048576,
+        b"new\nappend 0 61\nseal 0 - 0\nnew 0\nappend 1 62\nseal 1 - 0\nrelease 0\nnew 1\nappend 2 63\nseal 2 - 0\nseal 2 - 0\n",
+        &[
+            ("opened start=0", 1, COMMIT),
+            ("batch 0", 1, COMMIT),
+            ("ok", 1, COMMIT),
+            (
+                "sealed 3 d5777e06b8b06315af2f1cd14fe605c39b312a2917452f4bae1a7e0f583d2cc6",
+                1,
+                COMMIT,
+            ),
+            ("batch 1", 1, COMMIT),
+            ("ok", 1, COMMIT),
+            (
+                "sealed 5 b42e6a769f5032061ac9fad8ee99399866c02a50a73af2afcf9e76416585cd7c",
+                1,
+                COMMIT,
+            ),
+            ("ok", 1, COMMIT),
+            ("batch 2", 1, COMMIT),
+            ("ok", 1, COMMIT),
+            ("refused StaleBatch", 1, COMMIT),
+            ("refused NoBatch 2", 1, COMMIT),
+        ],
+    )
+}
+
+#[test]
+fn released_ancestor_that_was_applied(rt: HostRuntime) -> Result<(), Fail> {
+    compare(
+        &rt,
+        1048576,
+        b"new\nappend 0 61\nseal 0 - 0\nnew 0\nappend 1 62\nseal 1 - 0\napply 0\nrelease 0\nnew 1\nappend 2 63\nseal 2 - 0\napply 2\n",
+        &[
+            ("opened start=0", 1, COMMIT),
+            ("batch 0", 1, COMMIT),
+            ("ok", 1, COMMIT),
+            (
+                "sealed 3 d5777e06b8b06315af2f1cd14fe605c39b312a2917452f4bae1a7e0f583d2cc6",
+                1,
+                COMMIT,
+            ),
+            ("batch 1", 1, COMMIT),
+            ("ok", 1, COMMIT),
+            (
+                "sealed 5 b42e6a769f5032061ac9fad8ee99399866c02a50a73af2afcf9e76416585cd7c",
+                1,
+                COMMIT,
+            ),
+            ("applied", 3, FIRST_VALUE),
+            ("ok", 3, FIRST_VALUE),
+            ("batch 2", 3, FIRST_VALUE),
+            ("ok", 3, FIRST_VALUE),
+            (
+                "sealed 7 ca4d099b1566cc6bc7172b27a20f0c90d207bc0a937de213e8047bd2bdcee56c",
+                3,
+                FIRST_VALUE,
+            ),
+            ("applied", 7, CHAIN_OF_THREE),
+        ],
+    )
+}
+
+#[test]
+fn child_keeps_its_parent_alive(rt: HostRuntime) -> Result<(), Fail> {
+    compare(
+        &rt,
+        1048576,
+        b"new\nappend 0 61\nseal 0 - 0\nnew 0\nappend 1 62\nseal 1 - 0\nnew 0\nrelease 0\nnew 0\nnew 1\nappend 3 63\nseal 3 - 0\nrelease 2\nnew 1\nseal 4 - 0\napply 3\n",
+        &[
+            ("opened start=0", 1, COMMIT),
+            ("batch 0", 1, COMMIT),
+            ("ok", 1, COMMIT),
+            (
+                "sealed 3 d5777e06b8b06315af2f1cd14fe605c39b312a2917452f4bae1a7e0f583d2cc6",
+                1,
+                COMMIT,
+            ),
+            ("batch 1", 1, COMMIT),
+            ("ok", 1, COMMIT),
+            (
+                "sealed 5 b42e6a769f5032061ac9fad8ee99399866c02a50a73af2afcf9e76416585cd7c",
+                1,
+                COMMIT,
+            ),
+            ("batch 2", 1, COMMIT),
+            ("ok", 1, COMMIT),
+            ("refused NoBatch 0", 1, COMMIT),
+            ("batch 3", 1, COMMIT),
+            ("ok", 1, COMMIT),
+            (
+                "sealed 7 ca4d099b1566cc6bc7172b27a20f0c90d207bc0a937de213e8047bd2bdcee56c",
+                1,
+                COMMIT,
+            ),
+            ("ok", 1, COMMIT),
+            ("batch 4", 1, COMMIT),
+            ("refused StaleBatch", 1, COMMIT),
+            ("applied", 7, CHAIN_OF_THREE),
+        ],
+    )
+}
+
+#[test]
+fn refused_seal_loses_its_hold(rt: HostRuntime) -> Result<(), Fail> {
+    compare(
+        &rt,
+        1048576,
+        b"new\nappend 0 61\nseal 0 - 0\nnew 0\nappend 1 62\nseal 1 - 0\nnew 0\nrelease 0\nseal 2 - 9\nnew 1\nseal 3 - 0\n",
+        &[
+            ("opened start=0", 1, COMMIT),
+            ("batch 0", 1, COMMIT),
+            ("ok", 1, COMMIT),
+            (
+                "sealed 3 d5777e06b8b06315af2f1cd14fe605c39b312a2917452f4bae1a7e0f583d2cc6",
+                1,
+                COMMIT,
+            ),
+            ("batch 1", 1, COMMIT),
+            ("ok", 1, COMMIT),
+            (
+                "sealed 5 b42e6a769f5032061ac9fad8ee99399866c02a50a73af2afcf9e76416585cd7c",
+                1,
+                COMMIT,
+            ),
+            ("batch 2", 1, COMMIT),
+            ("ok", 1, COMMIT),
+            ("refused FloorBeyondSize 9 3", 1, COMMIT),
+            ("batch 3", 1, COMMIT),
+            ("refused StaleBatch", 1, COMMIT),
+        ],
+    )
+}
+
+#[test]
+fn floors_of_a_chain(rt: HostRuntime) -> Result<(), Fail> {
+    compare(
+        &rt,
+        1048576,
+        b"new\nseal 0 - 1\nnew 0\nnew 0\nseal 1 - 0\nseal 2 - 1\napply 2\nsize\n",
+        &[
+            ("opened start=0", 1, COMMIT),
+            ("batch 0", 1, COMMIT),
+            (
+                "sealed 2 ecfc86f791789fd9c85a34e3c22f4d69ac95b4d6e0b995fbbd17fe734933cbff",
+                1,
+                COMMIT,
+            ),
+            ("batch 1", 1, COMMIT),
+            ("batch 2", 1, COMMIT),
+            ("refused FloorRegressed 0 1", 1, COMMIT),
+            (
+                "sealed 3 92c263cb2863f4d939ea86e119c7153bffb4792f048208aa2ed42383fb740c73",
+                1,
+                COMMIT,
+            ),
+            ("applied", 3, FLOOR_ONE),
+            ("size 3 start 0 floor 1", 3, FLOOR_ONE),
         ],
     )
 }

@@ -1,8 +1,8 @@
 use Rattle.std.proofs.Common.{◌≡◌, sym, ◌∙◌, ap, arith}
 use Rattle.log_model.specs.Operations.{last_value}
 use Rattle.twins.specs.Operation.{meaning}
-use Rattle.twins.proofs.Representation.{last_value-last}
-use Rattle.twins.proofs.machine.last_value.Goals as goal
+use Rattle.twins.proofs.HistoryLemmas.{last_value-last}
+use Rattle.twins.proofs.history.last_value.Goals as goal
 
 pub returns-in-len1-up-clause-value : goal.returns-in-len1-up-clause-value
 returns-in-len1-up-clause-value c =
