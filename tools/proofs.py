@@ -2,7 +2,7 @@
 """Computes, apart from the product, the covers and roots that the tests of proofs compare with.
 
 Everything is made from hashlib's SHA-256 and the rules of the trees. The elements are the letters from a on.
-Prints for each row the range, the nodes of its cover with their digests, and the root.
+Prints for each row the range, the nodes of its cover with their digests, the peaks before the range, and the root.
 """
 from trees import Mmb, Mmr, halves, node, peaks, root
 
@@ -20,7 +20,7 @@ def cover(family, n, met):
     return [name for peak in peaks(family, n) for name in inside(*peak)]
 
 
-ROWS = [(Mmr, 3, 1, 3, 0, True), (Mmr, 3, 1, 2, 0, True), (Mmb, 5, 3, 5, 1, False), (Mmr, 7, 2, 3, 2, False)]
+ROWS = [(Mmr, 3, 1, 3, 0, True), (Mmr, 3, 1, 2, 0, True), (Mmb, 5, 3, 5, 1, False), (Mmb, 5, 4, 5, 1, False), (Mmr, 7, 2, 3, 2, False)]
 
 
 def rows():
@@ -30,6 +30,8 @@ def rows():
         title = f"{family.__name__} of {n} leaves, {start} to {end}, {inactive} inactive, {'forward' if forward else 'backward'}"
         for name in cover(family, n, lambda leaf: start <= leaf < end):
             yield f"{title}, cover node {name}", node(family, elements, *name).hex()
+        for name in peaks(family, start):
+            yield f"{title}, pin {name}", node(family, elements, *name).hex()
         yield f"{title}, root", root(family, elements, inactive, forward).hex()
 
 

@@ -13,6 +13,7 @@ pub use Rattle.tree_proof.specs.Cover
 pub use Rattle.tree_proof.specs.Check
 pub use Rattle.tree_proof.specs.SlowProof
 pub use Rattle.tree_proof.specs.Inputs
+pub use Rattle.tree_proof.specs.Pinned
 pub use Rattle.tree_verification.specs.Ranges
 pub use Rattle.tree_verification.specs.Several
 pub use Rattle.tree_store.specs.Errors

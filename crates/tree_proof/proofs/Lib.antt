@@ -5,3 +5,6 @@ pub mod Complete
 mod CoverCount
 mod Clashes
 mod Soundness
+pub mod CoverSteps
+mod LeftLemmas
+mod PinnedLemmas

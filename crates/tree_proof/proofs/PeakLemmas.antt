@@ -1,5 +1,5 @@
 -- The peaks that are left, the oldest first.
-use Rattle.std.proofs.Common.{◌≡◌, ℕ, zero, suc, ◌+◌, ◌-◌, ◌^◌, ◌<◌, ◌≤◌, List, ◌∷◌, length, reverse, take, get_or, refl, sym, ◌∙◌, ap, arith}
+use Rattle.std.proofs.Common.{◌≡◌, ℕ, zero, suc, ◌+◌, ◌-◌, ◌^◌, ◌<◌, ◌≤◌, List, [], ◌∷◌, length, reverse, take, get_or, refl, sym, ◌∙◌, ap, arith}
 use Rattle.std.proofs.lemmas.List.{length-reverse}
 use Rattle.tree_shape.specs.Shape.{Shape, made, PeaksStand, peaks, peaks_down}
 use Rattle.tree_shape.specs.Pins.{base, IsWalk}
@@ -12,6 +12,12 @@ pub peaks_left-all : (s : Shape) (n : ℕ) → peaks_left s n (length (s.heights
 peaks_left-all s n =
     let hs = s.heights n in
     ap reverse (ap (λ i. take i (peaks_down n hs)) (sym (length-peaks_down n hs)) ∙ take-all (peaks_down n hs))
+
+pub all_left : (s : Shape) (n left : ℕ) → left ≡ length (s.heights n) → peaks_left s n left ≡ peaks s n
+all_left s n left e = ap (peaks_left s n) e ∙ peaks_left-all s n
+
+pub none_left : (s : Shape) (n left : ℕ) → left ≡ 0 → peaks_left s n left ≡ []
+none_left s n left e = ap (peaks_left s n) e
 
 pub peaks_left-next : (s : Shape) (n left : ℕ) → 0 < left → left ≤ length (s.heights n)
     → peaks_left s n left ≡ (base n (s.heights n) left, get_or (s.heights n) (left - 1) 0) ∷ peaks_left s n (left - 1)

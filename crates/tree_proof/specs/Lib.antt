@@ -2,3 +2,5 @@ pub mod Cover
 pub mod Check
 pub mod SlowProof
 pub mod Inputs
+pub mod Pinned
+pub mod Left

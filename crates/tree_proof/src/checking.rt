@@ -6,6 +6,7 @@ ghost use Rattle.tree_proof.specs.Check.{Checks, IsInBounds, rebuilt_root};
 ghost use Rattle.tree_proof.specs.Inputs.{ShowsElements};
 
 use crate::Proof;
+use crate::known::Items;
 use crate::peaks::rebuild_peaks;
 use codec_base::Bytes;
 use std::alloc::{AllocError, Global};
@@ -36,7 +37,8 @@ fn rebuild_root<F: Family, H: Hasher>(
 {
     let leaves = proof.leaves.as_u64();
     let digests = proof.digests.as_slice();
-    match rebuild_peaks::<F, H>(alloc, hasher, start, items, leaves, digests)? {
+    let known = Items { start, items };
+    match rebuild_peaks::<F, H, _>(alloc, hasher, &known, leaves, digests)? {
         None => Ok(None),
         Some(peaks) => {
             let inactive = proof.inactive_peaks as usize;
@@ -46,7 +48,7 @@ fn rebuild_root<F: Family, H: Hasher>(
 }
 
 /// Whether two digests are one.
-fn is_same<D: Digest>(a: &D, b: &D) -> bool
+pub(crate) fn is_same<D: Digest>(a: &D, b: &D) -> bool
     ensures { IsTrue result ↔ (a.now ≡ b.now) }
 {
     a.as_slice() == b.as_slice()

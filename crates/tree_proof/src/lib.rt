@@ -2,13 +2,18 @@
 #![tactic(auto)]
 
 mod checking;
+mod known;
 mod laws;
+mod left;
 mod peaks;
+mod pinned;
+mod pins;
 mod proof;
 mod rebuild;
 
 pub use checking::verify;
 pub use laws::{cover_count_law, slow_proof_law};
+pub use pinned::verify_proof_and_pinned_nodes;
 pub use proof::Proof;
 
 #[cfg(test)]

@@ -2,26 +2,24 @@
 ghost use Rattle.std.specs.Prelude.{◌≡◌, ◌≤◌, ◌+◌, ◌^◌, length, IfOk};
 ghost use Rattle.std.specs.Option.{option_map};
 ghost use Rattle.tree_shape.specs.Shape.{peaks};
-ghost use Rattle.tree_proof.specs.Cover.{meets};
-ghost use Rattle.tree_proof.specs.Check.{wholly_rebuilt, item_leaf};
+ghost use Rattle.tree_proof.specs.Check.{wholly_rebuilt};
 
+use crate::known::Known;
 use crate::rebuild::rebuild;
-use codec_base::Bytes;
 use std::alloc::{AllocError, Global};
 use tree_shape::{Family, Hasher, Standard, width};
 
-/// The peaks of n leaves, rebuilt from the items of the leaves from `start` on and all of the digests; none where there are too few or too many of these.
-pub(crate) fn rebuild_peaks<F: Family, H: Hasher>(
+/// The peaks of n leaves, rebuilt from what is known and all of the digests; none where there are too few or too many of these.
+pub(crate) fn rebuild_peaks<F: Family, H: Hasher, K: Known<F, H>>(
     alloc: Global,
     hasher: &Standard<H>,
-    start: u64,
-    items: &[Bytes],
+    known: &K,
     leaves: u64,
     digests: &[H::Digest],
 ) -> Result<Option<Vec<H::Digest>>, AllocError>
     requires few { leaves ≤ 2 ^ 62 }
-    requires fits { start + length items.now ≤ 2 ^ 62 }
-    ensures { IfOk result (λ r. option_map (λ v. v.items) r ≡ wholly_rebuilt F.shape H.hash (meets start (start + length items.now)) (item_leaf F.shape H.hash start items.now) (peaks F.shape leaves) digests.now) }
+    requires ready { K.ready known.now }
+    ensures { IfOk result (λ r. option_map (λ v. v.items) r ≡ wholly_rebuilt F.shape H.hash (K.met known.now) (K.leaf_of known.now) (peaks F.shape leaves) digests.now) }
 {
     let mut rebuilt = Vec::new(alloc);
     let mut x = 0;
@@ -29,8 +27,7 @@ pub(crate) fn rebuild_peaks<F: Family, H: Hasher>(
     let count = F::peak_count(leaves);
     for i in 0..count {
         let height = F::peak_height(leaves, count - 1 - i);
-        let Some((peak, then)) = rebuild::<F, H>(hasher, start, items, x, height, digests, at)
-        else {
+        let Some((peak, then)) = rebuild::<F, H, K>(hasher, known, x, height, digests, at) else {
             return Ok(None);
         };
         rebuilt.push(peak)?;

@@ -1,18 +1,9 @@
-//! Nodes rebuilt from items and digests.
+//! Nodes rebuilt from what is known and digests.
 ghost use Rattle.std.specs.Prelude.{◌≡◌, ◌≤◌, ◌<◌, ◌+◌, ◌-◌, ◌^◌, length, drop, Some, None, IfSome, IfNone};
-ghost use Rattle.tree_proof.specs.Cover.{meets};
-ghost use Rattle.tree_proof.specs.Check.{next_of, rebuilt, item_leaf};
+ghost use Rattle.tree_proof.specs.Check.{next_of, rebuilt};
 
-use codec_base::Bytes;
-use tree_shape::{Family, Hasher, Position, Standard, half_width, width};
-
-/// Whether a range meets the leaves of a node.
-fn is_met(start: u64, end: u64, x: u64, height: u32) -> bool
-    requires { (height < 63) × (x + 2 ^ height ≤ 2 ^ 62) }
-    ensures { result ≡ meets start end x height }
-{
-    start < x + width(height) && x < end
-}
+use crate::known::Known;
+use tree_shape::{Family, Hasher, Position, Standard, half_width};
 
 /// The digest at a place, and the place behind it.
 fn next<D: Copy>(digests: &[D], at: usize) -> Option<(D, usize)>
@@ -27,11 +18,10 @@ fn next<D: Copy>(digests: &[D], at: usize) -> Option<(D, usize)>
     }
 }
 
-/// A node rebuilt from the items of the leaves from `start` on and the digests from a place on, with the place behind those that it took.
-pub(crate) fn rebuild<F: Family, H: Hasher>(
+/// A node rebuilt from what is known and the digests from a place on, with the place behind those that it took.
+pub(crate) fn rebuild<F: Family, H: Hasher, K: Known<F, H>>(
     hasher: &Standard<H>,
-    start: u64,
-    items: &[Bytes],
+    known: &K,
     x: u64,
     height: u32,
     digests: &[H::Digest],
@@ -39,24 +29,21 @@ pub(crate) fn rebuild<F: Family, H: Hasher>(
 ) -> Option<(H::Digest, usize)>
     requires few { x + 2 ^ height ≤ 2 ^ 62 }
     requires low { height < 63 }
-    requires fits { start + length items.now ≤ 2 ^ 62 }
-    ensures some { IfSome result (λ r. rebuilt F.shape H.hash (meets start (start + length items.now)) (item_leaf F.shape H.hash start items.now) x height (drop at digests.now) ≡ Some (r.0, drop r.1 digests.now)) }
-    ensures none { IfNone result (rebuilt F.shape H.hash (meets start (start + length items.now)) (item_leaf F.shape H.hash start items.now) x height (drop at digests.now) ≡ None) }
+    requires ready { K.ready known.now }
+    ensures some { IfSome result (λ r. rebuilt F.shape H.hash (K.met known.now) (K.leaf_of known.now) x height (drop at digests.now) ≡ Some (r.0, drop r.1 digests.now)) }
+    ensures none { IfNone result (rebuilt F.shape H.hash (K.met known.now) (K.leaf_of known.now) x height (drop at digests.now) ≡ None) }
 {
-    let end = start + items.len() as u64;
-    if !is_met(start, end, x, height) {
+    if !known.is_met(x, height) {
         return next(digests, at);
     }
     if height == 0 {
-        let pos = Position::<F>::new(F::position(x, 0));
-        let leaf = hasher.leaf_digest(pos, items[(x - start) as usize].as_slice());
-        return Some((leaf, at));
+        return Some((known.leaf(hasher, x), at));
     }
     let half = half_width(height);
-    match rebuild::<F, H>(hasher, start, items, x, height - 1, digests, at) {
+    match rebuild::<F, H, K>(hasher, known, x, height - 1, digests, at) {
         None => None,
         Some((left, then)) => {
-            match rebuild::<F, H>(hasher, start, items, x + half, height - 1, digests, then) {
+            match rebuild::<F, H, K>(hasher, known, x + half, height - 1, digests, then) {
                 None => None,
                 Some((right, then)) => {
                     let pos = Position::<F>::new(F::position(x, height));

@@ -6,23 +6,8 @@ use Rattle.tree_shape.specs.Pins.{position_of}
 use Rattle.tree_proof.specs.Cover.{Met, cover_in, cover_over}
 use Rattle.tree_proof.proofs.PeakLemmas.{peaks_left, peaks_left-all}
 use Rattle.tree_proof.proofs.RebuildLemmas.{append_nil}
+use Rattle.tree_proof.proofs.CoverSteps.{cover_in-halves}
 use Rattle.tree_verification.specs.Ranges.{cover_positions}
-
--- one node inside
-pub cover_in-outside : (met : Met) (x k : ℕ) → met x k ≡ false → cover_in met x k ≡ (x, k) ∷ []
-unfolding cover_in
-cover_in-outside met x zero e = rw e refl
-cover_in-outside met x (suc k) e = rw e refl
-
-pub cover_in-leaf : (met : Met) (x k : ℕ) → met x k ≡ true → k ≡ 0 → cover_in met x k ≡ []
-unfolding cover_in
-cover_in-leaf met x zero e z = rw e refl
-cover_in-leaf met x (suc k) e z = absurd (omega arith)
-
-pub cover_in-halves : (met : Met) (x k half : ℕ) → met x k ≡ true → 0 < k → half ≡ 2 ^ (k - 1) → cover_in met x k ≡ cover_in met x (k - 1) ++ cover_in met (x + half) (k - 1)
-unfolding cover_in
-cover_in-halves met x zero half e lt he = absurd (omega arith)
-cover_in-halves met x (suc k) half e lt he = let one : suc k - 1 ≡ k = omega arith in rw (e, he, one) refl
 
 module _ (s : Shape) (met : Met) where
   pub found_both : (acc mid more : List ℕ) (x k half : ℕ) → met x k ≡ true → 0 < k → half ≡ 2 ^ (k - 1)

@@ -1,8 +1,7 @@
-use Rattle.std.proofs.Common.{◌≡◌, ◌+◌, ◌-◌, drop, length}
+use Rattle.std.proofs.Common.{◌≡◌, ◌-◌, drop}
 use Rattle.tree_shape.specs.Shape.{peaks}
 use Rattle.tree_shape.specs.Pins.{IsWalk}
-use Rattle.tree_proof.specs.Cover.{meets}
-use Rattle.tree_proof.specs.Check.{rebuilt_over, item_leaf}
+use Rattle.tree_proof.specs.Check.{rebuilt_over}
 use Rattle.tree_proof.proofs.RebuildLemmas.{prepended}
 use Rattle.tree_proof.proofs.PeakLemmas.{peaks_left}
 use Rattle.tree_proof.proofs.peaks.rebuild_peaks.Given as goal
@@ -12,8 +11,8 @@ abbrev pub invariant-loop-i : goal.invariant-loop-i
 invariant-loop-i g l =
     let s = g.F.Family.shape in
     let h = g.H.Hasher.hash in
-    let met = meets l.start (l.start + length l.items) in
-    let leaf_of = item_leaf s h l.start l.items in
+    let met = g.K.Known.met l.known in
+    let leaf_of = g.K.Known.leaf_of l.known in
     record {
       walk : IsWalk s l.leaves l.x (l.count - l.i);
       told : prepended l.rebuilt.items (rebuilt_over s h met leaf_of (peaks_left s l.leaves (l.count - l.i)) (drop l.at l.digests)) ≡ rebuilt_over s h met leaf_of (peaks s l.leaves) l.digests;

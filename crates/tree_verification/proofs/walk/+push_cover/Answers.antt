@@ -1,7 +1,8 @@
 use Rattle.std.proofs.Common.{◌≡◌, ◌++◌, true, false, map, sym, ◌∙◌, ap, arith}
 use Rattle.tree_shape.specs.Pins.{position_of}
 use Rattle.tree_proof.proofs.RebuildLemmas.{append_nil}
-use Rattle.tree_verification.proofs.WalkLemmas.{cover_in-outside, cover_in-leaf, found_both}
+use Rattle.tree_proof.proofs.CoverSteps.{cover_in-outside, cover_in-leaf}
+use Rattle.tree_verification.proofs.WalkLemmas.{found_both}
 use Rattle.tree_verification.proofs.walk.+push_cover.Goals as goal
 
 pub returns-then-not-is_met : goal.returns-then-not-is_met

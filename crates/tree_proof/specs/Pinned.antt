@@ -1,0 +1,30 @@
+-- Pins, the peaks of a tree of fewer leaves, and the nodes of a cover to which they hash.
+use Rattle.std.specs.Prelude.{◌≡◌, ℕ, ◌+◌, ◌-◌, ◌^◌, Bool, false, not, ◌&&◌, ◌||◌, ◌==◌, List, [], ◌∷◌, length, take, filter, Some}
+use Rattle.tree_shape.specs.Hashing.{Hashing}
+use Rattle.tree_shape.specs.Shape.{Shape, ends_by}
+use Rattle.tree_shape.specs.Slow.{leaf}
+use Rattle.tree_proof.specs.declared.proof.Proof.{Proof}
+use Rattle.tree_proof.specs.Cover.{Met, meets, cover}
+use Rattle.tree_proof.specs.Check.{wholly_rebuilt}
+
+-- whether a node is one of the peaks of these heights, the newest of which ends at e
+abbrev pub is_peak : ℕ → List ℕ → ℕ → ℕ → Bool
+is_peak e [] x k = false
+is_peak e (j ∷ js) x k = ((x == e - 2 ^ j) && (k == j)) || is_peak (e - 2 ^ j) js x k
+
+-- it is no pin, so it is made from its halves
+abbrev pub above_pins : Shape → ℕ → Met
+above_pins s a x k = not (is_peak a (s.heights a) x k)
+
+-- the nodes that end at or below a
+abbrev pub left_of : ℕ → List (ℕ × ℕ) → List (ℕ × ℕ)
+left_of a ps = filter (ends_by a) ps
+
+-- the nodes of the cover left of the leaves from a on
+abbrev pub left_cover : {F D : Type 0} → Shape → Proof F D → ℕ → ℕ → List (ℕ × ℕ)
+left_cover s proof a count = left_of a (cover s (meets a (a + count)) proof.leaves)
+
+-- the pins are as many as the peaks of a leaves, and hash to the nodes of the cover left of a; no leaf is asked for
+pub record HasPins {F D : Type 0} (s : Shape) (h : Hashing D) (proof : Proof F D) (a count : ℕ) (pins : List D) : Type 0 where
+  pub counted : length pins ≡ length (s.heights a)
+  pub hashed : wholly_rebuilt s h (above_pins s a) (λ x. leaf s h x []) (left_cover s proof a count) pins ≡ Some (take (length (left_cover s proof a count)) proof.digests)

@@ -1,0 +1,53 @@
+//! The nodes of a cover that stand left of its range.
+ghost use Rattle.std.specs.Prelude.{◌≡◌, ◌≤◌, ◌<◌, ◌+◌, ◌^◌, ◌++◌, ℕ, All, OnOk, IfOk};
+ghost use Rattle.tree_proof.specs.Cover.{meets, cover};
+ghost use Rattle.tree_proof.specs.Pinned.{left_of};
+ghost use Rattle.tree_proof.specs.Left.{left_in};
+
+use std::alloc::{AllocError, Global};
+use tree_shape::{Family, half_width, width};
+
+/// Adds those under a node that end at or below so many leaves, from the left.
+fn push_left(
+    nodes: &mut Vec<(u64, u32)>,
+    leaves: u64,
+    x: u64,
+    height: u32,
+) -> Result<(), AllocError>
+    requires few { x + 2 ^ height ≤ 2 ^ 62 }
+    requires low { height < 63 }
+    ensures { OnOk result (nodes.new.items ≡ nodes.old.items ++ left_in leaves x height) }
+{
+    if x + width(height) <= leaves {
+        nodes.push((x, height))?;
+        return Ok(());
+    }
+    if leaves <= x || height == 0 {
+        return Ok(());
+    }
+    let half = half_width(height);
+    push_left(nodes, leaves, x, height - 1)?;
+    push_left(nodes, leaves, x + half, height - 1)?;
+    Ok(())
+}
+
+/// The nodes of the cover of a range from `start` on, in a tree of so many leaves, that stand left of it.
+pub(crate) fn left_nodes<F: Family>(
+    alloc: Global,
+    start: u64,
+    leaves: u64,
+) -> Result<Vec<(u64, u32)>, AllocError>
+    requires { (start ≤ 2 ^ 62) × (leaves ≤ 2 ^ 62) }
+    ensures nodes { IfOk result (λ nodes. (end : ℕ) → start < end → nodes.items ≡ left_of start (cover F.shape (meets start end) leaves)) }
+    ensures small { IfOk result (λ nodes. All (λ p. (p.0 + 2 ^ p.1 ≤ 2 ^ 62) × (p.1 < 63)) nodes.items) }
+{
+    let mut nodes = Vec::new(alloc);
+    let mut x = 0;
+    let count = F::peak_count(leaves);
+    for i in 0..count {
+        let height = F::peak_height(leaves, count - 1 - i);
+        push_left(&mut nodes, start, x, height)?;
+        x += width(height);
+    }
+    Ok(nodes)
+}

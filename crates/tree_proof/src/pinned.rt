@@ -1,0 +1,100 @@
+//! Whether pins stand left of what a proof shows.
+ghost use Rattle.std.specs.Prelude.{◌≡◌, ◌↔◌, ℕ, ◌≤◌, ◌<◌, ◌+◌, ◌^◌, length, take, All, IfOk, IsTrue};
+ghost use Rattle.std.specs.Option.{option_map};
+ghost use Rattle.tree_proof.specs.Check.{Checks, wholly_rebuilt};
+ghost use Rattle.tree_proof.specs.Pinned.{HasPins};
+
+use crate::Proof;
+use crate::checking::{is_same, verify};
+use crate::known::Known;
+use crate::left::left_nodes;
+use crate::pins::PinsOf;
+use crate::rebuild::rebuild;
+use codec_base::Bytes;
+use std::alloc::{AllocError, Global};
+use tree_shape::{Digest, Family, Hasher, Location, Standard};
+
+/// These nodes, rebuilt from what is known and all of the digests; none where there are too few or too many of these.
+fn rebuild_nodes<F: Family, H: Hasher, K: Known<F, H>>(
+    alloc: Global,
+    hasher: &Standard<H>,
+    known: &K,
+    nodes: &[(u64, u32)],
+    digests: &[H::Digest],
+) -> Result<Option<Vec<H::Digest>>, AllocError>
+    requires small { All (λ p. (p.0 + 2 ^ p.1 ≤ 2 ^ 62) × (p.1 < 63)) nodes.now }
+    requires ready { K.ready known.now }
+    ensures { IfOk result (λ r. option_map (λ v. v.items) r ≡ wholly_rebuilt F.shape H.hash (K.met known.now) (K.leaf_of known.now) nodes.now digests.now) }
+{
+    let mut rebuilt = Vec::new(alloc);
+    let mut at = 0;
+    for i in 0..nodes.len() {
+        let (x, height) = nodes[i];
+        let Some((node, then)) = rebuild::<F, H, K>(hasher, known, x, height, digests, at) else {
+            return Ok(None);
+        };
+        rebuilt.push(node)?;
+        at = then;
+    }
+    if at < digests.len() {
+        return Ok(None);
+    }
+    Ok(Some(rebuilt))
+}
+
+/// Whether the digests begin with these.
+fn begins_with<D: Digest>(digests: &[D], front: &[D]) -> bool
+    ensures { IsTrue result ↔ (front.now ≡ take (length front.now) digests.now) }
+{
+    if digests.len() < front.len() {
+        return false;
+    }
+    for i in 0..front.len() {
+        if !is_same(&front[i], &digests[i]) {
+            return false;
+        }
+    }
+    true
+}
+
+/// Whether the pins hash to the nodes of the proof's cover left of a leaf.
+fn has_pins<F: Family, H: Hasher>(
+    alloc: Global,
+    hasher: &Standard<H>,
+    proof: &Proof<F, H::Digest>,
+    start: u64,
+    pinned: &[H::Digest],
+) -> Result<bool, AllocError>
+    requires { (start ≤ proof.now.leaves) × (proof.now.leaves ≤ 2 ^ 62) }
+    ensures { IfOk result (λ pins. (count : ℕ) → 0 < count → (IsTrue pins ↔ HasPins F.shape H.hash proof.now start count pinned.now)) }
+{
+    if pinned.len() as u64 != u64::from(F::peak_count(start)) {
+        return Ok(false);
+    }
+    let nodes = left_nodes::<F>(alloc, start, proof.leaves.as_u64())?;
+    let known = PinsOf { leaves: start };
+    match rebuild_nodes::<F, H, _>(alloc, hasher, &known, &nodes, pinned)? {
+        None => Ok(false),
+        Some(digests) => Ok(begins_with(proof.digests.as_slice(), &digests)),
+    }
+}
+
+/// Whether the proof shows that the elements stand from `start` on in the tree with this root, and the pins are the peaks
+/// of `start` leaves, the oldest first, as the proof's digests left of `start` tell them.
+pub fn verify_proof_and_pinned_nodes<F: Family, H: Hasher>(
+    alloc: Global,
+    hasher: &Standard<H>,
+    proof: &Proof<F, H::Digest>,
+    start: Location<F>,
+    elements: &[Bytes],
+    pinned: &[H::Digest],
+    root: &H::Digest,
+) -> Result<bool, AllocError>
+    ensures checks { IfOk result (λ shown. IsTrue shown ↔ (Checks F.shape H.hash hasher.now proof.now start elements.now root.now × HasPins F.shape H.hash proof.now start (length elements.now) pinned.now)) }
+{
+    let from = start.as_u64();
+    if !verify(alloc, hasher, proof, start, elements, root)? {
+        return Ok(false);
+    }
+    has_pins(alloc, hasher, proof, from, pinned)
+}
