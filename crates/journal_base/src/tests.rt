@@ -1,5 +1,5 @@
 use super::*;
-use codec_base::{Bytes, LengthCfg, U64};
+use codec_base::{Bytes, Duplicate, EncodeSize, LengthCfg, Read, U64, Write};
 use memory_volume::{LogChoice, MemoryVolume};
 use std::alloc::Global;
 use std::num::NonZeroU64;
@@ -13,6 +13,16 @@ fn config<C: Drop>(alloc: Global, codec: C) -> Result<JournalConfig<C>, Fail> {
         items_per_blob: NonZeroU64::new(2).ok_or("no blob")?,
         codec,
     })
+}
+
+/// Five items of several sizes.
+fn words(alloc: Global) -> Result<Vec<Bytes>, Fail> {
+    let texts: [&[u8]; 5] = [b"one", b"two", b"three", b"", b"five"];
+    let mut items = Vec::new(alloc);
+    for text in texts {
+        items.push(Bytes::from_slice(alloc, text)?)?;
+    }
+    Ok(items)
 }
 
 fn numbers(alloc: Global, count: u64) -> Result<Vec<U64>, Fail> {
@@ -200,30 +210,95 @@ fn goes_through_its_calls_at_both_kinds_of_items(rt: HostRuntime) -> Result<(), 
     Ok(())
 }
 
+/// Opens a log of five items, of which the first blob of two is gone, by the steps of a recovery. It answers the bounds after each.
+fn steps<T: Write + EncodeSize + Read + Duplicate + Drop, K: Kind<T>>(
+    alloc: Global,
+    vol: &mut MemoryVolume,
+    cfg: JournalConfig<T::Cfg>,
+) -> Result<Vec<(u64, u64)>, Fail> {
+    let mut bounds = Vec::new(alloc);
+    let recovery = Journal::<T, K>::recover(vol, cfg, Some(4))?;
+    bounds.push(recovery.bounds())?;
+    let recovery = recovery.unbounded(vol)?;
+    bounds.push(recovery.bounds())?;
+    let recovery = recovery.prune(vol, 4)?;
+    bounds.push(recovery.bounds())?;
+    let recovery = recovery.truncate(vol, 4)?;
+    bounds.push(recovery.bounds())?;
+    let journal = recovery.clear_to_size(vol, 7)?.finish(vol, 8)?;
+    bounds.push(journal.bounds())?;
+    let journal = journal.clear_to_size(vol, 1)?;
+    bounds.push(journal.bounds())?;
+    Ok(bounds)
+}
+
 #[test]
-fn opens_by_steps(rt: HostRuntime) -> Result<(), Fail> {
+fn opens_by_steps_at_both_kinds_of_items(rt: HostRuntime) -> Result<(), Fail> {
     let alloc = rt.alloc();
+    let bounds = [(2, 4), (2, 5), (4, 5), (4, 4), (7, 7), (1, 1)];
     let mut vol = MemoryVolume::new(alloc);
     let _journal = numbered(alloc, &mut vol)?;
-    let recovery = FixedJournal::<U64>::recover(&mut vol, config(alloc, ())?, Some(4))?;
-    assert_eq!(rt; recovery.bounds(), (2, 4));
-    let none = recovery.last_matching(&mut vol, 9, |item: &U64| item.get() < 2);
-    assert_eq!(rt; none, Err(JournalError::ItemPruned(2)));
-    let recovery = recovery.unbounded(&mut vol)?;
-    assert_eq!(rt; recovery.bounds(), (2, 5));
-    let recovery = recovery.prune(&mut vol, 4)?;
-    assert_eq!(rt; recovery.bounds(), (4, 5));
-    let recovery = recovery.truncate(&mut vol, 4)?;
-    assert_eq!(rt; recovery.bounds(), (4, 4));
-    let recovery = recovery.clear_to_size(&mut vol, 7)?;
-    let journal = recovery.finish(&mut vol, 8)?;
-    assert_eq!(rt; journal.bounds(), (7, 7));
-    let journal = journal.clear_to_size(&mut vol, 1)?;
-    assert_eq!(rt; journal.bounds(), (1, 1));
+    let fixed = steps::<U64, Fixed>(alloc, &mut vol, config(alloc, ())?)?;
+    assert_eq!(rt; fixed.as_slice(), bounds.as_slice());
+    let mut vol = MemoryVolume::new(alloc);
+    let cfg = config(alloc, LengthCfg { max: 9 })?;
+    let journal: VariableJournal<Bytes> = open(&mut vol, cfg)?;
+    let (journal, _) = journal.append_many(&mut vol, &words(alloc)?)?;
+    let _pruned = journal.prune(&mut vol, 3)?;
+    let cfg = config(alloc, LengthCfg { max: 9 })?;
+    let variable = steps::<Bytes, Variable>(alloc, &mut vol, cfg)?;
+    assert_eq!(rt; variable.as_slice(), bounds.as_slice());
+    Ok(())
+}
+
+#[test]
+fn refuses_while_it_is_opened(rt: HostRuntime) -> Result<(), Fail> {
+    let alloc = rt.alloc();
+    let mut vol = MemoryVolume::new(alloc);
+    let journal = numbered(alloc, &mut vol)?;
     assert_eq!(rt;
         journal.clear_to_size(&mut vol, u64::MAX).err(),
         Some(JournalError::SizeOverflow)
     );
+    let recovery = FixedJournal::<U64>::recover(&mut vol, config(alloc, ())?, Some(4))?;
+    let none = recovery.last_matching(&mut vol, 9, |item: &U64| item.get() < 2);
+    assert_eq!(rt; none, Err(JournalError::ItemPruned(2)));
+    assert_eq!(rt;
+        recovery.truncate(&mut vol, 1).err(),
+        Some(JournalError::ItemPruned(1))
+    );
+    Ok(())
+}
+
+/// Clears a log, appends an item, syncs it in both other ways and reads it. It answers the log's bounds.
+fn one_by_one<J: Backing>(
+    vol: &mut MemoryVolume,
+    cfg: J::Config,
+    again: &J::Config,
+    item: &J::Item,
+) -> Result<(u64, u64), JournalError> {
+    let journal = J::clear(vol, cfg, 3)?.finish(vol, 3)?;
+    let (journal, position) = journal.append(vol, item)?;
+    let journal = journal.commit(vol)?;
+    let (journal, ticket) = journal.start_sync(vol)?;
+    ticket.settle()?;
+    let _item = journal.read(vol, position)?;
+    J::span(vol, again)
+}
+
+#[test]
+fn appends_and_reads_one_item_at_both_kinds(rt: HostRuntime) -> Result<(), Fail> {
+    let alloc = rt.alloc();
+    let mut vol = MemoryVolume::new(alloc);
+    let cfg = config(alloc, ())?;
+    let again = config(alloc, ())?;
+    let fixed = one_by_one::<FixedJournal<U64>>(&mut vol, cfg, &again, &U64::new(7))?;
+    assert_eq!(rt; fixed, (3, 4));
+    let cfg = config(alloc, LengthCfg { max: 9 })?;
+    let again = config(alloc, LengthCfg { max: 9 })?;
+    let word = Bytes::from_slice(alloc, b"seven")?;
+    let variable = one_by_one::<VariableJournal<Bytes>>(&mut vol, cfg, &again, &word)?;
+    assert_eq!(rt; variable, (3, 4));
     Ok(())
 }
 
