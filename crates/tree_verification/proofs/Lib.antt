@@ -1,4 +1,5 @@
 mod CoverLemmas
+mod NeededLemmas
 mod NodeLemmas
 mod WalkLemmas
 mod SeveralLemmas

@@ -11,7 +11,7 @@ mod several;
 mod walk;
 mod wanted;
 
-pub use laws::range_proofs_check;
+pub use laws::{needed_cover_law, range_proofs_check};
 pub use memory::{proof_from_memory, range_proof_from_memory};
 pub use ranges::{historical_range_proof, range_proof};
 pub use several::multi_proof;
