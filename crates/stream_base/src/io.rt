@@ -1,5 +1,5 @@
 //! Streams of bytes.
-ghost use Rattle.std.specs.Prelude.{ℕ, ◌<◌, List, length, OnOk, IfOk};
+ghost use Rattle.std.specs.Prelude.{◌≡◌, ℕ, ◌<◌, List, length, OnOk, IfOk};
 ghost use Rattle.std.specs.declared.option.Option.{Option};
 ghost use Rattle.std.specs.Io.{ReadsAtMost, WritesAtMost};
 ghost use Rattle.std.specs.Io.KnownBytes.{ReadConsumes, WriteAppends, Keeps};
@@ -25,7 +25,9 @@ pub trait Source {
     fn read(&mut self, buf: &mut [u8]) -> Result<usize, ReadFailed>
         ensures bound { ReadsAtMost result buf.new }
         ensures bytes { ReadConsumes (left self.old) (left self.new) result buf.new }
-        ensures cause { HasCause (faults self.old) (faults self.new) result };
+        ensures cause { HasCause (faults self.old) (faults self.new) result }
+        // A read that succeeds counts nothing.
+        ensures kept { OnOk result (faults self.new ≡ faults self.old) };
 }
 
 /// What can be written to.
@@ -44,11 +46,14 @@ pub trait Sink {
         ensures bound { WritesAtMost result buf.now }
         ensures some { 0 < length buf.now → IfOk result (λ n. 0 < n) }
         ensures bytes { WriteAppends (written self.old) (written self.new) result buf.now }
-        ensures cause { HasCause (faults self.old) (faults self.new) result };
+        ensures cause { HasCause (faults self.old) (faults self.new) result }
+        // A write that succeeds counts nothing.
+        ensures kept { OnOk result (faults self.new ≡ faults self.old) };
 
     /// Passes on what was written.
     fn flush(&mut self) -> Result<(), WriteFailed>
         ensures passed { OnOk result (flushed self.new) }
         ensures bytes { Keeps (written self.old) (written self.new) }
-        ensures cause { HasCause (faults self.old) (faults self.new) result };
+        ensures cause { HasCause (faults self.old) (faults self.new) result }
+        ensures kept { OnOk result (faults self.new ≡ faults self.old) };
 }

@@ -1,5 +1,5 @@
 //! Whole streams.
-ghost use Rattle.std.specs.Prelude.{◌≡◌, ℕ, ◌<◌, ◌≤◌, List, length, OnErr, IfOk, IfSome, IsErrOf};
+ghost use Rattle.std.specs.Prelude.{◌≡◌, ℕ, ◌<◌, ◌≤◌, List, length, OnOk, OnErr, IfOk, IfSome, IsErrOf};
 ghost use Rattle.std.specs.Io.KnownBytes.{Consumes, IsAtEnd};
 ghost use Rattle.stream_base.specs.declared.whole.ReadAllError.TheVariants.{Failed};
 ghost use Rattle.codec_base.specs.Causes.{HasCause, Rose};
@@ -34,6 +34,8 @@ pub fn read_all<S: Source>(alloc: Global, source: &mut S, limit: u64) -> Result<
     ensures long { IsErrOf result ReadAllError.TooLong → IfSome (S.left source.old) (λ left. limit < length left) }
     ensures failed { IsErrOf result ReadAllError.Failed → Rose (S.faults source.old) (S.faults source.new) }
     ensures later { S.faults source.old ≤ S.faults source.new }
+    // It ends at the first fault.
+    ensures kept { OnOk result (S.faults source.new ≡ S.faults source.old) }
     ensures err { OnErr result (ReadsFront (S.left source.old) (S.left source.new)) }
 {
     let mut bytes = Bytes::new(alloc);
@@ -56,6 +58,8 @@ pub fn read_all<S: Source>(alloc: Global, source: &mut S, limit: u64) -> Result<
 pub fn write_all<K: Sink>(sink: &mut K, bytes: &[u8]) -> Result<(), WriteFailed>
     ensures text { Writes (K.written sink.old) (K.written sink.new) result bytes.now }
     ensures cause { HasCause (K.faults sink.old) (K.faults sink.new) result }
+    // It ends at the first fault.
+    ensures kept { OnOk result (K.faults sink.new ≡ K.faults sink.old) }
 {
     let mut done = 0;
     while done < bytes.len() {

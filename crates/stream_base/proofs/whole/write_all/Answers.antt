@@ -1,4 +1,4 @@
-use Rattle.std.proofs.Common.{take, drop, arith}
+use Rattle.std.proofs.Common.{◌∙◌, take, drop, arith}
 use Rattle.stream_base.specs.Writing.{writes_err}
 use Rattle.std.proofs.Common.{sym}
 use Rattle.std.proofs.lemmas.List.{take-append-drop}
@@ -10,7 +10,7 @@ loop-done-preserved g c =
     let w = (c.in_ok-done.ensures {u = tt}) in
     record {
       written = rw take-then (Appends-append _ _ _ _ _ c.loop-done.invariant.written (rw take-rest at w.bytes));
-      later = omega (arith, w.cause.later, c.loop-done.invariant.later);
+      kept = w.kept ∙ c.loop-done.invariant.kept;
       within = (let b = w.bound in omega (arith, b));
     }
 
