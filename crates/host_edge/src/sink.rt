@@ -1,7 +1,8 @@
-ghost use Rattle.std.specs.Prelude.{◌≡◌, ◌<◌, ◌≤◌, length, IfOk, OnOk};
+ghost use Rattle.std.specs.Prelude.{◌≡◌, ◌≢◌, ◌<◌, ◌+◌, ◌-◌, ◌^◌, min, length, IfOk, IsOk, OnOk, OnErr};
 ghost use Rattle.std.specs.Io.{WritesAtMost};
 ghost use Rattle.std.specs.Io.KnownBytes.{WriteAppends, Keeps};
-ghost use Rattle.codec_base.specs.Causes.{HasCause, Rose};
+ghost use Rattle.std.specs.IoError.{error_kind};
+ghost use Rattle.codec_base.specs.Causes.{HasCause};
 
 use std::io::{self, ErrorKind};
 use stream_base::{Sink, WriteFailed};
@@ -29,18 +30,39 @@ impl<W: io::Write> StdSink<W> {
         }
     }
 
-    fn failed(&mut self) -> WriteFailed
-        ensures counted { Rose (⟦<StdSink<W> as Sink>⟧.faults self.old) (⟦<StdSink<W> as Sink>⟧.faults self.new) }
-        ensures later { ⟦<StdSink<W> as Sink>⟧.faults self.old ≤ ⟦<StdSink<W> as Sink>⟧.faults self.new }
+    fn count_fault(&mut self)
+        ensures counted { self.new.faults ≡ min (self.old.faults + 1) (2 ^ 64 - 1) }
         ensures writer { self.new.writer ≡ self.old.writer }
+        ensures waits { self.new.waits ≡ self.old.waits }
     {
         self.faults = self.faults.saturating_add(1);
+    }
+
+    /// Counts a call that has failed. An interruption is no failure.
+    fn failed(&mut self, _e: &io::Error) -> WriteFailed
+        requires { error_kind _e.now ≢ ErrorKind.Interrupted }
+        ensures counted { self.new.faults ≡ min (self.old.faults + 1) (2 ^ 64 - 1) }
+        ensures writer { self.new.writer ≡ self.old.writer }
+        ensures waits { self.new.waits ≡ self.old.waits }
+    {
+        self.count_fault();
+        WriteFailed {}
+    }
+
+    /// Counts a call that was interrupted at every try.
+    fn gave_up(&mut self, _tries: u64) -> WriteFailed
+        requires { _tries ≡ 2 ^ 64 - 1 }
+        ensures counted { self.new.faults ≡ min (self.old.faults + 1) (2 ^ 64 - 1) }
+        ensures writer { self.new.writer ≡ self.old.writer }
+        ensures waits { self.new.waits ≡ self.old.waits }
+    {
+        self.count_fault();
         WriteFailed {}
     }
 }
 
 impl<W: io::Write> Sink for StdSink<W> {
-    ghost use Rattle.std.specs.Prelude.{IsFalse};
+    ghost use Rattle.std.specs.Prelude.{IsFalse, IsTrue};
 
     ghost written = { λ s. W.contents s.writer };
 
@@ -53,37 +75,50 @@ impl<W: io::Write> Sink for StdSink<W> {
         ensures some { 0 < length buf.now → IfOk result (λ n. 0 < n) }
         ensures bytes { WriteAppends (W.contents self.old.writer) (W.contents self.new.writer) result buf.now }
         ensures cause { HasCause self.old.faults self.new.faults result }
-        // A write that succeeds counts nothing, whatever interrupted it.
-        ensures counted { OnOk result (self.new.faults ≡ self.old.faults) }
+        // A write that succeeds counts nothing, whatever interrupted it; one that fails counts once.
+        ensures kept { OnOk result (self.new.faults ≡ self.old.faults) }
+        ensures counted { OnErr result (self.new.faults ≡ min (self.old.faults + 1) (2 ^ 64 - 1)) }
+        // What was written waits for a flush.
+        ensures waits { IfOk result (λ n. 0 < n → IsTrue self.new.waits) }
+        // Of an empty piece nothing is asked of the writer.
+        ensures empty { length buf.now ≡ 0 → IsOk result × (self.new.writer ≡ self.old.writer) }
     {
+        if buf.is_empty() {
+            return Ok(0);
+        }
         self.waits = true;
-        for _ in 0..u64::MAX {
+        let mut tries = 0;
+        while tries < u64::MAX {
             match self.writer.write(buf) {
-                Ok(0) if !buf.is_empty() => break,
+                Ok(0) => return Err(self.failed(&io::Error::from(ErrorKind::WriteZero))),
                 Ok(count) => return Ok(count),
                 Err(e) if e.kind() == ErrorKind::Interrupted => {}
-                Err(_) => break,
+                Err(e) => return Err(self.failed(&e)),
             }
+            tries += 1;
         }
-        Err(self.failed())
+        Err(self.gave_up(tries))
     }
 
     fn flush(&mut self) -> Result<(), WriteFailed>
         ensures passed { OnOk result (IsFalse self.new.waits) }
         ensures bytes { Keeps (W.contents self.old.writer) (W.contents self.new.writer) }
         ensures cause { HasCause self.old.faults self.new.faults result }
-        ensures counted { OnOk result (self.new.faults ≡ self.old.faults) }
+        ensures kept { OnOk result (self.new.faults ≡ self.old.faults) }
+        ensures counted { OnErr result (self.new.faults ≡ min (self.old.faults + 1) (2 ^ 64 - 1)) }
     {
-        for _ in 0..u64::MAX {
+        let mut tries = 0;
+        while tries < u64::MAX {
             match self.writer.flush() {
                 Ok(()) => {
                     self.waits = false;
                     return Ok(());
                 }
                 Err(e) if e.kind() == ErrorKind::Interrupted => {}
-                Err(_) => break,
+                Err(e) => return Err(self.failed(&e)),
             }
+            tries += 1;
         }
-        Err(self.failed())
+        Err(self.gave_up(tries))
     }
 }

@@ -1,6 +1,7 @@
-ghost use Rattle.std.specs.Prelude.{◌≡◌, OnOk};
+ghost use Rattle.std.specs.Prelude.{◌≡◌, ◌≢◌, ◌+◌, ◌-◌, ◌^◌, min, length, IsOk, OnOk, OnErr};
 ghost use Rattle.std.specs.Io.{ReadsAtMost};
 ghost use Rattle.std.specs.Io.KnownBytes.{ReadConsumes};
+ghost use Rattle.std.specs.IoError.{error_kind};
 ghost use Rattle.codec_base.specs.Causes.{HasCause};
 
 use std::io::{self, ErrorKind};
@@ -22,6 +23,33 @@ impl<R: io::Read> StdSource<R> {
     {
         StdSource { reader, faults: 0 }
     }
+
+    fn count_fault(&mut self)
+        ensures counted { self.new.faults ≡ min (self.old.faults + 1) (2 ^ 64 - 1) }
+        ensures reader { self.new.reader ≡ self.old.reader }
+    {
+        self.faults = self.faults.saturating_add(1);
+    }
+
+    /// Counts a read that has failed. An interruption is no failure.
+    fn failed(&mut self, _e: &io::Error) -> ReadFailed
+        requires { error_kind _e.now ≢ ErrorKind.Interrupted }
+        ensures counted { self.new.faults ≡ min (self.old.faults + 1) (2 ^ 64 - 1) }
+        ensures reader { self.new.reader ≡ self.old.reader }
+    {
+        self.count_fault();
+        ReadFailed {}
+    }
+
+    /// Counts a read that was interrupted at every try.
+    fn gave_up(&mut self, _tries: u64) -> ReadFailed
+        requires { _tries ≡ 2 ^ 64 - 1 }
+        ensures counted { self.new.faults ≡ min (self.old.faults + 1) (2 ^ 64 - 1) }
+        ensures reader { self.new.reader ≡ self.old.reader }
+    {
+        self.count_fault();
+        ReadFailed {}
+    }
 }
 
 impl<R: io::Read> Source for StdSource<R> {
@@ -33,17 +61,24 @@ impl<R: io::Read> Source for StdSource<R> {
         ensures bound { ReadsAtMost result buf.new }
         ensures bytes { ReadConsumes (R.remaining self.old.reader) (R.remaining self.new.reader) result buf.new }
         ensures cause { HasCause self.old.faults self.new.faults result }
-        // A read that succeeds counts nothing, whatever interrupted it.
-        ensures counted { OnOk result (self.new.faults ≡ self.old.faults) }
+        // A read that succeeds counts nothing, whatever interrupted it; one that fails counts once.
+        ensures kept { OnOk result (self.new.faults ≡ self.old.faults) }
+        ensures counted { OnErr result (self.new.faults ≡ min (self.old.faults + 1) (2 ^ 64 - 1)) }
+        // Where there is no room nothing is asked of the reader.
+        ensures no_room { length buf.old ≡ 0 → IsOk result × (self.new.reader ≡ self.old.reader) }
     {
-        for _ in 0..u64::MAX {
+        if buf.is_empty() {
+            return Ok(0);
+        }
+        let mut tries = 0;
+        while tries < u64::MAX {
             match self.reader.read(buf) {
                 Ok(count) => return Ok(count),
                 Err(e) if e.kind() == ErrorKind::Interrupted => {}
-                Err(_) => break,
+                Err(e) => return Err(self.failed(&e)),
             }
+            tries += 1;
         }
-        self.faults = self.faults.saturating_add(1);
-        Err(ReadFailed {})
+        Err(self.gave_up(tries))
     }
 }
