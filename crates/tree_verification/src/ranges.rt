@@ -59,6 +59,8 @@ pub fn historical_range_proof<F: Family, S: Storage<F>, V: Volume>(
 ) -> Result<Proof<F, S::Digest>, Error<F>>
     requires { inactive_peaks ≤ length (F.shape.heights leaves) }
     ensures refused { (e : Error F) → range_answer (S.leaves store.now) leaves start end ≡ Err e → result ≡ Err e }
+    // Such a refusal comes before the volume is called.
+    ensures uncalled { (e : Error F) → range_answer (S.leaves store.now) leaves start end ≡ Err e → vol.new ≡ vol.old }
     ensures within { IfOk result (λ proof. range_answer {F = F} (S.leaves store.now) leaves start end ≡ Ok tt) }
     ensures form { IfOk result (HasForm F.shape leaves inactive_peaks (meets start end)) }
     ensures proof { IfOk result (λ proof. V.tells → S.held store.now (present (V.state vol.old)) → (h : Hashing S.Digest) (all : List S.Digest) →
@@ -88,6 +90,7 @@ pub fn range_proof<F: Family, S: Storage<F>, V: Volume>(
 ) -> Result<Proof<F, S::Digest>, Error<F>>
     requires { inactive_peaks ≤ length (F.shape.heights (S.leaves store.now)) }
     ensures refused { (e : Error F) → range_answer (S.leaves store.now) (S.leaves store.now) start end ≡ Err e → result ≡ Err e }
+    ensures uncalled { (e : Error F) → range_answer (S.leaves store.now) (S.leaves store.now) start end ≡ Err e → vol.new ≡ vol.old }
     ensures within { IfOk result (λ proof. range_answer {F = F} (S.leaves store.now) (S.leaves store.now) start end ≡ Ok tt) }
     ensures form { IfOk result (HasForm F.shape (S.leaves store.now) inactive_peaks (meets start end)) }
     ensures proof { IfOk result (λ proof. V.tells → S.held store.now (present (V.state vol.old)) → (h : Hashing S.Digest) (all : List S.Digest) →

@@ -29,6 +29,8 @@ pub fn multi_proof<F: Family, S: Storage<F>, V: Volume>(
 ) -> Result<Proof<F, S::Digest>, Error<F>>
     requires { inactive_peaks ≤ length (F.shape.heights (S.leaves store.now)) }
     ensures refused { (e : Error F) → several_answer (S.leaves store.now) locations.now ≡ Err e → result ≡ Err e }
+    // Such a refusal comes before the volume is called.
+    ensures uncalled { (e : Error F) → several_answer (S.leaves store.now) locations.now ≡ Err e → vol.new ≡ vol.old }
     ensures within { IfOk result (λ proof. several_answer {F = F} (S.leaves store.now) locations.now ≡ Ok tt) }
     ensures form { IfOk result (HasForm F.shape (S.leaves store.now) inactive_peaks (holds_one locations.now)) }
     ensures proof { IfOk result (λ proof. V.tells → S.held store.now (present (V.state vol.old)) → (h : Hashing S.Digest) (all : List S.Digest) →
