@@ -42,7 +42,8 @@ pub trait BackingRecovery: Sized + Drop {
         ensures listed { V.tells → IsWithin (view self.now) (V.state vol.old) → (list : List Self.Item) (x : Self.Item) → Spells Self.Item.spelling list ((V.state vol.old).log (view self.now).name) → slice_get list position ≡ Some x → Self.Item.admits (view self.now).codec x → IfOk result (λ item. item ≡ x) }
         ensures errors { IfErr result IsOfRead }
         ensures answers { Reads V.tells Volume (V.state vol.old) (V.state vol.new) result }
-        ensures reads { (V.state vol.new).reads ≤ (V.state vol.old).reads + 1 };
+        ensures reads { (V.state vol.new).reads ≤ (V.state vol.old).reads + 1 }
+        ensures counted { OnOk result ((V.state vol.new).reads ≡ min ((V.state vol.old).reads + 1) (2 ^ 64 - 1)) };
 
     /// The end behind the last item below a ceiling that a predicate answers. It reads each item at most once.
     fn last_matching<V: Volume, P: Fn(&Self::Item) -> bool>(
@@ -55,10 +56,12 @@ pub trait BackingRecovery: Sized + Drop {
         ensures found { IfOk result (λ end. V.tells → IsWithin (view self.now) (V.state vol.old) → IsLastMatch Self.Item.spelling (Self.Item.admits (view self.now).codec) (FnReturnsAt P.Fn predicate) ((V.state vol.old).log (view self.now).name) (view self.now).start (min ceiling (view self.now).end) end ⊎ ((end ≡ 0) × ((view self.now).start ≡ 0) × NoneMatches Self.Item.spelling (Self.Item.admits (view self.now).codec) (FnReturnsAt P.Fn predicate) ((V.state vol.old).log (view self.now).name) 0 (min ceiling (view self.now).end))) }
         ensures pruned { V.tells → IsWithin (view self.now) (V.state vol.old) → (p : ℕ) → IsErrOf result (ItemPruned p) → ((p ≡ ceiling) × (ceiling < (view self.now).start)) ⊎ ((p ≡ (view self.now).start) × (0 < (view self.now).start) × ((view self.now).start ≤ ceiling) × NoneMatches Self.Item.spelling (Self.Item.admits (view self.now).codec) (FnReturnsAt P.Fn predicate) ((V.state vol.old).log (view self.now).name) (view self.now).start (min ceiling (view self.now).end)) }
         ensures not_out_of_range { V.tells → IsWithin (view self.now) (V.state vol.old) → (p : ℕ) → IsErrOf result (ItemOutOfRange p) → ⊥ }
-        ensures corrupt { V.tells → (p : ℕ) → IsErrOf result (Corruption p) → ((view self.now).start ≤ p) × (p < min ceiling (view self.now).end) × IsCorrupt Self.Item.spelling (Self.Item.admits (view self.now).codec) ((V.state vol.old).log (view self.now).name) p }
+        ensures corrupt { V.tells → (p : ℕ) → IsErrOf result (Corruption p) → ((view self.now).start ≤ p) × (p < min ceiling (view self.now).end) × IsCorrupt Self.Item.spelling (Self.Item.admits (view self.now).codec) ((V.state vol.old).log (view self.now).name) p × NoneMatches Self.Item.spelling (Self.Item.admits (view self.now).codec) (FnReturnsAt P.Fn predicate) ((V.state vol.old).log (view self.now).name) (p + 1) (min ceiling (view self.now).end) }
         ensures errors { IfErr result IsOfRead }
         ensures answers { Reads V.tells Volume (V.state vol.old) (V.state vol.new) result }
-        ensures reads { (V.state vol.new).reads ≤ (V.state vol.old).reads + (min ceiling (view self.now).end - (view self.now).start) };
+        ensures reads { (V.state vol.new).reads ≤ (V.state vol.old).reads + (min ceiling (view self.now).end - (view self.now).start) }
+        // Each item behind the match was read.
+        ensures counted { IfOk result (λ end. min ((V.state vol.old).reads + (min ceiling (view self.now).end - end)) (2 ^ 64 - 1) ≤ (V.state vol.new).reads) };
 
     /// Leaves an empty log at a position.
     fn reset<V: Volume>(self, vol: &mut V, size: u64) -> Result<Self, JournalError>

@@ -1,4 +1,4 @@
-ghost use Rattle.std.specs.Prelude.{◌≡◌, ◌+◌, ◌-◌, ◌<◌, ◌≤◌, ◌^◌, ℕ, List, min, length, Some, slice_get, IfOk, IfErr, IsErrOf};
+ghost use Rattle.std.specs.Prelude.{◌≡◌, ◌+◌, ◌-◌, ◌<◌, ◌≤◌, ◌^◌, ℕ, List, min, length, Some, slice_get, IfOk, IfErr, OnOk, IsErrOf};
 ghost use Rattle.journal_base.specs.Answers.{IsOfRead, IsOfRange};
 ghost use Rattle.journal_base.specs.Items.{IsCorrupt, Spells};
 ghost use Rattle.journal_base.specs.Reads.{AreItemsAt, IsFirstFailing};
@@ -50,7 +50,8 @@ pub trait Contiguous: Sized + Drop {
         ensures corrupt { V.tells → (p : ℕ) → IsErrOf result (Corruption p) → IsFirstFailing Self.Item.spelling (Self.Item.admits (view self.now).codec) ((V.state vol.old).log (view self.now).name) positions.now p × IsCorrupt Self.Item.spelling (Self.Item.admits (view self.now).codec) ((V.state vol.old).log (view self.now).name) p }
         ensures errors { IfErr result IsOfRead }
         ensures answers { Reads V.tells Volume (V.state vol.old) (V.state vol.new) result }
-        ensures reads { (V.state vol.new).reads ≤ (V.state vol.old).reads + length positions.now };
+        ensures reads { (V.state vol.new).reads ≤ (V.state vol.old).reads + length positions.now }
+        ensures counted { OnOk result (min ((V.state vol.old).reads + length positions.now) (2 ^ 64 - 1) ≤ (V.state vol.new).reads) };
 
     /// The items from a position on to another, to be read one by one.
     fn replay(&self, from: u64, to: u64) -> Result<Replay<'_, Self>, JournalError>

@@ -1,5 +1,5 @@
 //! Items that a predicate answers.
-ghost use Rattle.std.specs.Prelude.{◌≡◌, ◌≤◌, ◌<◌, ◌+◌, ◌-◌, ℕ, MatchOption, IfOk, IfErr, IsErrOf};
+ghost use Rattle.std.specs.Prelude.{◌≡◌, ◌≤◌, ◌<◌, ◌+◌, ◌-◌, ◌^◌, ℕ, min, MatchOption, IfOk, IfErr, IsErrOf};
 ghost use Rattle.std.specs.Fn.{FnReturnsAt};
 ghost use Rattle.journal_base.specs.Answers.{IsOfRead};
 ghost use Rattle.journal_base.specs.Items.{IsCorrupt};
@@ -27,6 +27,7 @@ pub(crate) fn match_below<J: Contiguous, V: Volume, P: Fn(&J::Item) -> bool>(
     ensures errors { IfErr result IsOfRead }
     ensures answers { Reads V.tells JournalError.Volume (V.state vol.old) (V.state vol.new) result }
     ensures reads { (V.state vol.new).reads ≤ (V.state vol.old).reads + (top - (J.view journal.now).start) }
+    ensures counted { IfOk result (λ found. MatchOption found (min ((V.state vol.old).reads + (top - (J.view journal.now).start)) (2 ^ 64 - 1) ≤ (V.state vol.new).reads) (λ end. min ((V.state vol.old).reads + (top - end)) (2 ^ 64 - 1) ≤ (V.state vol.new).reads)) }
 {
     let (start, _) = journal.bounds();
     let mut end = top;

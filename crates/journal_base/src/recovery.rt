@@ -24,6 +24,8 @@ fn cut_down<V: Volume>(vol: &mut V, name: &str, end: u64, to: u64) -> Result<(),
     requires low { V.tells → ((V.state vol.old).log name.now).start ≤ to }
     requires end_is { V.tells → end ≡ end_of ((V.state vol.old).log name.now) }
     ensures cut { OnOk result (V.tells → (V.state vol.new).log name.now ≡ cut_to ((V.state vol.old).log name.now) to) }
+    // Where the end doesn't fall nothing is written.
+    ensures still { end ≤ to → vol.new ≡ vol.old }
     ensures others { V.tells → OnlyLog name.now (V.state vol.old) (V.state vol.new) }
     ensures images { V.tells → LogMoves name.now (Shrinks to) (V.state vol.old) (V.state vol.new) }
     ensures errors { IfErr result IsOfVolume }
@@ -128,6 +130,8 @@ impl<T: Write + EncodeSize + Read + Duplicate + Drop, K: Kind<T>> Recovery<T, K>
         ensures end { IfOk result (λ made. V.tells → IsWithin (⟦<Recovery<T, K> as BackingRecovery>⟧.view self) (V.state vol.old) → (⟦<Recovery<T, K> as BackingRecovery>⟧.view made).end ≡ min size (⟦<Recovery<T, K> as BackingRecovery>⟧.view self).end) }
         ensures within { IfOk result (λ made. V.tells → IsWithin (⟦<Recovery<T, K> as BackingRecovery>⟧.view made) (V.state vol.new)) }
         ensures cut { OnOk result (V.tells → (V.state vol.new).log (⟦<Recovery<T, K> as BackingRecovery>⟧.view self).name ≡ cut_to ((V.state vol.old).log (⟦<Recovery<T, K> as BackingRecovery>⟧.view self).name) (min size (⟦<Recovery<T, K> as BackingRecovery>⟧.view self).end)) }
+        // Where the log's end doesn't fall nothing is written.
+        ensures still { V.tells → end_of ((V.state vol.old).log (⟦<Recovery<T, K> as BackingRecovery>⟧.view self).name) ≤ min size (⟦<Recovery<T, K> as BackingRecovery>⟧.view self).end → (V.state vol.new).clock ≡ (V.state vol.old).clock }
         ensures others { V.tells → OnlyLog (⟦<Recovery<T, K> as BackingRecovery>⟧.view self).name (V.state vol.old) (V.state vol.new) }
         ensures images { V.tells → LogMoves (⟦<Recovery<T, K> as BackingRecovery>⟧.view self).name (Shrinks (min size (⟦<Recovery<T, K> as BackingRecovery>⟧.view self).end)) (V.state vol.old) (V.state vol.new) }
         // A refusal by name comes before anything is written.

@@ -12,6 +12,7 @@ loop-end-init g c = record {
   so_far = only_read_none _ _;
   none = λ told p lo hi. absurd (omega arith);
   reads = omega arith;
+  counted = omega arith;
 }
 
 pub returns-in_err-item-clause-not_pruned : goal.returns-in_err-item-clause-not_pruned
@@ -79,6 +80,7 @@ loop-end-preserved g c =
         answered = record { shown = _; shows = refl; says = record { met = c.if-predicate.ensures } };
       });
       reads = omega (arith, c.read.ensures.reads);
+      counted = omega (arith, c.read.ensures.reads, c.loop-end.invariant.counted);
     }
 
 pub returns-clause-found : goal.returns-clause-found

@@ -42,4 +42,5 @@ loop-position-preserved g c =
           subst (λ (ps : List ℕ). AreItemsAt g.T.Spelled.spelling (g.T.Read.admits c.args.self.now.codec) log ps c.push.new.self.items) (sym (take_more positions i c.loop-position-test.true))
           (subst (λ xs. AreItemsAt g.T.Spelled.spelling (g.T.Read.admits c.args.self.now.codec) log (take i positions ++ get_or positions i 0 ∷ []) xs) (sym pushed) more);
       reads = omega (arith, c.read.ensures.reads, c.loop-position.invariant.reads);
+      counted = omega (arith, c.read.ensures.reads, c.loop-position.invariant.counted);
     }
