@@ -44,10 +44,12 @@ fn read_commands<I: Source>(alloc: Global, input: &mut I) -> Result<Vec<Command>
 fn put_out<O: Sink>(replies: &Replies, output: &mut O) -> Result<(), WriteFailed>
     ensures text { Writes (O.written output.old) (O.written output.new) result (text_of replies.now) }
     ensures flushed { OnOk result (O.flushed output.new) }
+    ensures passed_on { O.flushed output.new ⊎ Rose (O.faults output.old) (O.faults output.new) }
     ensures cause { HasCause (O.faults output.old) (O.faults output.new) result }
 {
     write_replies(replies, output)?;
-    output.flush()
+    output.flush()?;
+    Ok(())
 }
 
 /// How the program ends after this fault of its run.
@@ -70,6 +72,7 @@ fn run_and_write<O: Sink, V: Volume>(
 ) -> Status
     ensures run { IsRunStatus commands.now (O.written output.old) (O.written output.new) (O.faults output.old) (O.faults output.new) (V.state volume.old).faults (V.state volume.new).faults result }
     ensures flushed { result ≡ Status.Done → O.flushed output.new }
+    ensures passed_on { O.flushed output.new ⊎ (Rose (O.faults output.old) (O.faults output.new) ⊎ (output.new ≡ output.old)) }
     ensures fresh { ((result ≡ Status.Done) ⊎ (result ≡ Status.WriteFault)) → V.tells → IsFresh standard_config (V.state volume.old).log (V.state volume.old).map }
     ensures not_fresh { result ≡ Status.NotFresh → V.tells → IsFresh standard_config (V.state volume.old).log (V.state volume.old).map → ⊥ }
     ensures unopened { ((result ≡ Status.Volume) ⊎ (result ≡ Status.NotFresh)) → Appends (O.written output.old) (O.written output.new) [] }
@@ -78,6 +81,7 @@ fn run_and_write<O: Sink, V: Volume>(
     ensures clock { (V.state volume.new).clock ≡ (V.state volume.old).clock }
     ensures contents { V.tells → SameContents (V.state volume.old) (V.state volume.new) }
     ensures images { V.tells → PastStays (V.state volume.old) (V.state volume.new) }
+    ensures reads { (V.state volume.new).reads ≡ (V.state volume.old).reads }
 
     // Over a fresh volume with nothing set to fail the run ends by no fault but want of memory.
     ensures complete { (V.state volume.old).steady → (V.state volume.old).faults < 2 ^ 64 - 1 → V.tells → IsFresh standard_config (V.state volume.old).log (V.state volume.old).map → ((result ≡ Status.Volume) ⊎ (result ≡ Status.NotFresh)) → ⊥ }
@@ -107,6 +111,7 @@ pub fn twins_main<I: Source, O: Sink, V: Volume>(
     volume: &mut V,
 ) -> Status
     ensures words { (result ≡ Status.BadWords) ↔ (0 < length words.now) }
+    ensures unread { result ≡ Status.BadWords → input.new ≡ input.old }
     ensures early { IsEarly result → (output.new ≡ output.old) × (volume.new ≡ volume.old) }
 
     // Before the run.
@@ -130,10 +135,14 @@ pub fn twins_main<I: Source, O: Sink, V: Volume>(
     // Want of memory, in the run or before it.
     ensures memory { result ≡ Status.Memory → ((output.new ≡ output.old) × (volume.new ≡ volume.old)) ⊎ IsStopped (I.left input.old) (I.left input.new) (O.written output.old) (O.written output.new) (O.faults output.old) (O.faults output.new) }
 
+    // Whatever is answered, what was written is passed on, or the sink has failed.
+    ensures passed_on { O.flushed output.new ⊎ (Rose (O.faults output.old) (O.faults output.new) ⊎ (output.new ≡ output.old)) }
+
     // The volume stays as it was, whatever is answered.
     ensures clock { (V.state volume.new).clock ≡ (V.state volume.old).clock }
     ensures contents { V.tells → SameContents (V.state volume.old) (V.state volume.new) }
     ensures images { V.tells → PastStays (V.state volume.old) (V.state volume.new) }
+    ensures reads { (V.state volume.new).reads ≡ (V.state volume.old).reads }
 
     // Over a fresh volume with nothing set to fail the run ends by no fault but want of memory.
     ensures complete { (V.state volume.old).steady → (V.state volume.old).faults < 2 ^ 64 - 1 → V.tells → IsFresh standard_config (V.state volume.old).log (V.state volume.old).map → ((result ≡ Status.Volume) ⊎ (result ≡ Status.NotFresh)) → ⊥ }

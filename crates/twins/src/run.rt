@@ -40,6 +40,7 @@ fn check_log<V: Volume>(volume: &mut V, name: &str) -> Result<(), Fault>
     ensures fresh { OnOk result (V.tells → IsFreshLog ((V.state volume.old).log name.now)) }
     ensures not_fresh { IsErrOf result Fault.NotFresh → V.tells → IsFreshLog ((V.state volume.old).log name.now) → ⊥ }
     ensures reads { Reads V.tells Fault.Volume (V.state volume.old) (V.state volume.new) result }
+    ensures no_item { (V.state volume.new).reads ≡ (V.state volume.old).reads }
 {
     match volume.log_bounds(name) {
         Ok((0, 0)) => Ok(()),
@@ -55,6 +56,7 @@ fn check_map<V: Volume>(volume: &mut V, name: &str) -> Result<(), Fault>
     ensures fresh { OnOk result (V.tells → (V.state volume.old).map name.now ≡ map.empty) }
     ensures not_fresh { IsErrOf result Fault.NotFresh → V.tells → (V.state volume.old).map name.now ≡ map.empty → ⊥ }
     ensures reads { Reads V.tells Fault.Volume (V.state volume.old) (V.state volume.new) result }
+    ensures no_item { (V.state volume.new).reads ≡ (V.state volume.old).reads }
 {
     match volume.map_get(name) {
         Ok(found) => {
@@ -75,6 +77,7 @@ fn check_fresh<V: Volume>(config: &TwinConfig, volume: &mut V) -> Result<(), Fau
     ensures fresh { OnOk result (V.tells → IsFresh config.now (V.state volume.old).log (V.state volume.old).map) }
     ensures not_fresh { IsErrOf result Fault.NotFresh → V.tells → IsFresh config.now (V.state volume.old).log (V.state volume.old).map → ⊥ }
     ensures reads { Reads V.tells Fault.Volume (V.state volume.old) (V.state volume.new) result }
+    ensures no_item { (V.state volume.new).reads ≡ (V.state volume.old).reads }
 {
     check_log(volume, config.log())?;
     check_log(volume, config.nodes())?;
@@ -97,6 +100,8 @@ pub fn run_twins<V: Volume>(
     ensures clock { (V.state volume.new).clock ≡ (V.state volume.old).clock }
     ensures contents { V.tells → SameContents (V.state volume.old) (V.state volume.new) }
     ensures images { V.tells → PastStays (V.state volume.old) (V.state volume.new) }
+    // No item of a log is read.
+    ensures reads { (V.state volume.new).reads ≡ (V.state volume.old).reads }
 
     // When each fault comes.
     ensures volume { IfErr result (λ s. s.fault ≡ Fault.Volume → Rose (V.state volume.old).faults (V.state volume.new).faults) }
