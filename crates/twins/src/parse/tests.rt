@@ -1,6 +1,7 @@
 use super::{LineError, parse_commands};
 use crate::command::Command;
 use codec_base::Bytes;
+use std::process::Abort;
 use std::test::Fail;
 
 #[test]
@@ -42,49 +43,70 @@ fn skips_comments_and_empty_lines(rt: HostRuntime) -> Result<(), Fail> {
     Ok(())
 }
 
+/// Each of these lines is no command.
+fn refuse_each(rt: &(impl Abort + AllocGlobal), lines: &[&[u8]]) {
+    for line in lines {
+        let why = parse_commands(rt.alloc(), line).err();
+        assert_eq!(rt; why, Some(LineError::Bad(1)), "{line:?}");
+    }
+}
+
 #[test]
 fn names_the_first_bad_line(rt: HostRuntime) -> Result<(), Fail> {
     let alloc = rt.alloc();
-    let cases: [(&[u8], u64); 35] = [
+    let cases: [(&[u8], u64); 3] = [
         (b"size\nfoo\nfoo", 2),
         (b"\n# one\n\nsize\nfoo\n# two\nfoo", 5),
         (b" # new\n", 1),
-        (b"new\r\n", 1),
-        (b"New\n", 1),
-        (b" new\n", 1),
-        (b"new \n", 1),
-        (b"new 00\n", 1),
-        (b"new 0 0\n", 1),
-        (b"new \n", 1),
-        (b"size 0\n", 1),
-        (b"new\0\n", 1),
-        (b"append 0\n", 1),
-        (b"append 0 \n", 1),
-        (b"append 0 6\n", 1),
-        (b"append 0 6g\n", 1),
-        (b"append 0 61 61\n", 1),
-        (b"append  0 61\n", 1),
-        (b"append 00 61\n", 1),
-        (b"append +0 61\n", 1),
-        (b"append -1 61\n", 1),
-        (b"append 18446744073709551616 61\n", 1),
-        (b"append \xff 61\n", 1),
-        (b"append 0 \xff\xff\n", 1),
-        (b"seal 0 -\n", 1),
-        (b"seal 0 -- 0\n", 1),
-        (b"seal 0 - 00\n", 1),
-        (b"seal 0 6 0\n", 1),
-        (b"seal 0 - 0 0\n", 1),
-        (b"metadata 0\n", 1),
-        (b"apply\n", 1),
-        (b"hold\n", 1),
-        (b"hold 0 0\n", 1),
-        (b"release 01\n", 1),
-        (b"snapshot 0\n", 1),
     ];
     for (input, line) in cases {
         let why = parse_commands(alloc, input).err();
         assert_eq!(rt; why, Some(LineError::Bad(line)), "{input:?}");
     }
     Ok(())
+}
+
+#[test]
+fn refuses_lines_of_few_words(rt: HostRuntime) {
+    let lines: [&[u8]; 17] = [
+        b"new\r\n",
+        b"New\n",
+        b" new\n",
+        b"new \n",
+        b"new 00\n",
+        b"new 0 0\n",
+        b"new\0\n",
+        b"size 0\n",
+        b"metadata 0\n",
+        b"apply\n",
+        b"hold\n",
+        b"hold 0 0\n",
+        b"release 01\n",
+        b"snapshot 0\n",
+        b"append 0\n",
+        b"append 0 \n",
+        b"seal 0 -\n",
+    ];
+    refuse_each(&rt, &lines);
+}
+
+#[test]
+fn refuses_numbers_and_bytes(rt: HostRuntime) {
+    let lines: [&[u8]; 14] = [
+        b"append 0 6\n",
+        b"append 0 6g\n",
+        b"append 0 61 61\n",
+        b"append  0 61\n",
+        b"append 00 61\n",
+        b"append +0 61\n",
+        b"append -1 61\n",
+        b"append 18446744073709551616 61\n",
+        b"append \xff 61\n",
+        b"append 0 \xff\xff\n",
+        b"seal 0 -- 0\n",
+        b"seal 0 - 00\n",
+        b"seal 0 6 0\n",
+        b"seal 0 - 0 0\n",
+    ];
+    refuse_each(&rt, &lines);
 }
