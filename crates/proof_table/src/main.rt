@@ -6,6 +6,8 @@ mod cases;
 mod damage;
 mod elements;
 mod error;
+#[cfg(test)]
+mod store_tests;
 mod table;
 #[cfg(test)]
 mod tests;

@@ -5,10 +5,13 @@ use memory_volume::MemoryVolume;
 use std::alloc::Global;
 use std::test::Fail;
 use tree_core::verification::multi_proof;
-use tree_core::{Error, Location, Mem, Position, Proof, Sha256Digest};
+use tree_core::{Error, Family, Location, Mem, Position, Proof, Sha256Digest};
 
 /// The tree of the first numbers.
-fn tree_of(alloc: Global, leaves: u64) -> Result<Mem<Mmr, Sha256Digest>, TableError> {
+pub(crate) fn tree_of<F: Family>(
+    alloc: Global,
+    leaves: u64,
+) -> Result<Mem<F, Sha256Digest>, TableError> {
     let mut tree = Mem::new(alloc)?;
     for element in 0..leaves {
         append(&mut tree, element)?;

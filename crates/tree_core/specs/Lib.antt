@@ -16,6 +16,7 @@ pub use Rattle.tree_proof.specs.Inputs
 pub use Rattle.tree_proof.specs.Pinned
 pub use Rattle.tree_verification.specs.Ranges
 pub use Rattle.tree_verification.specs.Several
+pub use Rattle.tree_verification.specs.Told
 pub use Rattle.tree_store.specs.Errors
 pub use Rattle.tree_store.specs.Stores
 pub use Rattle.tree_store.specs.declared.error.Error as TreeErrors

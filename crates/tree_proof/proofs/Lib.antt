@@ -8,3 +8,4 @@ mod Soundness
 pub mod CoverSteps
 mod LeftLemmas
 mod PinnedLemmas
+pub mod Rises

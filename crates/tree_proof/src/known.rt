@@ -7,7 +7,7 @@ use codec_base::Bytes;
 use tree_shape::{Family, Hasher, Position, Standard, width};
 
 /// Leaves that are known.
-pub(crate) trait Known<F: Family, H: Hasher> {
+pub trait Known<F: Family, H: Hasher> {
     /// Whether a node is made from what is known, by its first leaf and height.
     ghost met: { Self → Met };
 
@@ -34,9 +34,9 @@ pub(crate) trait Known<F: Family, H: Hasher> {
 
 /// The items of the leaves from one on.
 #[derive(Drop)]
-pub(crate) struct Items<'a> {
-    pub(crate) start: u64,
-    pub(crate) items: &'a [Bytes],
+pub struct Items<'a> {
+    pub start: u64,
+    pub items: &'a [Bytes],
 }
 
 impl<F: Family, H: Hasher> Known<F, H> for Items<'_> {

@@ -50,7 +50,7 @@ module _ (s : Shape) (cs : List (ℕ × ℕ)) (met : Met) where
   over-placed e w [] a = tt
   over-placed e w (p ∷ ps) a = all-append (IsPlaced s cs) (cover_in met p.0 p.1) (cover_over met ps) (inside-placed e w p.0 p.1 a.0) (over-placed e w ps a.1)
 
-peaks-placed : (s : Shape) (cs : List (ℕ × ℕ)) (e : ℕ) (hs : List ℕ) → PeaksStand s cs e hs → ArePlaced s cs (peaks_down e hs)
+pub peaks-placed : (s : Shape) (cs : List (ℕ × ℕ)) (e : ℕ) (hs : List ℕ) → PeaksStand s cs e hs → ArePlaced s cs (peaks_down e hs)
 peaks-placed s cs e [] p = tt
 peaks-placed s cs e (k ∷ ks) p = (p.1, peaks-placed s cs (e - 2 ^ k) ks p.2)
 

@@ -3,3 +3,9 @@ mod NeededLemmas
 mod NodeLemmas
 mod WalkLemmas
 mod SeveralLemmas
+mod KeyLemmas
+mod ToldPlaced
+mod FoundLemmas
+mod ToldLemmas
+mod FitLemmas
+mod TreeLemmas

@@ -1,0 +1,148 @@
+//! A store of the nodes that a proof tells.
+use crate::bounds::check_told;
+use crate::told::tell_peaks;
+use codec_base::Bytes;
+use std::alloc::Global;
+use std::collections::BTreeMap;
+use std::marker::{Model, PhantomData};
+use tree_proof::{Items, Proof};
+use tree_shape::{Digest, Family, Hasher, Location, Position, Standard};
+use tree_store::{Error, Storage};
+use volume_base::Volume;
+
+/// The nodes of a tree that a proof and its elements tell: those of the cover, the leaves of the elements, and each node over them.
+#[derive(Drop)]
+pub struct ProofStore<F: Family, D: Digest> {
+    alloc: Global,
+    leaves: u64,
+    nodes: BTreeMap<u64, D>,
+    family: PhantomData<F>,
+}
+
+impl<F: Family, D: Digest> Model for ProofStore<F, D> {
+    ghost use Rattle.std.specs.Prelude.{◌≤◌, ◌^◌};
+    ghost use Rattle.tree_verification.specs.Told.{ToldTree};
+
+    ghost Value = { ToldTree D };
+
+    ghost view = { λ t. record { leaves = t.leaves; nodes = t.nodes.entries } };
+
+    ghost invariant = { λ t. t.leaves ≤ 2 ^ 62 };
+}
+
+impl<F: Family, D: Digest> ProofStore<F, D> {
+    ghost use Rattle.std.specs.Prelude.{◌≡◌, ℕ, ◌+◌, List, length, slice_range, Ok, Err, IfOk, IfErr};
+    ghost use Rattle.tree_shape.specs.Slow.{leaf_digests};
+    ghost use Rattle.tree_proof.specs.Cover.{meets, cover_digests};
+    ghost use Rattle.tree_store.specs.declared.error.Error.{Error};
+    ghost use Rattle.tree_store.specs.declared.error.Error.TheVariants.{Memory};
+    ghost use Rattle.tree_store.specs.Stores.{IsTreeOf};
+    ghost use Rattle.tree_verification.specs.Told.{told_nodes, IsTold, entries, TellsExactly, told_at, told_answer};
+
+    /// The nodes that the proof and its elements from `start` on tell, whether or not they have the root that is thought.
+    pub fn new<H: Hasher<Digest = D>>(
+        alloc: Global,
+        proof: &Proof<F, D>,
+        start: Location<F>,
+        elements: &[Bytes],
+        hasher: &Standard<H>,
+    ) -> Result<Self, Error<F>>
+        ensures refused { (e : Error F) → told_answer F.shape proof.now start (length elements.now) ≡ Err e → result ≡ Err e }
+        ensures within { IfOk result (λ store. told_answer {F = F} F.shape proof.now start (length elements.now) ≡ Ok tt) }
+        ensures memory { told_answer {F = F} F.shape proof.now start (length elements.now) ≡ Ok tt → IfErr result (λ e. e ≡ Memory) }
+        ensures leaves { IfOk result (λ store. store.leaves ≡ proof.now.leaves) }
+
+        // Of any tree that the proof and the elements tell, they are the cover's nodes, the leaves of the elements, and each node over these.
+        ensures nodes { IfOk result (λ store. (tree : ℕ → ℕ → D) → IsTold F.shape H.hash proof.now start elements.now tree →
+            TellsExactly (told_at store) (entries F.shape tree (told_nodes F.shape (meets start (start + length elements.now)) proof.now.leaves))) }
+
+        // Where the proof is that of a range of a list of elements, they are nodes of the list's tree.
+        ensures tree { IfOk result (λ store. (all : List (List ℕ)) → length all ≡ proof.now.leaves →
+            proof.now.digests ≡ cover_digests F.shape H.hash (leaf_digests F.shape H.hash all) (meets start (start + length elements.now)) proof.now.leaves →
+            elements.now ≡ slice_range all start (start + length elements.now) → IsTreeOf F.shape H.hash (leaf_digests F.shape H.hash all) store.leaves (told_at store)) }
+    {
+        let from = start.as_u64();
+        check_told(proof, from, elements.len() as u64)?;
+        let known = Items {
+            start: from,
+            items: elements,
+        };
+        let leaves = proof.leaves.as_u64();
+        let nodes = tell_peaks::<F, H, _>(alloc, hasher, &known, leaves, proof.digests.as_slice())?;
+        Ok(ProofStore {
+            alloc,
+            leaves,
+            nodes,
+            family: PhantomData,
+        })
+    }
+
+    /// The node at a position.
+    fn node(&self, position: u64) -> Option<D>
+        ensures { result ≡ told_at self.now position }
+    {
+        self.nodes.get(&position).copied()
+    }
+}
+
+impl<F: Family, D: Digest> Storage<F> for ProofStore<F, D> {
+    ghost use Rattle.std.specs.Prelude.{◌≡◌, ◌<◌, length, map, Some, Ok, All, AllPairs, IfOk, IfErr};
+    ghost use Rattle.tree_shape.specs.Shape.{made};
+    ghost use Rattle.volume_base.specs.Volume.{Reads};
+    ghost use Rattle.tree_store.specs.Stores.{IsReadFault, IsReadRefusal, IsOutside, IsOutsideOr};
+    ghost use Rattle.tree_verification.specs.Ranges.{IsUnread};
+    ghost use Rattle.tree_verification.specs.Told.{told_at};
+
+    type Digest = D;
+
+    ghost leaves = { λ t. t.leaves };
+
+    ghost held = { λ t c. Unit {0} };
+
+    ghost told = { λ t c p. told_at t p };
+
+    fn size(&self) -> Position<F> {
+        F::location_to_position(Location::new(self.leaves))
+    }
+
+    fn get_node<V: Volume>(
+        &self,
+        _vol: &mut V,
+        position: Position<F>,
+    ) -> Result<Option<D>, Error<F>>
+        ensures node { IfOk result (λ node. V.tells → Unit {0} → node ≡ told_at self.now position) }
+        ensures fault { position < length (made F.shape self.now.leaves) → IfErr result IsReadFault }
+        ensures outside { position < length (made F.shape self.now.leaves) → V.tells → Unit {0} → IfErr result IsOutside }
+        ensures reads { Reads V.tells Error.Volume (V.state _vol.old) (V.state _vol.new) result }
+        // It is told from memory, at any position.
+        ensures exact { result ≡ Ok (told_at self.now position) }
+        ensures volume { _vol.new ≡ _vol.old }
+    {
+        Ok(self.node(position.as_u64()))
+    }
+
+    fn get_nodes<V: Volume>(
+        &self,
+        _vol: &mut V,
+        positions: &[Position<F>],
+    ) -> Result<Vec<D>, Error<F>>
+        ensures nodes { IfOk result (λ nodes. V.tells → Unit {0} → map Some nodes.items ≡ map (told_at self.now) positions.now) }
+        ensures fault { All (λ p. p < length (made F.shape self.now.leaves)) positions.now → IfErr result IsReadRefusal }
+        ensures outside { All (λ p. p < length (made F.shape self.now.leaves)) positions.now → V.tells → Unit {0} → IfErr result (IsOutsideOr (told_at self.now) positions.now) }
+        ensures reads { Reads V.tells Error.Volume (V.state _vol.old) (V.state _vol.new) result }
+        // They are told from memory, at any positions.
+        ensures exact { IfOk result (λ nodes. map Some nodes.items ≡ map (told_at self.now) positions.now) }
+        ensures absent { IfErr result (IsUnread (told_at self.now) positions.now) }
+        ensures volume { _vol.new ≡ _vol.old }
+    {
+        let mut nodes = Vec::new(self.alloc);
+        for i in 0..positions.len() {
+            let position = positions[i].as_u64();
+            match self.node(position) {
+                Some(digest) => nodes.push(digest)?,
+                None => return Err(Error::ElementPruned(Position::new(position))),
+            }
+        }
+        Ok(nodes)
+    }
+}
