@@ -1,5 +1,5 @@
 //! Whether a proof shows that items stand in a tree.
-ghost use Rattle.std.specs.Prelude.{◌≡◌, ◌↔◌, ℕ, List, ◌+◌, ◌≤◌, ◌^◌, length, All, IfOk, IsTrue};
+ghost use Rattle.std.specs.Prelude.{◌≡◌, ◌↔◌, ℕ, List, ◌+◌, ◌≤◌, ◌^◌, length, All, IfOk, IsOkUnless, IsTrue};
 ghost use Rattle.tree_shape.specs.Slow.{leaf_digests};
 ghost use Rattle.tree_shape.specs.Root.{root as root_of};
 ghost use Rattle.tree_proof.specs.Check.{Checks, IsInBounds, rebuilt_root};
@@ -11,6 +11,7 @@ use crate::peaks::rebuild_peaks;
 use codec_base::Bytes;
 use std::alloc::{AllocError, Global};
 use tree_shape::{Digest, Family, Hasher, Location, Standard, root_of_peaks};
+use tree_store::Error;
 
 /// Whether so many items from a leaf on, and the inactive peaks, are within the proof's leaves.
 fn is_in_bounds<F: Family, D>(proof: &Proof<F, D>, start: u64, count: u64) -> bool
@@ -94,8 +95,9 @@ pub fn verify<F: Family, H: Hasher>(
     start: Location<F>,
     elements: &[Bytes],
     root: &H::Digest,
-) -> Result<bool, AllocError>
+) -> Result<bool, Error<F>>
     ensures checks { IfOk result (λ shown. IsTrue shown ↔ Checks F.shape H.hash hasher.now proof.now start elements.now root.now) }
+    ensures memory { IsOkUnless result Error.Memory }
 
     // Against the root of any list of elements, they are those of the list, or two different hash inputs have one digest.
     ensures sound { IfOk result (λ shown. IsTrue shown →

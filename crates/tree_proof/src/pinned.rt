@@ -1,5 +1,5 @@
 //! Whether pins stand left of what a proof shows.
-ghost use Rattle.std.specs.Prelude.{◌≡◌, ◌↔◌, ℕ, ◌≤◌, ◌<◌, ◌+◌, ◌^◌, length, take, All, IfOk, IsTrue};
+ghost use Rattle.std.specs.Prelude.{◌≡◌, ◌↔◌, ℕ, ◌≤◌, ◌<◌, ◌+◌, ◌^◌, length, take, All, IfOk, IsOkUnless, IsTrue};
 ghost use Rattle.std.specs.Option.{option_map};
 ghost use Rattle.tree_proof.specs.Check.{Checks, wholly_rebuilt};
 ghost use Rattle.tree_proof.specs.Pinned.{HasPins};
@@ -13,6 +13,7 @@ use crate::rebuild::rebuild;
 use codec_base::Bytes;
 use std::alloc::{AllocError, Global};
 use tree_shape::{Digest, Family, Hasher, Location, Standard};
+use tree_store::Error;
 
 /// These nodes, rebuilt from what is known and all of the digests; none where there are too few or too many of these.
 fn rebuild_nodes<F: Family, H: Hasher, K: Known<F, H>>(
@@ -89,12 +90,13 @@ pub fn verify_proof_and_pinned_nodes<F: Family, H: Hasher>(
     elements: &[Bytes],
     pinned: &[H::Digest],
     root: &H::Digest,
-) -> Result<bool, AllocError>
+) -> Result<bool, Error<F>>
     ensures checks { IfOk result (λ shown. IsTrue shown ↔ (Checks F.shape H.hash hasher.now proof.now start elements.now root.now × HasPins F.shape H.hash proof.now start (length elements.now) pinned.now)) }
+    ensures memory { IsOkUnless result Error.Memory }
 {
     let from = start.as_u64();
     if !verify(alloc, hasher, proof, start, elements, root)? {
         return Ok(false);
     }
-    has_pins(alloc, hasher, proof, from, pinned)
+    Ok(has_pins(alloc, hasher, proof, from, pinned)?)
 }
