@@ -9,3 +9,4 @@ pub mod CoverSteps
 mod LeftLemmas
 mod PinnedLemmas
 pub mod Rises
+mod PinsComplete

@@ -208,11 +208,11 @@ module _ {D : Type 0} (s : Shape) (h : Hashing D) (inputs : List (List ℕ)) (si
 
 -- ---- the whole check
 
-all_split : {X : Type 0} (P : X → Type 0) (xs ys : List X) → AllByRecursion P xs → AllByRecursion P ys → AllByRecursion P (xs ++ ys)
+pub all_split : {X : Type 0} (P : X → Type 0) (xs ys : List X) → AllByRecursion P xs → AllByRecursion P ys → AllByRecursion P (xs ++ ys)
 all_split P [] ys a b = b
 all_split P (x ∷ xs) ys a b = (a.0, all_split P xs ys a.1 b)
 
-all_reverse : {X : Type 0} (P : X → Type 0) (xs : List X) → AllByRecursion P xs → AllByRecursion P (reverse xs)
+pub all_reverse : {X : Type 0} (P : X → Type 0) (xs : List X) → AllByRecursion P xs → AllByRecursion P (reverse xs)
 all_reverse P [] a = tt
 all_reverse P (x ∷ xs) a = subst (AllByRecursion P) (sym (reverse-append (x ∷ []) xs)) (all_split P (reverse xs) (x ∷ []) (all_reverse P xs a.1) (a.0, tt))
 

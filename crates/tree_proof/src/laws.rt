@@ -1,11 +1,13 @@
 //! What holds of every proof.
-ghost use Rattle.std.specs.Prelude.{◌≡◌, ◌+◌, ℕ, List, length, slice_range};
-ghost use Rattle.tree_shape.specs.Slow.{leaf_digests};
+ghost use Rattle.std.specs.Prelude.{◌≡◌, ◌+◌, ◌-◌, ℕ, List, length, map, slice_range};
+ghost use Rattle.tree_shape.specs.Shape.{peaks};
+ghost use Rattle.tree_shape.specs.Slow.{leaf_digests, node_of};
 ghost use Rattle.tree_shape.specs.Root.{root};
 ghost use Rattle.tree_shape.specs.declared.bagging.Bagging.{Bagging};
 ghost use Rattle.tree_proof.specs.declared.proof.Proof.{Proof};
 ghost use Rattle.tree_proof.specs.Cover.{meets, cover};
 ghost use Rattle.tree_proof.specs.Check.{Checks};
+ghost use Rattle.tree_proof.specs.Pinned.{HasPins};
 ghost use Rattle.tree_proof.specs.SlowProof.{IsRange, slow_proof};
 
 use tree_shape::{Family, Hasher};
@@ -20,4 +22,10 @@ pub fn slow_proof_law<F: Family, H: Hasher>()
 pub fn cover_count_law<F: Family, H: Hasher>()
     ensures { (bagging : Bagging) (proof : Proof F H.Digest) (a : ℕ) (items : List (List ℕ)) (r : H.Digest) →
         Checks F.shape H.hash bagging proof a items r → length proof.digests ≡ length (cover F.shape (meets a (a + length items)) proof.leaves) }
+{}
+
+/// The peaks of the leaves before a range, the oldest first, are pins of its proof.
+pub fn slow_pins_law<F: Family, H: Hasher>()
+    ensures { (elements : List (List ℕ)) (inactive a b : ℕ) → IsRange F.shape elements inactive a b →
+        HasPins {F = F} F.shape H.hash (slow_proof F.shape H.hash elements inactive a b) a (b - a) (map (node_of F.shape H.hash (leaf_digests F.shape H.hash elements)) (peaks F.shape a)) }
 {}

@@ -138,4 +138,5 @@ fn pins_hash_to_the_cover(rt: HostRuntime) -> Result<(), Fail> {
 fn laws_are_called(_rt: HostRuntime) {
     slow_proof_law::<Mmr, Sha256Hasher>();
     cover_count_law::<Mmb, Sha256Hasher>();
+    slow_pins_law::<Mmb, Sha256Hasher>();
 }

@@ -1,8 +1,8 @@
 -- What a tree needs later is at hand before.
 use Rattle.std.proofs.Common.{◌≡◌, ℕ, zero, suc, ◌+◌, ◌-◌, ◌^◌, ◌<◌, ◌≤◌, ◌⊎◌, inl, inr, List, [], ◌∷◌, ◌++◌, length, Some, refl, sym, ◌∙◌, ap, subst, arith, length-append}
 use Rattle.std.specs.Prelude.{slice_get}
-use Rattle.std.proofs.lemmas.Bool.Decides.{leb_tells}
-use Rattle.std.proofs.lemmas.Option.{some_pair_parts}
+use Rattle.std.proofs.lemmas.Bool.{cases_lt}
+use Rattle.std.proofs.lemmas.Option.{some_pair_parts, slice_get_within}
 use Rattle.tree_shape.specs.Shape.{Shape, made, Stands, IsLawful}
 use Rattle.tree_shape.specs.Places.{get-append, get-behind}
 use Rattle.tree_shape.specs.Kept.{PeakOf, AtHand, KeepsPeaks}
@@ -71,14 +71,18 @@ made_by s (suc n) i x k e = elim (side_of (made s n) ((n, 0) ∷ s.parents n) i 
     newest zero p = let parts = some_pair_parts n x 0 (suc k) p in absurd (let z : 0 ≡ suc k = parts.1 in omega (arith, z))
     newest (suc j) p = by n j (omega arith) p
 
--- the append of leaf m makes no node that ends past it
-made_here : (s : Shape) → IsLawful s → (m j x k : ℕ) → slice_get (s.parents m) j ≡ Some (x, k) → x + 2 ^ k ≤ suc m
+-- where the nodes that the append of leaf m makes stand
+stands_here : (s : Shape) (m j x k : ℕ) → slice_get (s.parents m) j ≡ Some (x, k) → Stands (made s (suc m)) (length (made s m) + suc j) x k
 unfolding made
-made_here s w m j x k e = (w.well_made (suc m)).within (length (made s m) + suc j) x k (past (made s m))
+stands_here s m j x k e = past (made s m)
   where
     past : (xs : List (ℕ × ℕ)) → slice_get (xs ++ ((m, 0) ∷ s.parents m)) (length xs + suc j) ≡ Some (x, k)
     past [] = let q : 0 + suc j ≡ suc j = omega arith in ap (slice_get ((m, 0) ∷ s.parents m)) q ∙ e
     past (y ∷ xs) = let q : suc (length xs) + suc j ≡ suc (length xs + suc j) = omega arith in ap (slice_get (y ∷ (xs ++ ((m, 0) ∷ s.parents m)))) q ∙ past xs
+
+-- the append of leaf m makes no node that ends past it
+made_here : (s : Shape) → IsLawful s → (m j x k : ℕ) → slice_get (s.parents m) j ≡ Some (x, k) → x + 2 ^ k ≤ suc m
+made_here s w m j x k e = (w.well_made (suc m)).within (length (made s m) + suc j) x k (stands_here s m j x k e)
 
 child_at_hand : (s : Shape) → IsLawful s → KeepsPeaks s → (m j y x k : ℕ) → slice_get (s.parents m) j ≡ Some (y, suc k) → (x ≡ y) ⊎ (x ≡ y + 2 ^ k) → AtHand s m x k
 child_at_hand s w q m j y x k e side = let P : ℕ → Type 0 = λ z. AtHand s m z k in elim side [
@@ -102,4 +106,24 @@ pub needed_from : (s : Shape) → IsLawful s → KeepsPeaks s → (n b x h : ℕ
 needed_from s w q n b x h le need = elim (needed s w q n b x h le need) [
   | inl late ↦ inl (omega (arith, late, leaf_position s w b))
   | inr peak ↦ inr peak
+]
+
+-- what stands behind the nodes of b leaves was made by a later append
+came_after : (s : Shape) → IsLawful s → (b m j x k : ℕ) → slice_get (s.parents m) j ≡ Some (x, k) → s.position b 0 ≤ s.position x k → b ≤ m
+came_after s w b m j x k e late = elim (cases_lt m b) [
+  | inl lt ↦ absurd (let here = stands_here s m j x k e in
+  let place = (w.well_made (suc m)).placed (length (made s m) + suc j) x k here in
+  let within = slice_get_within (made s (suc m)) (length (made s m) + suc j) (x, k) here in
+  let before = made_le s (suc m) b (omega (arith, lt)) in
+  omega (arith, place, within, before, late, leaf_position s w b))
+  | inr le ↦ le
+]
+
+at_hand_before : (s : Shape) → IsLawful s → KeepsPeaks s → (b m x k : ℕ) → b ≤ m → AtHand s m x k → AtHand s b x k
+at_hand_before s w q b m x k le a = let P : ℕ → Type 0 = λ n. AtHand s n x k in let e : m ≡ b + (m - b) = omega arith in at_hand_back s w q b (m - b) x k (subst P e a)
+
+-- so its halves are at hand there
+pub late_halves : (s : Shape) → IsLawful s → KeepsPeaks s → (n b i x k : ℕ) → Stands (made s n) i x (suc k) → s.position b 0 ≤ s.position x (suc k) → AtHand s b x k × AtHand s b (x + 2 ^ k) k
+late_halves s w q n b i x k st late = elim (made_by s n i x k st) [
+  | by m j lt e ↦ let after = came_after s w b m j x (suc k) e late in (at_hand_before s w q b m x k after (q.left m j x k e), at_hand_before s w q b m (x + 2 ^ k) k after (q.right m j x k e))
 ]
