@@ -131,7 +131,7 @@ left-ends a x (suc k) = at (nat_le (x + 2 ^ suc k) a) (nat_le a x) refl (left-en
     at false true t l r = tt
     at false false t l r = both-end a (left_in a x k) (left_in a (x + 2 ^ k) k) l r
 
-over-ends : (a : ℕ) (ps : List (ℕ × ℕ)) → EndBy a (left_over a ps)
+pub over-ends : (a : ℕ) (ps : List (ℕ × ℕ)) → EndBy a (left_over a ps)
 over-ends a [] = tt
 over-ends a (p ∷ ps) = both-end a (left_in a p.0 p.1) (left_over a ps) (left-ends a p.0 p.1) (over-ends a ps)
 

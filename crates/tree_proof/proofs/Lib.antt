@@ -10,3 +10,4 @@ mod LeftLemmas
 mod PinnedLemmas
 pub mod Rises
 mod PinsComplete
+mod PinsSound

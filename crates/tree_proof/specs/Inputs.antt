@@ -10,6 +10,7 @@ use Rattle.tree_shape.specs.Root.{fold_forward, fold_backward, folded_bytes, roo
 use Rattle.tree_proof.specs.declared.proof.Proof.{Proof}
 use Rattle.tree_proof.specs.Cover.{Met, meets}
 use Rattle.tree_proof.specs.Check.{rebuilt, wholly_rebuilt, item_leaf}
+use Rattle.tree_proof.specs.Pinned.{above_pins, left_cover}
 
 -- two different members of these with one digest
 pub record Clash {D : Type 0} (h : Hashing D) (inputs : List (List ℕ)) : Type 0 where
@@ -104,7 +105,16 @@ module _ {D : Type 0} (s : Shape) (h : Hashing D) where
       ++ from_some (root_inputs h proof.leaves proof.inactive_peaks b)
       (wholly_rebuilt s h (meets a (a + length items)) (item_leaf s h a items) (peaks s proof.leaves) proof.digests)
 
+  -- all inputs by which pins are hashed up to the nodes of the cover left of leaf a
+  abbrev pub pin_inputs : {F : Type 0} → Proof F D → ℕ → ℕ → List D → List (List ℕ)
+  pin_inputs proof a count pins = rebuilt_over_inputs (above_pins s a) (λ x. []) (left_cover s proof a count) pins
+
 -- the items stand from leaf a on among the elements of a tree with so many inactive peaks, or two inputs of the tree and of the proof's check clash
 abbrev pub ShowsElements : {F D : Type 0} → Shape → Hashing D → Bagging → List (List ℕ) → ℕ → Proof F D → ℕ → List (List ℕ) → Type 0
 ShowsElements s h b elements k proof a items =
     (items ≡ slice_range elements a (a + length items)) ⊎ Clash h (tree_inputs s h elements k b ++ proof_inputs s h b proof a items)
+
+-- the pins are the peaks of the first a elements, or two inputs of the tree, of the proof's check and of the pins clash
+abbrev pub ShowsPins : {F D : Type 0} → Shape → Hashing D → Bagging → List (List ℕ) → ℕ → Proof F D → ℕ → List (List ℕ) → List D → Type 0
+ShowsPins s h b elements k proof a items pins =
+    (pins ≡ map (node_of s h (leaf_digests s h elements)) (peaks s a)) ⊎ Clash h (tree_inputs s h elements k b ++ (proof_inputs s h b proof a items ++ pin_inputs s h proof a (length items) pins))

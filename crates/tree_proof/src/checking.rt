@@ -56,7 +56,7 @@ pub(crate) fn is_same<D: Digest>(a: &D, b: &D) -> bool
 }
 
 /// Looks at the digests one by one: each has the length of digests.
-fn look_at_all<D: Digest>(digests: &[D])
+pub(crate) fn look_at_all<D: Digest>(digests: &[D])
     ensures sized { All (λ d. length (D.bytes d) ≡ D.FixedSize.width) digests.now }
 {
     let mut i = 0;

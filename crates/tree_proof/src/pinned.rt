@@ -1,11 +1,14 @@
 //! Whether pins stand left of what a proof shows.
-ghost use Rattle.std.specs.Prelude.{◌≡◌, ◌↔◌, ℕ, ◌≤◌, ◌<◌, ◌+◌, ◌^◌, length, take, All, IfOk, IsOkUnless, IsTrue};
+ghost use Rattle.std.specs.Prelude.{◌≡◌, ◌↔◌, ℕ, ◌≤◌, ◌<◌, ◌+◌, ◌^◌, List, length, take, All, IfOk, IsOkUnless, IsTrue};
 ghost use Rattle.std.specs.Option.{option_map};
+ghost use Rattle.tree_shape.specs.Slow.{leaf_digests};
+ghost use Rattle.tree_shape.specs.Root.{root as root_of};
 ghost use Rattle.tree_proof.specs.Check.{Checks, wholly_rebuilt};
+ghost use Rattle.tree_proof.specs.Inputs.{ShowsElements, ShowsPins};
 ghost use Rattle.tree_proof.specs.Pinned.{HasPins};
 
 use crate::Proof;
-use crate::checking::{is_same, verify};
+use crate::checking::{is_same, look_at_all, verify};
 use crate::known::Known;
 use crate::left::left_nodes;
 use crate::pins::PinsOf;
@@ -93,7 +96,15 @@ pub fn verify_proof_and_pinned_nodes<F: Family, H: Hasher>(
 ) -> Result<bool, Error<F>>
     ensures checks { IfOk result (λ shown. IsTrue shown ↔ (Checks F.shape H.hash hasher.now proof.now start elements.now root.now × HasPins F.shape H.hash proof.now start (length elements.now) pinned.now)) }
     ensures memory { IsOkUnless result Error.Memory }
+
+    // Against the root of any list of elements, they are those of the list, or two different hash inputs have one digest; so are the pins.
+    ensures sound { IfOk result (λ shown. IsTrue shown →
+        (all : List (List ℕ)) (inactive : ℕ) → length all ≤ 2 ^ 62 → inactive ≤ length (F.shape.heights (length all)) →
+        root.now ≡ root_of F.shape H.hash (leaf_digests F.shape H.hash all) inactive hasher.now →
+        ShowsElements F.shape H.hash hasher.now all inactive proof.now start elements.now × ShowsPins F.shape H.hash hasher.now all inactive proof.now start elements.now pinned.now) }
 {
+    look_at_all(proof.digests.as_slice());
+    look_at_all(pinned);
     let from = start.as_u64();
     if !verify(alloc, hasher, proof, start, elements, root)? {
         return Ok(false);
