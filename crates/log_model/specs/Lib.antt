@@ -1,5 +1,6 @@
 pub mod Meaning
 pub mod Operations
+pub mod Hashed
 pub mod Batches
 pub mod Machine
 pub mod Reach

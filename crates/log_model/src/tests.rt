@@ -1,7 +1,9 @@
 //! Roots of lists of bytes, each of which is a commit whose floor it is; made by `tools/expected.py`.
 ghost use Rattle.std.specs.Prelude.{◌+◌, ◌^◌, ◌≤◌, length};
 
-use crate::{Logged, floor_of_operations, push_leaves, root_of_leaves};
+use crate::{
+    Logged, encodings_law, floor_of_operations, no_clash_law, push_leaves, root_of_leaves,
+};
 use codec_base::CodecError;
 use std::alloc::Global;
 use std::test::Fail;
@@ -81,4 +83,10 @@ fn roots_of_lists_in_two_parts(rt: HostRuntime) -> Result<(), Fail> {
         assert!(rt; hex::encode(rt.alloc(), root.as_slice())?.as_str() == want);
     }
     Ok(())
+}
+
+#[test]
+fn laws_are_called(_rt: HostRuntime) {
+    encodings_law::<Mmr, Sha256Hasher, u8>();
+    no_clash_law::<Mmr, Sha256Hasher, u8>(&());
 }

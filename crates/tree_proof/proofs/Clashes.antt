@@ -162,10 +162,10 @@ module _ {D : Type 0} (h : Hashing D) (inputs : List (List ℕ)) (size : ℕ) (e
   -- the roots of two lists of peaks, with equal counts or not
   pub roots_is : (m n j k : ℕ) (b : Bagging) (ps ps1 : List D) → m < 2 ^ 64 → n < 2 ^ 64 → j < 2 ^ 64 → k < 2 ^ 64 → (m ≡ n → length ps ≡ length ps1) → EachSized ps → EachSized ps1
       → AllIn (root_inputs h m j b ps) → AllIn (root_inputs h n k b ps1) → h.digest (root_input m j b (folded_bytes h b j ps)) ≡ h.digest (root_input n k b (folded_bytes h b k ps1))
-      → OrClash ((m ≡ n) × (ps ≡ ps1))
+      → OrClash ((m ≡ n) × (j ≡ k) × (ps ≡ ps1))
   roots_is m n j k b ps ps1 fm fn fj fk l ss ss1 i i1 e =
       and_then (same_or_clash _ _ (in_first _ _ i) (in_first _ _ i1) e)
       (λ q. let r = root_input_is m n j k b (folded_bytes h b j ps) (folded_bytes h b k ps1) fm fn fj fk q in
       let at : folded_bytes h b j ps ≡ folded_bytes h b j ps1 = r.folded ∙ ap (λ c. folded_bytes h b c ps1) (sym r.inactive) in
       let i2 : AllIn (fold_inputs h b j ps1) = subst (λ c. AllIn (fold_inputs h b c ps1)) (sym r.inactive) (in_rest _ _ i1) in
-      and_then (folded_is b j ps ps1 (l r.leaves) ss ss1 (in_rest _ _ i) i2 at) (λ t. inl (r.leaves, t)))
+      and_then (folded_is b j ps ps1 (l r.leaves) ss ss1 (in_rest _ _ i) i2 at) (λ t. inl (r.leaves, r.inactive, t)))

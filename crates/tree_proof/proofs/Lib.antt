@@ -5,6 +5,7 @@ pub mod Complete
 mod CoverCount
 mod Clashes
 mod Soundness
+mod OneRoot
 pub mod CoverSteps
 mod LeftLemmas
 mod PinnedLemmas

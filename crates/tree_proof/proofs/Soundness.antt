@@ -37,13 +37,13 @@ module _ {D : Type 0} (s : Shape) (h : Hashing D) (inputs : List (List ℕ)) (si
     | inr le ↦ subst (Sized h inputs size exact one_size) (sym (get_or_past leaves x (h.digest []) (omega (arith, le, length-leaf_digests s h elements)))) (one_size _)
   ]
 
-  sized_node : (x k : ℕ) → Sized h inputs size exact one_size (node s h leaves x k)
+  pub sized_node : (x k : ℕ) → Sized h inputs size exact one_size (node s h leaves x k)
   unfolding node
   sized_node x zero = sized_leaf x
   sized_node x (suc k) = one_size _
 
   -- the leaves under a node that are met are the elements
-  abbrev Shown : ℕ → ℕ → Type 0
+  abbrev pub Shown : ℕ → ℕ → Type 0
   Shown x k = (y : ℕ) → x ≤ y → y < x + 2 ^ k → met y 0 ≡ true → item y ≡ element_of s h elements y
 
   abbrev SizedResult : Option (D × List D) → Type 0
@@ -76,7 +76,7 @@ module _ {D : Type 0} (s : Shape) (h : Hashing D) (inputs : List (List ℕ)) (si
   sized x zero ds ss = sized_at_leaf x (met x 0) ds ss
   sized x (suc k) ds ss = sized_at_inner x k (sized x k) (sized (x + 2 ^ k) k) (met x (suc k)) ds ss
 
-  node_input_is : (position : ℕ) (l r l1 r1 : D) → Sized h inputs size exact one_size l → Sized h inputs size exact one_size l1 → node_input h position l r ≡ node_input h position l1 r1 → (l ≡ l1) × (r ≡ r1)
+  pub node_input_is : (position : ℕ) (l r l1 r1 : D) → Sized h inputs size exact one_size l → Sized h inputs size exact one_size l1 → node_input h position l r ≡ node_input h position l1 r1 → (l ≡ l1) × (r ≡ r1)
   node_input_is position l r l1 r1 sl sl1 e =
       let front = 1 ∷ number position in
       let two = split (front ++ h.bytes l) (h.bytes r) (front ++ h.bytes l1) (h.bytes r1) (omega (arith, length-append front (h.bytes l), length-append front (h.bytes l1), sl, sl1)) e in
@@ -129,7 +129,7 @@ module _ {D : Type 0} (s : Shape) (h : Hashing D) (inputs : List (List ℕ)) (si
   unfolding node
   node-both x k = refl
 
-  both_shown : (x k : ℕ) → Shown x k → Shown (x + 2 ^ k) k → Shown x (suc k)
+  pub both_shown : (x k : ℕ) → Shown x k → Shown (x + 2 ^ k) k → Shown x (suc k)
   both_shown x k l r y le lt my =
       let two : 2 ^ suc k ≡ 2 ^ k * 2 = pow-suc 2 k in
       elim (cases_lt y (x + 2 ^ k)) [
@@ -177,7 +177,7 @@ module _ {D : Type 0} (s : Shape) (h : Hashing D) (inputs : List (List ℕ)) (si
 
   -- ---- node behind node
 
-  abbrev Within : ℕ × ℕ → Type 0
+  abbrev pub Within : ℕ × ℕ → Type 0
   Within p = p.0 + 2 ^ p.1 ≤ length elements
 
   abbrev ShownAt : ℕ × ℕ → Type 0
@@ -214,7 +214,7 @@ module _ {D : Type 0} (s : Shape) (h : Hashing D) (inputs : List (List ℕ)) (si
       let qs = map (node_of s h leaves) (cover_over met ps) in
       inl ((shown.0, rest.0), shown.1 ∙ ap (λ t. ls ++ t) (rest.1 ∙ ap (λ t. qs ++ t) last) ∙ sym (append_assoc ls qs rs.1) ∙ ap (λ t. t ++ rs.1) (sym (map-append (node_of s h leaves) (cover_in met p.0 p.1) (cover_over met ps))))))
 
-  sized_nodes : (ps : List (ℕ × ℕ)) → EachSized h inputs size exact one_size (map (node_of s h leaves) ps)
+  pub sized_nodes : (ps : List (ℕ × ℕ)) → EachSized h inputs size exact one_size (map (node_of s h leaves) ps)
   sized_nodes [] = tt
   sized_nodes (p ∷ ps) = (sized_node p.0 p.1, sized_nodes ps)
 
@@ -229,14 +229,14 @@ module _ {D : Type 0} (s : Shape) (h : Hashing D) (inputs : List (List ℕ)) (si
       subst (λ (p : List D × List D). EachSized h inputs size exact one_size p.0) same (sl.0, sized_over ps l.0.1 r.0 sl.1 r.1)
 
   -- the peaks cover the leaves
-  covered : (cs : List (ℕ × ℕ)) (e : ℕ) (hs : List ℕ) → PeaksStand s cs e hs → AllByRecursion ShownAt (peaks_down e hs) → (y : ℕ) → y < e → met y 0 ≡ true → item y ≡ element_of s h elements y
+  pub covered : (cs : List (ℕ × ℕ)) (e : ℕ) (hs : List ℕ) → PeaksStand s cs e hs → AllByRecursion ShownAt (peaks_down e hs) → (y : ℕ) → y < e → met y 0 ≡ true → item y ≡ element_of s h elements y
   covered cs e [] p shown y lt my = absurd (omega (arith, p))
   covered cs e (k ∷ ks) p shown y lt my = elim (cases_lt y (e - 2 ^ k)) [
     | inl below ↦ covered cs (e - 2 ^ k) ks p.2 shown.1 y below my
     | inr past ↦ shown.0 y past (omega (arith, p.0)) my
   ]
 
-  peaks_within : (cs : List (ℕ × ℕ)) (e : ℕ) (hs : List ℕ) → e ≤ length elements → PeaksStand s cs e hs → AllByRecursion Within (peaks_down e hs)
+  pub peaks_within : (cs : List (ℕ × ℕ)) (e : ℕ) (hs : List ℕ) → e ≤ length elements → PeaksStand s cs e hs → AllByRecursion Within (peaks_down e hs)
   peaks_within cs e [] le p = tt
   peaks_within cs e (k ∷ ks) le p = (omega (arith, p.0), peaks_within cs (e - 2 ^ k) ks (omega arith) p.2)
 
@@ -250,7 +250,7 @@ pub all_reverse : {X : Type 0} (P : X → Type 0) (xs : List X) → AllByRecursi
 all_reverse P [] a = tt
 all_reverse P (x ∷ xs) a = subst (AllByRecursion P) (sym (reverse-append (x ∷ []) xs)) (all_split P (reverse xs) (x ∷ []) (all_reverse P xs a.1) (a.0, tt))
 
-few_peaks : (s : Shape) (cs : List (ℕ × ℕ)) (e : ℕ) (hs : List ℕ) → PeaksStand s cs e hs → length hs ≤ e
+pub few_peaks : (s : Shape) (cs : List (ℕ × ℕ)) (e : ℕ) (hs : List ℕ) → PeaksStand s cs e hs → length hs ≤ e
 few_peaks s cs e [] p = omega arith
 few_peaks s cs e (k ∷ ks) p = omega (arith, few_peaks s cs (e - 2 ^ k) ks p.2, pow_pos k, p.0)
 
@@ -327,7 +327,7 @@ module _ {D : Type 0} (s : Shape) (h : Hashing D) (size : ℕ) (exact : (a b : D
       ss (in_left h inputs size exact one_size _ _ in_tree)
       (subst (λ l. In (rebuilt_over_inputs s h met item (peaks s l) proof.digests)) r.0 in_rebuilt)
       (ap (λ l. rebuilt_over s h met lf (peaks s l) proof.digests) (sym r.0) ∙ w.1)
-      (used ∙ r.1))
+      (used ∙ r.2))
       (λ shown. let down = subst (AllByRecursion _) (reverse-reverse (peaks_down n (s.heights n))) (all_reverse _ (peaks s n) shown.0) in
       inl (record {
         items_are = items_are elements items a (omega (arith, c.bounds.within, r.0)) (covered s h inputs size exact one_size elements met item under (made s n) n (s.heights n) (stand n) down);

@@ -1,5 +1,5 @@
 //! What holds of every proof.
-ghost use Rattle.std.specs.Prelude.{◌≡◌, ◌+◌, ◌-◌, ℕ, List, length, map, slice_range};
+ghost use Rattle.std.specs.Prelude.{◌≡◌, ◌⊎◌, ◌+◌, ◌-◌, ◌^◌, ◌≤◌, ◌++◌, ℕ, List, length, map, slice_range};
 ghost use Rattle.tree_shape.specs.Shape.{peaks};
 ghost use Rattle.tree_shape.specs.Slow.{leaf_digests, node_of};
 ghost use Rattle.tree_shape.specs.Root.{root};
@@ -7,6 +7,7 @@ ghost use Rattle.tree_shape.specs.declared.bagging.Bagging.{Bagging};
 ghost use Rattle.tree_proof.specs.declared.proof.Proof.{Proof};
 ghost use Rattle.tree_proof.specs.Cover.{meets, cover};
 ghost use Rattle.tree_proof.specs.Check.{Checks};
+ghost use Rattle.tree_proof.specs.Inputs.{Clash, tree_inputs};
 ghost use Rattle.tree_proof.specs.Pinned.{HasPins};
 ghost use Rattle.tree_proof.specs.SlowProof.{IsRange, slow_proof};
 
@@ -28,4 +29,11 @@ pub fn cover_count_law<F: Family, H: Hasher>()
 pub fn slow_pins_law<F: Family, H: Hasher>()
     ensures { (elements : List (List ℕ)) (inactive a b : ℕ) → IsRange F.shape elements inactive a b →
         HasPins {F = F} F.shape H.hash (slow_proof F.shape H.hash elements inactive a b) a (b - a) (map (node_of F.shape H.hash (leaf_digests F.shape H.hash elements)) (peaks F.shape a)) }
+{}
+
+/// Two lists of elements whose trees, with so many inactive peaks each, have one root are one list with one number of inactive peaks; or two different hash inputs of the two trees have one digest.
+pub fn one_root_law<F: Family, H: Hasher>()
+    ensures { (bagging : Bagging) (first second : List (List ℕ)) (j k : ℕ) → length first ≤ 2 ^ 62 → length second ≤ 2 ^ 62 → j ≤ length (F.shape.heights (length first)) → k ≤ length (F.shape.heights (length second)) →
+        root F.shape H.hash (leaf_digests F.shape H.hash first) j bagging ≡ root F.shape H.hash (leaf_digests F.shape H.hash second) k bagging →
+        ((first ≡ second) × (j ≡ k)) ⊎ Clash H.hash (tree_inputs F.shape H.hash first j bagging ++ tree_inputs F.shape H.hash second k bagging) }
 {}

@@ -13,7 +13,7 @@ mod rebuild;
 
 pub use checking::verify;
 pub use known::{Items, Known};
-pub use laws::{cover_count_law, slow_pins_law, slow_proof_law};
+pub use laws::{cover_count_law, one_root_law, slow_pins_law, slow_proof_law};
 pub use pinned::verify_proof_and_pinned_nodes;
 pub use proof::Proof;
 

@@ -139,4 +139,5 @@ fn laws_are_called(_rt: HostRuntime) {
     slow_proof_law::<Mmr, Sha256Hasher>();
     cover_count_law::<Mmb, Sha256Hasher>();
     slow_pins_law::<Mmb, Sha256Hasher>();
+    one_root_law::<Mmb, Sha256Hasher>();
 }
