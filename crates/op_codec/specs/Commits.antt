@@ -11,6 +11,7 @@ use Rattle.codec_base.specs.VarintLaws.{varint_lawful}
 use Rattle.codec_base.specs.Parts.{optional, optional_at, admits_optional}
 use Rattle.codec_base.specs.PartsLaws.{optional_lawful}
 use Rattle.codec_base.specs.Laws.{eight_bytes, below_64, u64_lawful}
+use Rattle.target_codec.specs.Target.{both_sizes}
 use Rattle.codec_base.specs.Combine.{pair_spelling, pair_admits, pair_at, pair_lawful, choice_spelling, choice_admits, choice_at, choice_lawful, through_at, through_lawful, bounded_admits, bounded_at, bounded_lawful, zeros, zeros_at, zeros_spelling, anything, zeros_lawful, length-zeros}
 
 -- the most leaves of a tree
@@ -133,9 +134,6 @@ padded_size text count = omega (arith, length-append text (zeros count), length-
 
 pub eight_more : (text : List ℕ) (n : ℕ) → length (text ++ eight_bytes n) ≡ length text + 8
 eight_more text n = omega (arith, length-append text (eight_bytes n))
-
-pub both_sizes : (text more : List ℕ) → length (text ++ more) ≡ length text + length more
-both_sizes text more = length-append text more
 
 pub ruleset lengths = (padded_size, eight_more, length-zeros)
 

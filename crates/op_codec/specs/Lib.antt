@@ -1,8 +1,6 @@
 pub mod Commits
 pub mod Keyless
 pub mod Immutable
-pub mod Target
-pub mod Request
 pub mod Decoding
 pub mod Text
 pub mod KeylessText

@@ -4,18 +4,18 @@ use Rattle.std.specs.Prelude.{Result, Ok, Err}
 use Rattle.std.specs.Io.KnownBytes.{Appends}
 use Rattle.stream_base.specs.Writing.{Writes}
 use Rattle.std.proofs.lemmas.List.{append-nil}
-use Rattle.twins.specs.declared.command.Command.{Command}
-use Rattle.twins.specs.declared.command.Fault.{Fault}
-use Rattle.twins.specs.declared.command.Fault.TheVariants as fault
-use Rattle.twins.specs.declared.command.Reply.{Reply}
-use Rattle.twins.specs.declared.command.Status.{Status}
-use Rattle.twins.specs.declared.command.Status.TheVariants.{BadWords, BadLine, ReadFault, TooLong, Volume, NotFresh, Done, WriteFault, Memory}
-use Rattle.twins.specs.Text.{text_of}
+use Rattle.command_text.specs.declared.command.Command.{Command}
+use Rattle.twins.specs.declared.ending.Fault.{Fault}
+use Rattle.twins.specs.declared.ending.Fault.TheVariants as fault
+use Rattle.command_text.specs.declared.command.Reply.{Reply}
+use Rattle.twins.specs.declared.ending.Status.{Status}
+use Rattle.twins.specs.declared.ending.Status.TheVariants.{BadWords, BadLine, ReadFault, TooLong, Volume, NotFresh, Done, WriteFault, Memory}
+use Rattle.command_text.specs.Text.{text_of}
 use Rattle.twins.specs.Trace.{trace}
 use Rattle.codec_base.specs.Causes.{Rose}
-use Rattle.twins.specs.Lines.{lines_of}
+use Rattle.command_text.specs.Lines.{lines_of}
 use Rattle.twins.specs.Outcome.{WritesSoFar, IsValid, IsEarly, IsReadStatus, IsRunStatus, replies_to, fault_status}
-use Rattle.twins.proofs.CommandLines.{bad_clash}
+use Rattle.command_text.proofs.CommandLines.{bad_clash}
 
 -- nothing was written, for no reply
 pub wrote_nothing : (w : Option (List ℕ)) (faults : ℕ) (commands : List Command) → WritesSoFar w w faults faults (replies_to commands)

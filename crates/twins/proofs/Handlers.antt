@@ -7,9 +7,9 @@ use Rattle.log_model.specs.Batches as batches
 use Rattle.log_model.specs.Machine.{State, batch_at, begun, max_leaves}
 use Rattle.log_model.specs.Reach.{stands_on, may_seal, floor_below, sealed_here}
 use Rattle.op_codec.specs.declared.keyless.Operation.TheVariants.{Append, Commit}
-use Rattle.twins.specs.declared.command.Answer.TheVariants as answer
-use Rattle.twins.specs.declared.command.Refusal.{Refusal}
-use Rattle.twins.specs.declared.command.Refusal.TheVariants.{NoBatch, ValueTooLong, StaleBatch, LocationOverflow, FloorRegressed, FloorBeyondSize}
+use Rattle.command_text.specs.declared.command.Answer.TheVariants as answer
+use Rattle.command_text.specs.declared.command.Refusal.{Refusal}
+use Rattle.command_text.specs.declared.command.Refusal.TheVariants.{NoBatch, ValueTooLong, StaleBatch, LocationOverflow, FloorRegressed, FloorBeyondSize}
 use Rattle.twins.specs.Operation.{Operation, meaning}
 use Rattle.twins.specs.Step.{Outcome, begin, begin_on, append_to, seal_refusal, metadata_length, done_sealing, seal, apply, hold, release}
 use Rattle.twins.specs.Lists.{list_at}

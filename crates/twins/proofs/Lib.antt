@@ -1,15 +1,8 @@
-pub mod LineLemmas
-pub mod NumberLemmas
-pub mod HexWords
-pub mod CommandLines
 pub mod Representation
-pub mod DecimalDigits
-pub mod ReplyLines
 pub mod RunLemmas
 pub mod Endings
 pub mod RunLaws
 pub mod RunGood
-pub mod HexText
 pub mod HistoryLemmas
 pub mod Handlers
 pub mod LinkLemmas

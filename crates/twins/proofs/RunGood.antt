@@ -11,9 +11,9 @@ use Rattle.log_model.specs.Good.{IsGoodBatch}
 use Rattle.log_model.specs.GoodLaws.{good_lost, good_with_append, good_with_sealed, good_with_holds, good_begun, good_begun_after, good_snapshot_taken, good_applied, good_opened}
 use Rattle.twins.specs.Operation.{Operation, meaning, operation_decide}
 use Rattle.op_codec.specs.declared.keyless.Operation.TheVariants.{Append, Commit}
-use Rattle.twins.specs.declared.command.Command.{Command}
-use Rattle.twins.specs.declared.command.Command.TheVariants as command
-use Rattle.twins.specs.declared.command.Refusal.{Refusal}
+use Rattle.command_text.specs.declared.command.Command.{Command}
+use Rattle.command_text.specs.declared.command.Command.TheVariants as command
+use Rattle.command_text.specs.declared.command.Refusal.{Refusal}
 use Rattle.twins.specs.Step.{Outcome, step, begin, begin_on, append_to, seal_refusal, metadata_length, sealed_or_lost, seal, apply, hold, release, plain_commit}
 use Rattle.twins.specs.Trace.{state_after, fresh_state}
 use Rattle.twins.specs.Good.{IsGoodState, StepsStayGood, RunsAreGood}

@@ -7,11 +7,11 @@ use Rattle.log_model.specs.Machine.{State, max_leaves, batch_at, with_batch}
 use Rattle.log_model.specs.Reach.{may_apply}
 use Rattle.log_model.specs.ReachLaws.{not_longer}
 use Rattle.twins.specs.Operation.{Operation, meaning, operation_decide}
-use Rattle.twins.specs.declared.command.Command.{Command}
-use Rattle.twins.specs.declared.command.Command.TheVariants as command
-use Rattle.twins.specs.declared.command.Answer.TheVariants as answer
-use Rattle.twins.specs.declared.command.Refusal.{Refusal}
-use Rattle.twins.specs.declared.command.Reply.{Reply}
+use Rattle.command_text.specs.declared.command.Command.{Command}
+use Rattle.command_text.specs.declared.command.Command.TheVariants as command
+use Rattle.command_text.specs.declared.command.Answer.TheVariants as answer
+use Rattle.command_text.specs.declared.command.Refusal.{Refusal}
+use Rattle.command_text.specs.declared.command.Reply.{Reply}
 use Rattle.twins.specs.Step.{Outcome, step, reply, begin, begin_on, append_to, seal_refusal, metadata_length, sealed_or_lost, seal, apply, hold, release}
 use Rattle.twins.specs.Trace.{trace, replies_from, state_after, fresh_state}
 use Rattle.twins.specs.Laws.{SizesNeverFall, TellsList, RepliesTellLists, RunsContinue, RefusalsKeep}

@@ -1,10 +1,10 @@
 -- The ends of a run.
 use Rattle.std.proofs.Common.{◌≡◌, ℕ, ◌-◌, ◌^◌, ◌<◌, List, [], refl, arith}
 use Rattle.codec_base.specs.Causes.{Rose}
-use Rattle.twins.specs.declared.command.Command.{Command}
-use Rattle.twins.specs.declared.command.Reply.{Reply}
-use Rattle.twins.specs.declared.command.Fault.{Fault}
-use Rattle.twins.specs.declared.command.Fault.TheVariants.{Volume, NotFresh, Memory}
+use Rattle.command_text.specs.declared.command.Command.{Command}
+use Rattle.command_text.specs.declared.command.Reply.{Reply}
+use Rattle.twins.specs.declared.ending.Fault.{Fault}
+use Rattle.twins.specs.declared.ending.Fault.TheVariants.{Volume, NotFresh, Memory}
 use Rattle.twins.specs.Trace.{trace, IsBegun}
 
 -- no replies are the first ones

@@ -9,7 +9,7 @@ use Rattle.log_model.specs.Operations.{floor_of}
 use Rattle.log_model.specs.Reach.{effective_boundary, reach, tips_of, sealed_here}
 use Rattle.op_codec.specs.declared.keyless.Operation.TheVariants.{Commit}
 use Rattle.tree_shape.specs.declared.sha256.Sha256Digest.{Sha256Digest}
-use Rattle.twins.specs.declared.command.Answer.TheVariants as answer
+use Rattle.command_text.specs.declared.command.Answer.TheVariants as answer
 use Rattle.twins.specs.Operation.{Operation, meaning}
 use Rattle.twins.specs.Step.{done_sealing, root_of_list}
 use Rattle.twins.specs.Lists.{list_at, lists_in, count_in, Extends}

@@ -3,7 +3,7 @@ use Rattle.std.specs.Prelude.{ℕ, ◌≤◌, List, length}
 use Rattle.log_model.specs.Machine.{State}
 use Rattle.log_model.specs.Good.{IsGood}
 use Rattle.twins.specs.Operation.{Operation, meaning}
-use Rattle.twins.specs.declared.command.Command.{Command}
+use Rattle.command_text.specs.declared.command.Command.{Command}
 use Rattle.twins.specs.Step.{step, plain_commit}
 use Rattle.twins.specs.Trace.{state_after, fresh_state}
 

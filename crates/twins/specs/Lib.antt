@@ -1,15 +1,10 @@
 pub mod Names
 pub mod Config
-pub mod Lines
-pub mod Grammar
-pub mod Bad
 pub mod Operation
 pub mod Step
 pub mod Trace
 pub mod Lists
 pub mod StateOf
-pub mod Pending
-pub mod Text
 pub mod Outcome
 pub mod Report
 pub mod Laws

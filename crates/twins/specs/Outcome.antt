@@ -3,17 +3,17 @@ use Rattle.std.specs.Prelude.{◌≡◌, ◌⊎◌, ℕ, ◌<◌, ◌≤◌, Lis
 use Rattle.std.specs.Io.KnownBytes.{Appends, IsAtEnd}
 use Rattle.codec_base.specs.Causes.{Rose}
 use Rattle.stream_base.specs.Writing.{WritesFront}
-use Rattle.twins.specs.declared.command.Command.{Command}
-use Rattle.twins.specs.declared.command.Reply.{Reply}
-use Rattle.twins.specs.declared.command.Fault.{Fault}
-use Rattle.twins.specs.declared.command.Fault.TheVariants as fault
-use Rattle.twins.specs.declared.command.Status.{Status}
-use Rattle.twins.specs.declared.command.Status.TheVariants.{BadWords, BadLine, ReadFault, TooLong, Volume, NotFresh, Done, WriteFault, Memory}
+use Rattle.command_text.specs.declared.command.Command.{Command}
+use Rattle.command_text.specs.declared.command.Reply.{Reply}
+use Rattle.twins.specs.declared.ending.Fault.{Fault}
+use Rattle.twins.specs.declared.ending.Fault.TheVariants as fault
+use Rattle.twins.specs.declared.ending.Status.{Status}
+use Rattle.twins.specs.declared.ending.Status.TheVariants.{BadWords, BadLine, ReadFault, TooLong, Volume, NotFresh, Done, WriteFault, Memory}
 use Rattle.twins.specs.Config.{standard_config}
-use Rattle.twins.specs.Lines.{lines_of}
-use Rattle.twins.specs.Grammar.{InputSays}
-use Rattle.twins.specs.Bad.{IsFirstBad}
-use Rattle.twins.specs.Text.{text_of}
+use Rattle.command_text.specs.Lines.{lines_of}
+use Rattle.command_text.specs.Grammar.{InputSays}
+use Rattle.command_text.specs.Bad.{IsFirstBad}
+use Rattle.command_text.specs.Text.{text_of}
 use Rattle.twins.specs.Trace.{trace, IsBegun}
 
 -- the input was read to its end, and isn't too long

@@ -1,7 +1,7 @@
 -- The exit code of the program and its line on standard error, by status.
 use Rattle.std.specs.Prelude.{ℕ, List, [], ◌++◌, codes, decimal}
-use Rattle.twins.specs.declared.command.Status.{Status}
-use Rattle.twins.specs.declared.command.Status.TheVariants.{Done, BadWords, BadLine, ReadFault, WriteFault, Volume, NotFresh, Memory, TooLong}
+use Rattle.twins.specs.declared.ending.Status.{Status}
+use Rattle.twins.specs.declared.ending.Status.TheVariants.{Done, BadWords, BadLine, ReadFault, WriteFault, Volume, NotFresh, Memory, TooLong}
 
 abbrev pub exit_code : Status → ℕ
 exit_code Done = 0

@@ -8,13 +8,13 @@ use Rattle.log_model.specs.Machine.{State, max_leaves, batch_at, with_batch, beg
 use Rattle.log_model.specs.Reach.{floor_below, may_seal, may_apply, sealed_here}
 use Rattle.twins.specs.Operation.{Operation, meaning, sha}
 use Rattle.op_codec.specs.declared.keyless.Operation.TheVariants.{Append, Commit}
-use Rattle.twins.specs.declared.command.Command.{Command}
-use Rattle.twins.specs.declared.command.Command.TheVariants as command
-use Rattle.twins.specs.declared.command.Answer.{Answer}
-use Rattle.twins.specs.declared.command.Answer.TheVariants as answer
-use Rattle.twins.specs.declared.command.Refusal.{Refusal}
-use Rattle.twins.specs.declared.command.Refusal.TheVariants.{NoBatch, ValueTooLong, StaleBatch, LocationOverflow, FloorRegressed, FloorBeyondSize}
-use Rattle.twins.specs.declared.command.Reply.{Reply}
+use Rattle.command_text.specs.declared.command.Command.{Command}
+use Rattle.command_text.specs.declared.command.Command.TheVariants as command
+use Rattle.command_text.specs.declared.command.Answer.{Answer}
+use Rattle.command_text.specs.declared.command.Answer.TheVariants as answer
+use Rattle.command_text.specs.declared.command.Refusal.{Refusal}
+use Rattle.command_text.specs.declared.command.Refusal.TheVariants.{NoBatch, ValueTooLong, StaleBatch, LocationOverflow, FloorRegressed, FloorBeyondSize}
+use Rattle.command_text.specs.declared.command.Reply.{Reply}
 
 -- The root of the run's tree: an MMR over SHA-256.
 abbrev pub root_of_list : List Operation → Sha256Digest

@@ -6,9 +6,9 @@ use Rattle.volume_base.specs.Volume.{Map}
 use Rattle.twins.specs.Config.{Config}
 use Rattle.log_model.specs.Machine.{State, opened}
 use Rattle.twins.specs.Operation.{Operation}
-use Rattle.twins.specs.declared.command.Command.{Command}
-use Rattle.twins.specs.declared.command.Answer.TheVariants as answer
-use Rattle.twins.specs.declared.command.Reply.{Reply}
+use Rattle.command_text.specs.declared.command.Command.{Command}
+use Rattle.command_text.specs.declared.command.Answer.TheVariants as answer
+use Rattle.command_text.specs.declared.command.Reply.{Reply}
 use Rattle.twins.specs.Step.{step, reply, plain_commit}
 
 -- The replies to these commands, from a state on.

@@ -13,10 +13,10 @@ ghost use Rattle.twins.specs.declared.batch.Batch.TheVariants.{Unsealed, Gone};
 ghost use Rattle.twins.specs.declared.batch.UnsealedBatch.{UnsealedBatch};
 
 use crate::batch::{Batch, SealedBatch, UnsealedBatch};
-use crate::command::{Answer, Command, Refusal, Reply};
 use crate::history::History;
 use crate::links::{linked, reach_of};
 use codec_base::{Bytes, CodecError, Duplicate};
+use command_text::{Answer, Command, Refusal, Reply};
 use op_codec::keyless;
 use std::alloc::Global;
 use std::mem::replace;

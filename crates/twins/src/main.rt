@@ -2,22 +2,18 @@
 #![tactic(auto)]
 
 mod batch;
-mod command;
 mod config;
+mod ending;
 mod history;
 mod laws;
-mod lines;
 mod links;
 mod machine;
 mod main_call;
 mod operation;
-mod parse;
-mod piece;
 mod report;
 mod run;
-mod text;
 
-use command::Status;
+use ending::Status;
 use host_edge::{StdSink, StdSource};
 use main_call::twins_main;
 use memory_volume::MemoryVolume;

@@ -1,7 +1,7 @@
 ghost use Rattle.std.specs.Prelude.{◌≡◌};
 ghost use Rattle.twins.specs.Report.{exit_code};
 
-use crate::command::Status;
+use crate::ending::Status;
 use std::fmt;
 
 impl Status {

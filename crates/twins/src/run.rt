@@ -2,13 +2,14 @@ ghost use Rattle.std.specs.Prelude.{◌≡◌, ◌⊎◌, ◌<◌, ◌≤◌, �
 ghost use Rattle.std.specs.FinMap as map;
 ghost use Rattle.codec_base.specs.Causes.{Rose};
 ghost use Rattle.volume_base.specs.Volume.{SameContents, PastStays, StaysSteady, Reads};
-ghost use Rattle.twins.specs.declared.command.Fault.TheVariants.{Volume, NotFresh, Memory};
+ghost use Rattle.twins.specs.declared.ending.Fault.TheVariants.{Volume, NotFresh, Memory};
 ghost use Rattle.twins.specs.Trace.{trace, IsFreshLog, IsFresh, IsBegun};
 
-use crate::command::{Answer, Command, Fault, Replies, Stopped};
 use crate::config::TwinConfig;
+use crate::ending::{Fault, Stopped};
 use crate::machine::Machine;
 use codec_base::{CodecError, ListOf};
+use command_text::{Answer, Command, Replies};
 use std::alloc::Global;
 use volume_base::{Volume, VolumeError};
 

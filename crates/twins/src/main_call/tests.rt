@@ -1,5 +1,5 @@
 use super::twins_main;
-use crate::command::Status;
+use crate::ending::Status;
 use codec_base::Bytes;
 use memory_volume::MemoryVolume;
 use std::alloc::Global;

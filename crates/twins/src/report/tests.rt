@@ -1,4 +1,4 @@
-use crate::command::Status;
+use crate::ending::Status;
 use std::test::Fail;
 
 #[test]

@@ -1,9 +1,8 @@
 //! Runs compared with an outside computation (tools/expected.py), and what stops a run.
-use crate::command::{Fault, Replies, Stopped};
 use crate::config::TwinConfig;
-use crate::parse::parse_commands;
+use crate::ending::{Fault, Stopped};
 use crate::run::run_twins;
-use crate::text::write_replies;
+use command_text::{Replies, parse_commands, write_replies};
 use memory_volume::MemoryVolume;
 use std::process::Abort;
 use std::test::Fail;

@@ -1,0 +1,13 @@
+//! What a log is synced to, what is asked for it, and what is answered.
+#![tactic(auto)]
+
+mod request;
+mod response;
+mod target;
+
+pub use request::Request;
+pub use response::Response;
+pub use target::{CompactTarget, EngineError, Target, advance_laws, equality_laws};
+
+#[cfg(test)]
+mod tests;
