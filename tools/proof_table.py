@@ -9,9 +9,13 @@ these proofs in this order: of each the leaves, the inactive peaks and the numbe
 digests; the same for the tree of twenty leaves, of which each smaller tree is a part; how many proofs are accepted; and how
 many of their damaged copies are refused: one with the middle digest changed, where there is one, one with the middle element
 changed, one with an element less, one with an element more, one from the next leaf on, and one with a leaf more in the proof.
+
+Then one digest over the pins before each of these proofs, in the same order: the number of the peaks of the leaves before its
+range, in 8 bytes, and these peaks, the oldest first; how many proofs are accepted with them; and how many are refused with
+damaged copies of them: one with a pin more, and where there are any, one without the last and one with the middle one changed.
 """
 from proofs import cover
-from trees import Mmb, Mmr, digest, node, number
+from trees import Mmb, Mmr, digest, node, number, peaks
 
 LEAVES = 20
 
@@ -20,6 +24,7 @@ def main():
     elements = [number(i) for i in range(LEAVES)]
     for family in (Mmr, Mmb):
         parts, proofs, damaged = [], 0, 0
+        pins, unpinned = [], 0
         for n in range(1, LEAVES + 1):
             line = f"{family.name} {n}"
             for start in range(n):
@@ -31,12 +36,19 @@ def main():
                     parts += [node(family, elements[:n], *name) for name in names]
                     proofs += 1
                     damaged += 6 if names else 5
+                    tops = peaks(family, start)
+                    pins += [number(len(tops))]
+                    pins += [node(family, elements[:n], *name) for name in tops]
+                    unpinned += 3 if tops else 1
                     line += f" {len(names)}"
             print(line)
         for title in ("proofs", "history"):
             print(family.name, title, digest(*parts).hex())
         print(family.name, "accepted", proofs)
         print(family.name, "refused", damaged)
+        print(family.name, "pins", digest(*pins).hex())
+        print(family.name, "accepted with pins", proofs)
+        print(family.name, "refused with pins", unpinned)
 
 
 if __name__ == "__main__":

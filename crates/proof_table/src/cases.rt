@@ -3,6 +3,7 @@ use crate::elements::elements_of;
 use crate::error::TableError;
 use codec_base::{Bytes, ListOf};
 use std::alloc::Global;
+use tree_core::verification::verify_proof_and_pinned_nodes;
 use tree_core::{
     Digest, Family, Hasher, Location, Proof, Sha256Digest, Sha256Hasher, Standard, verify,
 };
@@ -93,5 +94,22 @@ impl<F: Family> Case<F> {
     pub(crate) fn holds(&self, alloc: Global) -> Result<bool, TableError> {
         let elements = elements_of(alloc, self.start, self.end, WHOLE)?;
         self.shows(alloc, self.start, &elements)
+    }
+    /// Whether the proof shows the numbers of its range behind these pins.
+    pub(crate) fn holds_behind(
+        &self,
+        alloc: Global,
+        pins: &[Sha256Digest],
+    ) -> Result<bool, TableError> {
+        let elements = elements_of(alloc, self.start, self.end, WHOLE)?;
+        Ok(verify_proof_and_pinned_nodes(
+            alloc,
+            &self.hasher,
+            &self.proof,
+            Location::new(self.start),
+            &elements,
+            pins,
+            &self.root,
+        )?)
     }
 }

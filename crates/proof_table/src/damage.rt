@@ -6,7 +6,7 @@ use std::alloc::Global;
 use tree_core::Family;
 
 /// One where it was refused.
-fn count(shown: bool) -> u64 {
+pub(crate) fn count(shown: bool) -> u64 {
     if shown { 0 } else { 1 }
 }
 

@@ -1,11 +1,12 @@
 //! Prints how many digests the proof of each range of each small tree has, for both families, with digests over the proofs;
-//! and how many of them are accepted, and of their damaged copies refused.
+//! how many of them are accepted, and of their damaged copies refused; and the same with the pins of the leaves before each.
 #![tactic(auto)]
 
 mod cases;
 mod damage;
 mod elements;
 mod error;
+mod pins;
 #[cfg(test)]
 mod store_tests;
 mod table;

@@ -5,6 +5,7 @@ use crate::cases::{Case, add_proof};
 use crate::damage::refused;
 use crate::elements::append;
 use crate::error::TableError;
+use crate::pins::{Pinned, pins_of};
 use memory_volume::MemoryVolume;
 use std::alloc::Global;
 use tree_core::verification::{historical_range_proof, range_proof};
@@ -19,6 +20,7 @@ struct Totals {
     history: Sha256Hasher,
     accepted: u64,
     refused: u64,
+    pinned: Pinned,
 }
 
 /// The bagging of a tree of so many leaves.
@@ -59,6 +61,7 @@ impl Totals {
             history: Sha256Hasher::new(),
             accepted: 0,
             refused: 0,
+            pinned: Pinned::new(),
         }
     }
 
@@ -86,7 +89,7 @@ impl Totals {
         )?;
         println!(rt; "{name} accepted {}", self.accepted)?;
         println!(rt; "{name} refused {}", self.refused)?;
-        Ok(())
+        self.pinned.print(rt, alloc, name)
     }
 }
 
@@ -97,13 +100,17 @@ fn print_from<F: Family>(
     tree: &Mem<F, Sha256Digest>,
     totals: &mut Totals,
     start: u64,
-) -> Result<(), TableError> {
+) -> Result<(), TableError>
+    requires { start ≤ 2 ^ 62 }
+{
     let mut vol = MemoryVolume::new(alloc);
+    let pins = pins_of(alloc, tree, start)?;
     print!(rt; " :")?;
     for last in start..tree.leaves().as_u64() {
         let case = case_of(alloc, &mut vol, tree, start, last.saturating_add(1))?;
         print!(rt; " {}", case.proof.digests.len())?;
         totals.add(alloc, &case)?;
+        totals.pinned.add(alloc, &case, &pins)?;
     }
     Ok(())
 }
