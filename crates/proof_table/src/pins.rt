@@ -85,7 +85,9 @@ impl Pinned {
         if case.holds_behind(alloc, pins)? {
             self.accepted = self.accepted.saturating_add(1);
         }
-        self.refused = self.refused.saturating_add(refused_pins(alloc, case, pins)?);
+        self.refused = self
+            .refused
+            .saturating_add(refused_pins(alloc, case, pins)?);
         Ok(())
     }
 

@@ -112,10 +112,10 @@ needed_from s w q n b x h le need = elim (needed s w q n b x h le need) [
 came_after : (s : Shape) → IsLawful s → (b m j x k : ℕ) → slice_get (s.parents m) j ≡ Some (x, k) → s.position b 0 ≤ s.position x k → b ≤ m
 came_after s w b m j x k e late = elim (cases_lt m b) [
   | inl lt ↦ absurd (let here = stands_here s m j x k e in
-  let place = (w.well_made (suc m)).placed (length (made s m) + suc j) x k here in
-  let within = slice_get_within (made s (suc m)) (length (made s m) + suc j) (x, k) here in
-  let before = made_le s (suc m) b (omega (arith, lt)) in
-  omega (arith, place, within, before, late, leaf_position s w b))
+      let place = (w.well_made (suc m)).placed (length (made s m) + suc j) x k here in
+      let within = slice_get_within (made s (suc m)) (length (made s m) + suc j) (x, k) here in
+      let before = made_le s (suc m) b (omega (arith, lt)) in
+      omega (arith, place, within, before, late, leaf_position s w b))
   | inr le ↦ le
 ]
 
