@@ -95,6 +95,7 @@ impl<F: Family> Case<F> {
         let elements = elements_of(alloc, self.start, self.end, WHOLE)?;
         self.shows(alloc, self.start, &elements)
     }
+
     /// Whether the proof shows the numbers of its range behind these pins.
     pub(crate) fn holds_behind(
         &self,

@@ -62,6 +62,7 @@ pub(crate) struct Pinned {
 }
 
 impl Pinned {
+    /// Nothing was found yet.
     pub(crate) fn new() -> Self {
         Pinned {
             pins: Sha256Hasher::new(),
