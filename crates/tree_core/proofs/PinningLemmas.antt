@@ -13,7 +13,7 @@ use Rattle.tree_store.specs.Stores.{IsTreeOf}
 use Rattle.tree_core.specs.Pruned.{IsPruned}
 use Rattle.tree_core.specs.Shelf.{entry_at, AreBefore}
 use Rattle.tree_core.specs.Tree.{either}
-use Rattle.tree_core.proofs.MapLemmas.{key_same}
+use Rattle.tree_verification.proofs.KeyLemmas.{key_same}
 use Rattle.tree_core.proofs.ShelfLemmas.{entry_here, entry_on, entry_first, entry_second}
 
 -- whether there is no node at an entry's position

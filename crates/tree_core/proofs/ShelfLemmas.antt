@@ -9,7 +9,7 @@ use Rattle.std.proofs.lemmas.List.Elements.{filter-append}
 use Rattle.std.proofs.lemmas.Option.{slice_get_past, slice_get_within, slice_get-get_or, get_or_from_slice_get, same_Some}
 use Rattle.tree_core.specs.Pruned.{Extends}
 use Rattle.tree_core.specs.Shelf.{entry_at, placed, AreBefore, IsShelf}
-use Rattle.tree_core.proofs.MapLemmas.{key_apart, key_itself}
+use Rattle.tree_verification.proofs.KeyLemmas.{key_apart, key_itself}
 use Rattle.tree_core.proofs.Later.{get_past}
 use Rattle.tree_core.proofs.MemLemmas.{take-next}
 

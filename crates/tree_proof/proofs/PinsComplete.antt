@@ -11,7 +11,7 @@ use Rattle.std.proofs.lemmas.Nat.{pow_pos}
 use Rattle.std.proofs.lemmas.Option.{slice_get_within}
 use Rattle.tree_shape.specs.Hashing.{Hashing}
 use Rattle.tree_shape.specs.Shape.{Shape, made, Stands, PeaksStand, peaks, peaks_down, IsLawful}
-use Rattle.tree_shape.specs.Slow.{leaf, leaf_at, node_of}
+use Rattle.tree_shape.specs.Slow.{leaf, node_of}
 use Rattle.tree_shape.specs.Kept.{PeakOf, PeakIn, AtHand, KeepsPeaks}
 use Rattle.tree_shape.specs.Needed.{IsNeeded}
 use Rattle.tree_shape.specs.Pins.{base}

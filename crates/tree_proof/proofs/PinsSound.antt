@@ -1,7 +1,6 @@
 -- What accepted pins are: the peaks of the first leaves, or two inputs clash.
-use Rattle.std.proofs.Common.{◌≡◌, ◌⊎◌, ℕ, zero, suc, ◌+◌, ◌^◌, ◌<◌, ◌≤◌, inl, inr, false, true, cond, List, [], ◌∷◌, ◌++◌, length, map, take, Some, refl, sym, ◌∙◌, ap, subst, arith}
-use Rattle.std.specs.List.{Contains, flat_map, AllByRecursion}
-use Rattle.std.specs.Option.{option_and_then}
+use Rattle.std.proofs.Common.{◌≡◌, ℕ, zero, suc, ◌+◌, ◌^◌, ◌<◌, ◌≤◌, inl, inr, cond, List, [], ◌∷◌, ◌++◌, length, map, take, Some, refl, sym, ◌∙◌, ap, subst, arith}
+use Rattle.std.specs.List.{flat_map, AllByRecursion}
 use Rattle.std.proofs.lemmas.Bool.{cases_lt}
 use Rattle.std.proofs.lemmas.List.{take-map}
 use Rattle.std.proofs.lemmas.List.Elements.{Contains-append_cases}
@@ -13,7 +12,7 @@ use Rattle.tree_shape.specs.Root.{root}
 use Rattle.tree_shape.specs.Kept.{KeepsPeaks}
 use Rattle.tree_proof.specs.declared.proof.Proof.{Proof}
 use Rattle.tree_proof.specs.Cover.{Met, meets, cover, cover_over}
-use Rattle.tree_proof.specs.Check.{rebuilt, rebuilt_over, all_used, wholly_rebuilt, Checks}
+use Rattle.tree_proof.specs.Check.{rebuilt_over, all_used, wholly_rebuilt, Checks}
 use Rattle.tree_proof.specs.Inputs.{slow_inputs, tree_inputs, from_some, leaf_by, rebuilt_inputs, rebuilt_over_inputs, proof_inputs, pin_inputs, ShowsPins}
 use Rattle.tree_proof.specs.Left.{left_in}
 use Rattle.tree_proof.specs.Pinned.{above_pins, left_of, HasPins}
@@ -22,7 +21,7 @@ use Rattle.tree_proof.proofs.RebuildLemmas.{append_nil}
 use Rattle.tree_proof.proofs.LeftLemmas.{left-here, left-none, left_over, left-cover, over-ends}
 use Rattle.tree_proof.proofs.Rises.{cover-rises, left-leads}
 use Rattle.tree_proof.proofs.PinsComplete.{Made, AreMade, above, Left, left-are-made, pins-cover, same-rebuilt, same-wholly, left-split}
-use Rattle.tree_proof.proofs.Clashes.{Sized, EachSized, AllIn, OrClash, and_then, in_left, in_right, in_rest}
+use Rattle.tree_proof.proofs.Clashes.{EachSized, AllIn, OrClash, and_then, in_left, in_right, in_rest}
 use Rattle.tree_proof.proofs.Soundness.{used_is, none_left, over_shown, each_sized, shown_in, IsShown}
 
 module _ {D : Type 0} (h : Hashing D) (inputs : List (List ℕ)) (size : ℕ) (exact : (a b : D) → h.bytes a ≡ h.bytes b → a ≡ b) (one_size : (m : List ℕ) → length (h.bytes (h.digest m)) ≡ size) where

@@ -1,10 +1,10 @@
 -- The nodes of a cover stand one behind another.
 use Rattle.std.proofs.Common.{◌≡◌, ℕ, zero, suc, ◌+◌, ◌-◌, ◌*◌, ◌^◌, ◌<◌, ◌≤◌, Bool, true, false, cond, List, [], ◌∷◌, ◌++◌, length, take, get_or, refl, sym, ◌∙◌, ap, subst, arith, append_assoc}
-use Rattle.std.specs.Prelude.{nat_le, filter}
+use Rattle.std.specs.Prelude.{nat_le}
 use Rattle.std.proofs.Math.Nat.{pow-suc}
 use Rattle.std.proofs.lemmas.Bool.Decides.{nat_tests}
 use Rattle.std.proofs.lemmas.Nat.{pow_pos}
-use Rattle.tree_shape.specs.Shape.{Shape, made, PeaksStand, peaks, ends_by}
+use Rattle.tree_shape.specs.Shape.{Shape, made, PeaksStand}
 use Rattle.tree_shape.specs.Pins.{base}
 use Rattle.tree_shape.proofs.PinLemmas.{base-next, base-end}
 use Rattle.tree_proof.specs.Cover.{Met, cover_in, cover_over, cover}

@@ -1,7 +1,7 @@
 -- The tree of a list of elements is told by the proof of a range of it.
-use Rattle.std.proofs.Common.{◌≡◌, ℕ, suc, ◌+◌, ◌^◌, ◌≤◌, true, List, [], length, map, get_or, Option, refl, sym, ◌∙◌, ap, subst, arith}
+use Rattle.std.proofs.Common.{◌≡◌, ℕ, ◌+◌, ◌≤◌, true, List, [], length, map, get_or, Option, refl, sym, ◌∙◌, ap, subst, arith}
 use Rattle.std.specs.Prelude.{◌-◌, slice_range}
-use Rattle.tree_shape.specs.Hashing.{Hashing, node_input}
+use Rattle.tree_shape.specs.Hashing.{Hashing}
 use Rattle.tree_shape.specs.Shape.{Shape}
 use Rattle.tree_shape.specs.Slow.{leaf, leaf_at, leaf_digests, node}
 use Rattle.tree_proof.specs.declared.proof.Proof.{Proof}

@@ -1,11 +1,10 @@
 -- What stands at a position behind the nodes of a tree.
-use Rattle.std.proofs.Common.{◌≡◌, ◌⊎◌, ℕ, ◌<◌, inl, inr, Bool, true, false, cond, List, [], ◌∷◌, ◌++◌, length, map, Option, Some, None, refl, sym, ◌∙◌, ap, arith}
+use Rattle.std.proofs.Common.{◌≡◌, ◌⊎◌, ℕ, inl, inr, Bool, true, false, cond, List, [], ◌∷◌, ◌++◌, length, Option, Some, None, refl, sym, ◌∙◌, ap, arith}
 use Rattle.std.specs.Prelude.{slice_get, All}
 use Rattle.std.specs.List.{AllByRecursion, Contains}
 use Rattle.std.specs.BTreeMap.{is_at}
 use Rattle.std.specs.Ordering.{nat_cmp}
 use Rattle.std.specs.Option.{option_map}
-use Rattle.std.proofs.lemmas.List.{map-append}
 use Rattle.std.proofs.lemmas.List.Elements.{All-contains, Contains-append_right}
 use Rattle.std.proofs.lemmas.Option.{same_Some, some_pair_parts, slice_get-map}
 use Rattle.tree_shape.specs.Hashing.{Hashing}
@@ -13,7 +12,7 @@ use Rattle.tree_shape.specs.Shape.{Shape, made, IsLawful}
 use Rattle.tree_shape.specs.Slow.{node, node_of, nodes}
 use Rattle.tree_store.specs.Stores.{IsTreeOf}
 use Rattle.tree_proof.specs.Cover.{Met}
-use Rattle.tree_verification.specs.Told.{told_nodes, in_tree, entries, TellsExactly, found}
+use Rattle.tree_verification.specs.Told.{told_nodes, entries, TellsExactly, found}
 use Rattle.tree_verification.proofs.KeyLemmas.{key_same, key_itself}
 use Rattle.tree_verification.proofs.CoverLemmas.{IsPlaced, ArePlaced, all-gives}
 use Rattle.tree_verification.proofs.ToldPlaced.{told-placed}

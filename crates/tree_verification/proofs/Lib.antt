@@ -3,7 +3,7 @@ mod NeededLemmas
 mod NodeLemmas
 mod WalkLemmas
 mod SeveralLemmas
-mod KeyLemmas
+pub mod KeyLemmas
 mod ToldPlaced
 mod FoundLemmas
 mod ToldLemmas

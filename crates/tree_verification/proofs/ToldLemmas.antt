@@ -4,7 +4,7 @@ use Rattle.std.specs.Prelude.{◌==◌, ◌↔◌, IsTrue, IfSome, IfNone}
 use Rattle.std.proofs.lemmas.Bool.Decides.{eqb_tells}
 use Rattle.std.proofs.lemmas.List.{map-append}
 use Rattle.tree_shape.specs.Hashing.{Hashing, node_input}
-use Rattle.tree_shape.specs.Shape.{Shape, peaks}
+use Rattle.tree_shape.specs.Shape.{Shape}
 use Rattle.tree_proof.specs.Cover.{Met, cover_in, cover_over, cover}
 use Rattle.tree_proof.proofs.PeakLemmas.{peaks_left, all_left, none_left}
 use Rattle.tree_proof.proofs.CoverSteps.{cover_in-outside, cover_in-leaf, cover_in-halves}

@@ -1,5 +1,5 @@
 -- The nodes of a tree that a proof and its elements tell.
-use Rattle.std.specs.Prelude.{◌≡◌, ℕ, zero, suc, ◌+◌, ◌-◌, ◌^◌, ◌==◌, true, min, nat_le, List, [], ◌∷◌, ◌++◌, length, map, All, Option, Some, None, Result, Ok, Err, if◌then◌else◌}
+use Rattle.std.specs.Prelude.{◌≡◌, ℕ, zero, suc, ◌+◌, ◌-◌, ◌^◌, ◌==◌, true, min, nat_le, List, [], ◌∷◌, ◌++◌, length, map, All, Option, Some, Result, Ok, Err, if◌then◌else◌}
 use Rattle.std.specs.List.{Contains}
 use Rattle.std.specs.Map.{lookup}
 use Rattle.std.specs.BTreeMap.{is_at}

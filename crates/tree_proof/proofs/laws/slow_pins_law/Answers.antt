@@ -1,4 +1,4 @@
-use Rattle.std.proofs.Common.{◌+◌, ◌-◌, refl, arith}
+use Rattle.std.proofs.Common.{◌-◌, refl, arith}
 use Rattle.tree_shape.specs.Slow.{leaf_digests}
 use Rattle.tree_proof.specs.SlowProof.{slow_proof}
 use Rattle.tree_proof.proofs.PinsComplete.{slow-pins}

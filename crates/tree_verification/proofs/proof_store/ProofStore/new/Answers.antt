@@ -1,4 +1,4 @@
-use Rattle.std.proofs.Common.{◌≡◌, ℕ, ◌+◌, length, sym, ◌∙◌, ap, subst, arith}
+use Rattle.std.proofs.Common.{◌+◌, length, ◌∙◌, arith}
 use Rattle.tree_shape.specs.Slow.{leaf_digests, node}
 use Rattle.tree_proof.specs.Cover.{meets}
 use Rattle.tree_proof.proofs.Complete.{length-leaf_digests}
