@@ -14,3 +14,4 @@ pub mod BuiltLemmas
 pub mod PinningLemmas
 pub mod RebuiltLemmas
 pub mod OverlayLemmas
+pub mod CoveredLemmas

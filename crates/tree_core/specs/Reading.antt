@@ -1,5 +1,5 @@
 -- Nodes read from memory, and peaks read one by one.
-use Rattle.std.specs.Prelude.{◌≡◌, ℕ, ◌-◌, ◌<◌, List, length, Option, Some, IsSome, slice_index_or}
+use Rattle.std.specs.Prelude.{◌≡◌, ◌⊎◌, ℕ, ◌-◌, ◌<◌, List, length, Option, Some, IsSome, Result, Err, IfErr, slice_index_or}
 use Rattle.tree_shape.specs.Shape.{Shape}
 use Rattle.tree_shape.specs.Kept.{PeakOf}
 use Rattle.tree_shape.specs.Pins.{base}
@@ -12,6 +12,10 @@ abbrev pub IsAbsent : {F D : Type 0} → (ℕ → Option D) → List ℕ → Err
 IsAbsent told ps (ElementPruned p) = IsFirstAbsent told ps p
 IsAbsent told ps Memory = Unit {0}
 IsAbsent told ps _ = ⊥
+
+-- it is refused only as these tests say, or for want of memory
+abbrev pub OnlyRefusedBy : {F T : Type 0} → Result (Unit {0}) (Error F) → Result T (Error F) → Type 0
+OnlyRefusedBy answer result = IfErr result (λ e. (answer ≡ Err e) ⊎ (e ≡ Memory))
 
 -- t tells each peak of n leaves
 abbrev pub TellsPeaks : {D : Type 0} → Shape → ℕ → (ℕ → ℕ → Option D) → Type 0

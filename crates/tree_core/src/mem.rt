@@ -57,7 +57,7 @@ impl<F: Family, D: Digest> Mem<F, D> {
     ghost use Rattle.tree_shape.specs.Slow.{node_of, nodes};
     ghost use Rattle.tree_shape.specs.Root.{root, root_over};
     ghost use Rattle.tree_core.specs.Pruned.{made_from, nodes_from, peaks_at, Extends};
-    ghost use Rattle.tree_core.specs.Reading.{ArePeaks};
+    ghost use Rattle.tree_core.specs.Reading.{ArePeaks, OnlyRefusedBy};
     ghost use Rattle.tree_core.specs.Tree.{Tree, node_at, IsSound, IsOf, IsLike, IsPrunedTo, IsGrown, IsBuilt, NotBuilt, IsPinned, empty_tree, prune_answer};
     ghost use Rattle.tree_core.specs.Batches.{BeginsAt, StandsAt, IsUnsealedOf, IsSealedOf};
     ghost use Rattle.tree_core.specs.Applied.{IsLonger, Fits, Refused};
@@ -167,7 +167,10 @@ impl<F: Family, D: Digest> Mem<F, D> {
     /// The proof of one leaf.
     pub fn proof(&self, loc: Location<F>, inactive_peaks: u64) -> Result<Proof<F, D>, Error<F>>
         requires { inactive_peaks ≤ length (F.shape.heights self.now.leaves) }
-        ensures { Proves F.shape (leaf_answer self.now.leaves loc) self.now.leaves inactive_peaks (meets loc (loc + 1)) (node_at self.now) result }
+        ensures proves { Proves F.shape (leaf_answer self.now.leaves loc) self.now.leaves inactive_peaks (meets loc (loc + 1)) (node_at self.now) result }
+
+        // From the boundary on no node is wanting.
+        ensures kept { self.now.boundary ≤ loc → OnlyRefusedBy (leaf_answer self.now.leaves loc) result }
     {
         proof_from_memory(self.alloc, self, self.leaves(), loc, inactive_peaks)
     }
@@ -180,7 +183,10 @@ impl<F: Family, D: Digest> Mem<F, D> {
         inactive_peaks: u64,
     ) -> Result<Proof<F, D>, Error<F>>
         requires { inactive_peaks ≤ length (F.shape.heights self.now.leaves) }
-        ensures { Proves F.shape (range_answer self.now.leaves self.now.leaves start end) self.now.leaves inactive_peaks (meets start end) (node_at self.now) result }
+        ensures proves { Proves F.shape (range_answer self.now.leaves self.now.leaves start end) self.now.leaves inactive_peaks (meets start end) (node_at self.now) result }
+
+        // From the boundary on no node is wanting.
+        ensures kept { self.now.boundary ≤ start → OnlyRefusedBy (range_answer self.now.leaves self.now.leaves start end) result }
     {
         range_proof_from_memory(self.alloc, self, self.leaves(), start, end, inactive_peaks)
     }

@@ -41,6 +41,7 @@ impl<F: Family, D: Digest> MerkleizedBatch<F, D> {
     ghost use Rattle.tree_core.specs.Applied.{WhyNot};
     ghost use Rattle.tree_core.specs.Tree.{IsOf};
     ghost use Rattle.tree_core.specs.Overlay.{overlaid, AreAlike};
+    ghost use Rattle.tree_core.specs.Reading.{OnlyRefusedBy};
     ghost use Rattle.tree_proof.specs.Cover.{meets};
     ghost use Rattle.tree_verification.specs.Ranges.{range_answer, leaf_answer, proof_of, Proves};
 
@@ -130,7 +131,12 @@ impl<F: Family, D: Digest> MerkleizedBatch<F, D> {
         ensures proves { Proves F.shape (leaf_answer self.now.leaves loc) self.now.leaves inactive_peaks (meets loc (loc + 1)) (overlaid F.shape self.now base.now) result }
         ensures batch { IfOk result (λ proof. (h : Hashing D) (all made : List D) → IsOf F.shape h all base.now → IsSealedOf F.shape h made self.now → AreAlike all made →
             proof ≡ proof_of F.shape h made inactive_peaks (meets loc (loc + 1))) }
+
+        // From the tree's boundary on no node is wanting, where the tree has what stands before the batch's nodes.
+        ensures kept { base.now.boundary ≤ loc → self.now.first ≤ base.now.leaves → OnlyRefusedBy (leaf_answer self.now.leaves loc) result }
     {
+        // Its leaves tell that the tree is sound.
+        let _stored = base.leaves();
         let nodes = Overlay { base, batch: self };
         proof_from_memory(self.alloc, &nodes, self.leaves(), loc, inactive_peaks)
     }
@@ -147,7 +153,12 @@ impl<F: Family, D: Digest> MerkleizedBatch<F, D> {
         ensures proves { Proves F.shape (range_answer self.now.leaves self.now.leaves start end) self.now.leaves inactive_peaks (meets start end) (overlaid F.shape self.now base.now) result }
         ensures batch { IfOk result (λ proof. (h : Hashing D) (all made : List D) → IsOf F.shape h all base.now → IsSealedOf F.shape h made self.now → AreAlike all made →
             proof ≡ proof_of F.shape h made inactive_peaks (meets start end)) }
+
+        // From the tree's boundary on no node is wanting, where the tree has what stands before the batch's nodes.
+        ensures kept { base.now.boundary ≤ start → self.now.first ≤ base.now.leaves → OnlyRefusedBy (range_answer self.now.leaves self.now.leaves start end) result }
     {
+        // Its leaves tell that the tree is sound.
+        let _stored = base.leaves();
         let nodes = Overlay { base, batch: self };
         range_proof_from_memory(
             self.alloc,

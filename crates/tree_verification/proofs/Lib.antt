@@ -1,5 +1,5 @@
-mod CoverLemmas
-mod NeededLemmas
+pub mod CoverLemmas
+pub mod NeededLemmas
 mod NodeLemmas
 mod WalkLemmas
 mod SeveralLemmas
