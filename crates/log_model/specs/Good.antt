@@ -32,28 +32,32 @@ abbrev pub AreAppends : {Op V : Type 0} → Meaning Op V → List Op → Type 0
 AreAppends m [] = Unit {0}
 AreAppends m (op ∷ ops) = IsNone (m.floor op) × AreAppends m ops
 
--- A list of the log: it begins with the first commit and ends with one, a tree can hold it, its values are allowed, and its floors rise.
-pub record IsGoodList {Op V : Type 0} (m : Meaning Op V) (allowed : V → Type 0) (first : Op) (list : List Op) : Type 0 where
+-- A place where the log may stand: a list that ends with a commit, and is one of these.
+abbrev pub IsStand : {Op V : Type 0} → Meaning Op V → (List Op → Type 0) → List Op → Type 0
+IsStand m among list = EndsWithCommit m list × among list
+
+-- A list of the log: it begins with the first commit, the log may stand there, a tree can hold it, its values are allowed, and its floors rise.
+pub record IsGoodList {Op V : Type 0} (m : Meaning Op V) (among : List Op → Type 0) (allowed : V → Type 0) (first : Op) (list : List Op) : Type 0 where
   pub begins : take 1 list ≡ first ∷ []
-  pub ends : EndsWithCommit m list
+  pub stand : IsStand m among list
   pub few : length list ≤ max_leaves
   pub values : ValuesAre m allowed list
   pub floors : FloorsRise m 0 0 list
 
--- A length of a list up to which it ends with a commit.
-abbrev pub IsMark : {Op V : Type 0} → Meaning Op V → List Op → ℕ → Type 0
-IsMark m list n = (n ≤ length list) × EndsWithCommit m (take n list)
+-- A length of a list up to which the log may stand there.
+abbrev pub IsMark : {Op V : Type 0} → Meaning Op V → (List Op → Type 0) → List Op → ℕ → Type 0
+IsMark m among list n = (n ≤ length list) × IsStand m among (take n list)
 
 -- All are marks of the list.
-abbrev pub AreMarks : {Op V : Type 0} → Meaning Op V → List Op → List ℕ → Type 0
-AreMarks m list [] = Unit {0}
-AreMarks m list (n ∷ ns) = IsMark m list n × AreMarks m list ns
+abbrev pub AreMarks : {Op V : Type 0} → Meaning Op V → (List Op → Type 0) → List Op → List ℕ → Type 0
+AreMarks m among list [] = Unit {0}
+AreMarks m among list (n ∷ ns) = IsMark m among list n × AreMarks m among list ns
 
 -- An unsealed batch stands on a list of the log, whose length is its base; its appends are allowed, and a tree can hold them. The base, the boundary and the tips of a sealed one are marks of its list, whose floor is its floor.
-abbrev pub IsGoodBatch : {Op V : Type 0} → Meaning Op V → (V → Type 0) → Op → Batch Op → Type 0
-IsGoodBatch m allowed first (Unsealed u) = IsGoodList m allowed first u.list × (u.base ≡ length u.list) × AreAppends m u.pending × ValuesAre m allowed u.pending × (size_of u ≤ max_leaves)
-IsGoodBatch m allowed first (Sealed c) = IsGoodList m allowed first c.list × IsMark m c.list c.base × IsMark m c.list c.boundary × AreMarks m c.list c.tips × (c.floor ≡ floor_of m c.list)
-IsGoodBatch m allowed first Gone = Unit {0}
+abbrev pub IsGoodBatch : {Op V : Type 0} → Meaning Op V → (List Op → Type 0) → (V → Type 0) → Op → Batch Op → Type 0
+IsGoodBatch m among allowed first (Unsealed u) = IsGoodList m among allowed first u.list × (u.base ≡ length u.list) × AreAppends m u.pending × ValuesAre m allowed u.pending × (size_of u ≤ max_leaves)
+IsGoodBatch m among allowed first (Sealed c) = IsGoodList m among allowed first c.list × IsMark m among c.list c.base × IsMark m among c.list c.boundary × AreMarks m among c.list c.tips × (c.floor ≡ floor_of m c.list)
+IsGoodBatch m among allowed first Gone = Unit {0}
 
 -- The parent of a batch b is a sealed one of a lower number. Its list is the batch's, up to the batch's base.
 abbrev pub ParentFits : {Op : Type 0} → State Op → ℕ → List Op → ℕ → Option ℕ → Type 0
@@ -66,7 +70,7 @@ HasParent s b (Sealed c) = ParentFits s b c.list c.base c.parent
 HasParent s b Gone = Unit {0}
 
 -- The log's list is good, and so is each batch, and its parent fits.
-pub record IsGood {Op V : Type 0} (m : Meaning Op V) (allowed : V → Type 0) (first : Op) (s : State Op) : Type 0 where
-  pub ops : IsGoodList m allowed first s.ops
-  pub batches : (b : ℕ) → IsGoodBatch m allowed first (batch_at s b)
+pub record IsGood {Op V : Type 0} (m : Meaning Op V) (among : List Op → Type 0) (allowed : V → Type 0) (first : Op) (s : State Op) : Type 0 where
+  pub ops : IsGoodList m among allowed first s.ops
+  pub batches : (b : ℕ) → IsGoodBatch m among allowed first (batch_at s b)
   pub parents : (b : ℕ) → HasParent s b (batch_at s b)

@@ -19,7 +19,7 @@ same_default : (o : Option ℕ) (a b : ℕ) → IsSome o → unwrap_or o a ≡ u
 same_default None a b h = absurd cc
 same_default (Some x) a b h = refl
 
-module _ {Op V : Type 0} (m : Meaning Op V) (allowed : V → Type 0) (first : Op) where
+module _ {Op V : Type 0} (m : Meaning Op V) (among : List Op → Type 0) (allowed : V → Type 0) (first : Op) where
   ends_some : (xs : List Op) → EndsWithCommit m xs → 1 ≤ length xs
   ends_some [] h = absurd h
   ends_some (x ∷ xs) h = omega arith
@@ -63,55 +63,55 @@ module _ {Op V : Type 0} (m : Meaning Op V) (allowed : V → Type 0) (first : Op
   appends_rise low i [] h = tt
   appends_rise low i (x ∷ xs) h = let e = none_is (m.floor x) h.0 in rw e (tt, appends_rise low (i + 1) xs h.1)
 
-  whole_mark : (list : List Op) → IsGoodList m allowed first list → IsMark m list (length list)
-  whole_mark list g = (omega arith, rw (take-length list) g.ends)
+  whole_mark : (list : List Op) → IsGoodList m among allowed first list → IsMark m among list (length list)
+  whole_mark list g = (omega arith, rw (take-length list) g.stand)
 
-  pub good_begun_on : (parent : Option ℕ) (list : List Op) → IsGoodList m allowed first list → IsGoodBatch m allowed first (Unsealed (begun_on parent list))
+  pub good_begun_on : (parent : Option ℕ) (list : List Op) → IsGoodList m among allowed first list → IsGoodBatch m among allowed first (Unsealed (begun_on parent list))
   good_begun_on parent list g = (g, refl, tt, tt, omega (arith, g.few))
 
-  pub good_snapshot : (list : List Op) → IsGoodList m allowed first list → IsGoodBatch m allowed first (Sealed (snapshot_of list (floor_of m list)))
+  pub good_snapshot : (list : List Op) → IsGoodList m among allowed first list → IsGoodBatch m among allowed first (Sealed (snapshot_of list (floor_of m list)))
   good_snapshot list g = (g, whole_mark list g, whole_mark list g, tt, refl)
 
-  pub good_appended : (u : UnsealedBatch Op) (op : Op) → IsGoodBatch m allowed first (Unsealed u) → IsNone (m.floor op) → IfSome (m.value op) allowed → size_of u < max_leaves
-      → IsGoodBatch m allowed first (Unsealed (appended u op))
+  pub good_appended : (u : UnsealedBatch Op) (op : Op) → IsGoodBatch m among allowed first (Unsealed u) → IsNone (m.floor op) → IfSome (m.value op) allowed → size_of u < max_leaves
+      → IsGoodBatch m among allowed first (Unsealed (appended u op))
   good_appended u op g none value few =
       let l = length-append u.pending (op ∷ []) in
       (g.0, g.1, appends_append u.pending (op ∷ []) g.2 (none, tt), values_append u.pending (op ∷ []) g.3 (value, tt), omega (arith, l, few))
 
   -- the list that a commit ends is good
-  good_ended : (u : UnsealedBatch Op) (commit : Op) (floor : ℕ) → IsGoodBatch m allowed first (Unsealed u) → m.floor commit ≡ Some floor → IfSome (m.value commit) allowed
-      → floor_of m u.list ≤ floor → floor ≤ size_of u → size_of u + 1 ≤ max_leaves → IsGoodList m allowed first (u.list ++ (u.pending ++ (commit ∷ [])))
-  good_ended u commit floor g is value low high few =
+  good_ended : (u : UnsealedBatch Op) (commit : Op) (floor : ℕ) → among (u.list ++ (u.pending ++ (commit ∷ []))) → IsGoodBatch m among allowed first (Unsealed u) → m.floor commit ≡ Some floor → IfSome (m.value commit) allowed
+      → floor_of m u.list ≤ floor → floor ≤ size_of u → size_of u + 1 ≤ max_leaves → IsGoodList m among allowed first (u.list ++ (u.pending ++ (commit ∷ [])))
+  good_ended u commit floor known g is value low high few =
       let more : List Op = u.pending ++ (commit ∷ []) in
       let base = g.1 in
       let l = length-append u.list more in
       let k = length-append u.pending (commit ∷ []) in
-      let some = ends_some u.list g.0.ends in
+      let some = ends_some u.list g.0.stand.0 in
       let ending : EndsWithCommit m (commit ∷ []) = rw is refl in
       let after : floor_from (floor_of m u.list) u.pending ≡ floor_of m u.list = floor_from-appends (floor_of m u.list) u.pending g.2 in
       let last : FloorsRise m (floor_from (floor_of m u.list) u.pending) (length u.list + length u.pending) (commit ∷ []) = rw (after, is) ((low, omega (arith, base, high)), tt) in
       let tail : FloorsRise m (floor_of m u.list) (length u.list) more = rise_append (floor_of m u.list) (length u.list) u.pending (commit ∷ []) (appends_rise _ _ u.pending g.2) last in
       let P : ℕ → Type 0 = λ n. FloorsRise m n (0 + length u.list) more in
       let from : 0 + length u.list ≡ length u.list = omega arith in
-      let tail' : FloorsRise m (floor_from 0 u.list) (0 + length u.list) more = rw (floor_from-ends 0 u.list g.0.ends, from) tail in
+      let tail' : FloorsRise m (floor_from 0 u.list) (0 + length u.list) more = rw (floor_from-ends 0 u.list g.0.stand.0, from) tail in
       record {
         begins = take-append-le 1 u.list more some ∙ g.0.begins;
-        ends = ends_append u.list more (ends_append u.pending (commit ∷ []) ending);
+        stand = (ends_append u.list more (ends_append u.pending (commit ∷ []) ending), known);
         few = omega (arith, l, k, base, few);
         values = values_append u.list more g.0.values (values_append u.pending (commit ∷ []) g.3 (value, tt));
         floors = rise_append 0 0 u.list more g.0.floors tail';
       }
 
   -- a mark of a list is one of a longer list that begins with it
-  mark_longer : (xs ys : List Op) (n : ℕ) → IsMark m xs n → IsMark m (xs ++ ys) n
+  mark_longer : (xs ys : List Op) (n : ℕ) → IsMark m among xs n → IsMark m among (xs ++ ys) n
   mark_longer xs ys n h = let l = length-append xs ys in (omega (arith, l, h.0), rw (take-append-le n xs ys h.0) h.1)
 
-  marks_longer : (xs ys : List Op) (ns : List ℕ) → AreMarks m xs ns → AreMarks m (xs ++ ys) ns
+  marks_longer : (xs ys : List Op) (ns : List ℕ) → AreMarks m among xs ns → AreMarks m among (xs ++ ys) ns
   marks_longer xs ys [] h = tt
   marks_longer xs ys (n ∷ ns) h = (mark_longer xs ys n h.0, marks_longer xs ys ns h.1)
 
-  base_mark : (u : UnsealedBatch Op) → IsGoodBatch m allowed first (Unsealed u) → IsMark m u.list u.base
-  base_mark u g = (omega (arith, g.1), rw (g.1, take-length u.list) g.0.ends)
+  base_mark : (u : UnsealedBatch Op) → IsGoodBatch m among allowed first (Unsealed u) → IsMark m among u.list u.base
+  base_mark u g = (omega (arith, g.1), rw (g.1, take-length u.list) g.0.stand)
 
   -- the floor of a sealed batch is its commit's
   pub floor-sealed : (u : UnsealedBatch Op) (commit : Op) (floor : ℕ) → m.floor commit ≡ Some floor → floor_of m (u.list ++ (u.pending ++ (commit ∷ []))) ≡ floor
@@ -127,11 +127,11 @@ module _ {Op V : Type 0} (m : Meaning Op V) (allowed : V → Type 0) (first : Op
       ending (x ∷ next ∷ xs) ys lt = ending (next ∷ xs) ys lt
 
   -- so a batch that is sealed with marks of its list is good
-  pub good_sealed : (u : UnsealedBatch Op) (boundary : ℕ) (tips : List ℕ) (commit : Op) (floor : ℕ) → IsGoodBatch m allowed first (Unsealed u) → IsMark m u.list boundary → AreMarks m u.list tips
-      → m.floor commit ≡ Some floor → IfSome (m.value commit) allowed → floor_of m u.list ≤ floor → floor ≤ size_of u → size_of u + 1 ≤ max_leaves → IsGoodBatch m allowed first (Sealed (sealed u boundary tips commit floor))
-  good_sealed u boundary tips commit floor g mark marks is value low high few =
+  pub good_sealed : (u : UnsealedBatch Op) (boundary : ℕ) (tips : List ℕ) (commit : Op) (floor : ℕ) → among (u.list ++ (u.pending ++ (commit ∷ []))) → IsGoodBatch m among allowed first (Unsealed u) → IsMark m among u.list boundary → AreMarks m among u.list tips
+      → m.floor commit ≡ Some floor → IfSome (m.value commit) allowed → floor_of m u.list ≤ floor → floor ≤ size_of u → size_of u + 1 ≤ max_leaves → IsGoodBatch m among allowed first (Sealed (sealed u boundary tips commit floor))
+  good_sealed u boundary tips commit floor known g mark marks is value low high few =
       let more : List Op = u.pending ++ (commit ∷ []) in (
-        good_ended u commit floor g is value low high few,
+        good_ended u commit floor known g is value low high few,
         mark_longer u.list more u.base (base_mark u g),
         mark_longer u.list more boundary mark,
         marks_longer u.list more tips marks,
@@ -188,69 +188,69 @@ module _ {Op V : Type 0} (m : Meaning Op V) (allowed : V → Type 0) (first : Op
   push_keeps (y ∷ bs) x zero = keeps_self y
   push_keeps (y ∷ bs) x (suc q) = push_keeps bs x q
 
-  pub good_with : (s : State Op) (b : ℕ) (x : Batch Op) → IsGood m allowed first s → IsGoodBatch m allowed first x → HasParent s b x → Keeps (batch_at s b) x → IsGood m allowed first (with_batch s b x)
+  pub good_with : (s : State Op) (b : ℕ) (x : Batch Op) → IsGood m among allowed first s → IsGoodBatch m among allowed first x → HasParent s b x → Keeps (batch_at s b) x → IsGood m among allowed first (with_batch s b x)
   good_with s b x g good has keeps =
       let t : State Op = with_batch s b x in
       let kept : (q : ℕ) → Keeps (batch_at s q) (batch_at t q) = set_keeps s.batches b x keeps in
       record {
         ops = g.ops;
-        batches = set_good (λ q. IsGoodBatch m allowed first) s.batches b x g.batches good;
+        batches = set_good (λ q. IsGoodBatch m among allowed first) s.batches b x g.batches good;
         parents = set_good (HasParent t) s.batches b x (λ q. still_has s t kept q (batch_at s q) (g.parents q)) (still_has s t kept b x has);
       }
 
   -- an unsealed batch that is lost, or given up
-  pub good_lost : (s : State Op) (b : ℕ) (u : UnsealedBatch Op) → IsGood m allowed first s → batch_at s b ≡ Unsealed u → IsGood m allowed first (with_batch s b Gone)
+  pub good_lost : (s : State Op) (b : ℕ) (u : UnsealedBatch Op) → IsGood m among allowed first s → batch_at s b ≡ Unsealed u → IsGood m among allowed first (with_batch s b Gone)
   good_lost s b u g is = good_with s b Gone g tt tt (rw is tt)
 
   -- an unsealed batch with one more append
-  pub good_with_append : (s : State Op) (b : ℕ) (u : UnsealedBatch Op) (op : Op) → IsGood m allowed first s → batch_at s b ≡ Unsealed u → IsNone (m.floor op) → IfSome (m.value op) allowed → size_of u < max_leaves
-      → IsGood m allowed first (with_batch s b (Unsealed (appended u op)))
+  pub good_with_append : (s : State Op) (b : ℕ) (u : UnsealedBatch Op) (op : Op) → IsGood m among allowed first s → batch_at s b ≡ Unsealed u → IsNone (m.floor op) → IfSome (m.value op) allowed → size_of u < max_leaves
+      → IsGood m among allowed first (with_batch s b (Unsealed (appended u op)))
   good_with_append s b u op g is none value few =
-      let good : IsGoodBatch m allowed first (Unsealed u) = subst (IsGoodBatch m allowed first) is (g.batches b) in
+      let good : IsGoodBatch m among allowed first (Unsealed u) = subst (IsGoodBatch m among allowed first) is (g.batches b) in
       let has : HasParent s b (Unsealed u) = subst (HasParent s b) is (g.parents b) in
       good_with s b (Unsealed (appended u op)) g (good_appended u op good none value few) has (rw is tt)
 
   -- an unsealed batch that is sealed here
-  pub good_with_sealed : (s : State Op) (b : ℕ) (u : UnsealedBatch Op) (commit : Op) (floor : ℕ) → IsGood m allowed first s → batch_at s b ≡ Unsealed u → m.floor commit ≡ Some floor → IfSome (m.value commit) allowed
-      → floor_of m u.list ≤ floor → floor ≤ size_of u → size_of u + 1 ≤ max_leaves → IsGood m allowed first (with_batch s b (Sealed (sealed_here s u commit floor)))
-  good_with_sealed s b u commit floor g is sets value low high few =
-      let good : IsGoodBatch m allowed first (Unsealed u) = subst (IsGoodBatch m allowed first) is (g.batches b) in
+  pub good_with_sealed : (s : State Op) (b : ℕ) (u : UnsealedBatch Op) (commit : Op) (floor : ℕ) → among (u.list ++ (u.pending ++ (commit ∷ []))) → IsGood m among allowed first s → batch_at s b ≡ Unsealed u → m.floor commit ≡ Some floor → IfSome (m.value commit) allowed
+      → floor_of m u.list ≤ floor → floor ≤ size_of u → size_of u + 1 ≤ max_leaves → IsGood m among allowed first (with_batch s b (Sealed (sealed_here s u commit floor)))
+  good_with_sealed s b u commit floor known g is sets value low high few =
+      let good : IsGoodBatch m among allowed first (Unsealed u) = subst (IsGoodBatch m among allowed first) is (g.batches b) in
       let has : HasParent s b (Unsealed u) = subst (HasParent s b) is (g.parents b) in
-      let marks = marks_here m allowed first s g b u is in
+      let marks = marks_here m among allowed first s g b u is in
       let c : SealedBatch Op = sealed_here s u commit floor in
       let front : take u.base c.list ≡ take u.base u.list = take-append-le u.base u.list (u.pending ++ (commit ∷ [])) (omega (arith, good.1)) in
       let has' : HasParent s b (Sealed c) = on_longer s b u.list c.list u.base u.parent (sym front) has in
-      good_with s b (Sealed c) g (good_sealed u (effective_boundary s u) (tips_of (reach s u)) commit floor good marks.0 marks.1 sets value low high few) has' (rw is tt)
+      good_with s b (Sealed c) g (good_sealed u (effective_boundary s u) (tips_of (reach s u)) commit floor known good marks.0 marks.1 sets value low high few) has' (rw is tt)
     where
       on_longer : (s : State Op) (b : ℕ) (xs ys : List Op) (base : ℕ) (link : Option ℕ) → take base xs ≡ take base ys → ParentFits s b xs base link → ParentFits s b ys base link
       on_longer s b xs ys base None e h = tt
       on_longer s b xs ys base (Some p) e h = (h.0, rw (← e) h.1)
 
   -- a sealed batch with other holds
-  pub good_with_holds : (s : State Op) (b : ℕ) (c : SealedBatch Op) (holds : ℕ) → IsGood m allowed first s → batch_at s b ≡ Sealed c → IsGood m allowed first (with_batch s b (Sealed (record c { holds = holds })))
+  pub good_with_holds : (s : State Op) (b : ℕ) (c : SealedBatch Op) (holds : ℕ) → IsGood m among allowed first s → batch_at s b ≡ Sealed c → IsGood m among allowed first (with_batch s b (Sealed (record c { holds = holds })))
   good_with_holds s b c holds g is =
-      let good : IsGoodBatch m allowed first (Sealed c) = subst (IsGoodBatch m allowed first) is (g.batches b) in
+      let good : IsGoodBatch m among allowed first (Sealed c) = subst (IsGoodBatch m among allowed first) is (g.batches b) in
       let has : HasParent s b (Sealed c) = subst (HasParent s b) is (g.parents b) in
       good_with s b (Sealed (record c { holds = holds })) g good has (rw is refl)
 
-  pub good_new : (s : State Op) (x : Batch Op) → IsGood m allowed first s → IsGoodBatch m allowed first x → HasParent s (length s.batches) x → IsGood m allowed first (with_new s x)
+  pub good_new : (s : State Op) (x : Batch Op) → IsGood m among allowed first s → IsGoodBatch m among allowed first x → HasParent s (length s.batches) x → IsGood m among allowed first (with_new s x)
   good_new s x g good has =
       let t : State Op = with_new s x in
       let kept : (q : ℕ) → Keeps (batch_at s q) (batch_at t q) = push_keeps s.batches x in
       record {
         ops = g.ops;
-        batches = push_good (λ q. IsGoodBatch m allowed first) s.batches x g.batches good;
+        batches = push_good (λ q. IsGoodBatch m among allowed first) s.batches x g.batches good;
         parents = push_good (HasParent t) s.batches x (λ q. still_has s t kept q (batch_at s q) (g.parents q)) (still_has s t kept (length s.batches) x has);
       }
 
   -- a batch on the present list
-  pub good_begun : (s : State Op) → IsGood m allowed first s → IsGood m allowed first (begun s None s.ops)
+  pub good_begun : (s : State Op) → IsGood m among allowed first s → IsGood m among allowed first (begun s None s.ops)
   good_begun s g = good_new s (Unsealed (begun_on None s.ops)) g (good_begun_on None s.ops g.ops) tt
 
   -- a batch on a sealed one
-  pub good_begun_after : (s : State Op) (p : ℕ) (c : SealedBatch Op) → IsGood m allowed first s → batch_at s p ≡ Sealed c → IsGood m allowed first (begun s (Some p) c.list)
+  pub good_begun_after : (s : State Op) (p : ℕ) (c : SealedBatch Op) → IsGood m among allowed first s → batch_at s p ≡ Sealed c → IsGood m among allowed first (begun s (Some p) c.list)
   good_begun_after s p c g is =
-      let good : IsGoodBatch m allowed first (Sealed c) = subst (IsGoodBatch m allowed first) is (g.batches p) in
+      let good : IsGoodBatch m among allowed first (Sealed c) = subst (IsGoodBatch m among allowed first) is (g.batches p) in
       good_new s (Unsealed (begun_on (Some p) c.list)) g (good_begun_on (Some p) c.list good.0) (drawn s.batches p c is, rw is (sym (take-length c.list)))
     where
       never : {c : SealedBatch Op} → Gone ≡ Sealed c → ⊥
@@ -261,19 +261,19 @@ module _ {Op V : Type 0} (m : Meaning Op V) (allowed : V → Type 0) (first : Op
       drawn (x ∷ bs) zero c e = omega arith
       drawn (x ∷ bs) (suc p) c e = let below = drawn bs p c e in omega (arith, below)
 
-  pub good_snapshot_taken : (s : State Op) → IsGood m allowed first s → IsGood m allowed first (snapshot_taken s (floor_of m s.ops))
+  pub good_snapshot_taken : (s : State Op) → IsGood m among allowed first s → IsGood m among allowed first (snapshot_taken s (floor_of m s.ops))
   good_snapshot_taken s g = good_new s (Sealed (snapshot_of s.ops (floor_of m s.ops))) g (good_snapshot s.ops g.ops) tt
 
-  pub good_applied : (s : State Op) (b : ℕ) (c : SealedBatch Op) → IsGood m allowed first s → batch_at s b ≡ Sealed c → IsGood m allowed first (applied s c)
+  pub good_applied : (s : State Op) (b : ℕ) (c : SealedBatch Op) → IsGood m among allowed first s → batch_at s b ≡ Sealed c → IsGood m among allowed first (applied s c)
   good_applied s b c g is =
-      let good : IsGoodBatch m allowed first (Sealed c) = subst (IsGoodBatch m allowed first) is (g.batches b) in
+      let good : IsGoodBatch m among allowed first (Sealed c) = subst (IsGoodBatch m among allowed first) is (g.batches b) in
       let t : State Op = applied s c in
       let kept : (q : ℕ) → Keeps (batch_at s q) (batch_at t q) = λ q. keeps_self (batch_at s q) in
       record { ops = good.0; batches = g.batches; parents = λ q. still_has s t kept q (batch_at s q) (g.parents q) }
 
-  pub good_opened : m.floor first ≡ Some 0 → IfSome (m.value first) allowed → IsGood m allowed first (opened first)
-  good_opened is value = record {
-    ops = record { begins = refl; ends = rw is refl; few = omega arith; values = (value, tt); floors = rw is ((omega arith, omega arith), tt) };
+  pub good_opened : among (first ∷ []) → m.floor first ≡ Some 0 → IfSome (m.value first) allowed → IsGood m among allowed first (opened first)
+  good_opened known is value = record {
+    ops = record { begins = refl; stand = (rw is refl, known); few = omega arith; values = (value, tt); floors = rw is ((omega arith, omega arith), tt) };
     batches = λ b. tt;
     parents = λ b. tt;
   }

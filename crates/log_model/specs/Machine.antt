@@ -1,5 +1,6 @@
 -- The list machine's state, and what each kind of step makes of it.
 use Rattle.std.specs.Prelude.{ℕ, ◌^◌, Bool, List, [], ◌∷◌, ◌++◌, take, slice_index_or, slice_set, Option}
+use Rattle.std.specs.List.{flat_map}
 use Rattle.std.specs.Cmp.Lexicographic.{pointwise}
 use Rattle.log_model.specs.Meaning.{Meaning}
 use Rattle.log_model.specs.Batches.{Batch, Unsealed, Sealed, Gone, SealedBatch, begun_on, snapshot_of}
@@ -41,6 +42,24 @@ snapshot_taken s floor = with_new s (Sealed (snapshot_of s.ops floor))
 abbrev pub applied : {Op : Type 0} → State Op → SealedBatch Op → State Op
 applied s batch = record s { ops = batch.list }
 
+-- The list of a sealed batch.
+abbrev pub sealed_list : {Op : Type 0} → Batch Op → List (List Op)
+sealed_list (Unsealed u) = []
+sealed_list (Sealed c) = c.list ∷ []
+sealed_list Gone = []
+
+-- The lists of a state: the present one, and those of its sealed batches.
+abbrev pub lists_here : {Op : Type 0} → State Op → List (List Op)
+lists_here s = s.ops ∷ flat_map sealed_list s.batches
+
+-- A test of whether two lists are one.
+abbrev pub Test : Type 0 → Type 0
+Test Op = List Op → List Op → Bool
+
+-- Operation by operation.
+abbrev pub one_list : {Op V : Type 0} → Meaning Op V → Test Op
+one_list m = pointwise m.same
+
 -- Whether the present list is the first n of a batch's list.
-abbrev pub stands_at : {Op V : Type 0} → Meaning Op V → State Op → List Op → ℕ → Bool
-stands_at m s list n = pointwise m.same s.ops (take n list)
+abbrev pub stands_at : {Op : Type 0} → Test Op → State Op → List Op → ℕ → Bool
+stands_at one s list n = one s.ops (take n list)

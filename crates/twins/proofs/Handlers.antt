@@ -1,128 +1,168 @@
--- What the handlers of commands make of the state.
-use Rattle.std.proofs.Common.{◌≡◌, ℕ, ◌+◌, ◌-◌, ◌<◌, ◌≤◌, true, false, List, [], ◌∷◌, ◌++◌, length, map, get_or, Option, Some, None, refl, sym, ◌∙◌, ap, arith}
-use Rattle.std.specs.Prelude.{nat_lt, slice_set}
-use Rattle.std.proofs.lemmas.List.{set-set}
-use Rattle.std.proofs.lemmas.Option.{none-some}
+-- What the handlers of commands answer.
+use Rattle.std.proofs.Common.{◌≡◌, ℕ, ◌+◌, ◌<◌, ◌≤◌, Bool, true, false, List, ◌∷◌, length, get_or, set, Option, Some, None, refl, sym, ◌∙◌, ap, subst, arith}
+use Rattle.std.specs.Prelude.{nat_lt, Contains}
+use Rattle.std.specs.Bool.{Decides, one_answer}
+use Rattle.std.specs.Option.{option_map}
+use Rattle.std.proofs.lemmas.Bool.Decides.{nat_tests}
+use Rattle.std.proofs.lemmas.List.{set-get_or}
+use Rattle.std.proofs.lemmas.Option.{none-some, same_Some, cond_some}
+use Rattle.chain_core.specs.Slots as slots
+use Rattle.chain_core.specs.Slots.{holds_of}
+use Rattle.chain_core.specs.declared.commitment.Commitment.{Commitment}
+use Rattle.chain_core.specs.declared.pool.HeldBatch.{HeldBatch}
+use Rattle.tree_shape.specs.declared.mmr.Mmr.{Mmr}
+use Rattle.tree_shape.specs.declared.sha256.Sha256Digest.{Sha256Digest}
 use Rattle.log_model.specs.Batches as batches
-use Rattle.log_model.specs.Machine.{State, batch_at, begun, max_leaves}
-use Rattle.log_model.specs.Reach.{stands_on, may_seal, floor_below, sealed_here}
+use Rattle.log_model.specs.Batches.{is_held}
+use Rattle.log_model.specs.Machine.{State, Test, batch_at, begun, applied, with_batch, max_leaves}
+use Rattle.log_model.specs.Reach.{stands_on, may_seal, may_apply, floor_below, sealed_here}
 use Rattle.op_codec.specs.declared.keyless.Operation.TheVariants.{Append, Commit}
+use Rattle.command_text.specs.declared.command.Answer.{Answer}
 use Rattle.command_text.specs.declared.command.Answer.TheVariants as answer
 use Rattle.command_text.specs.declared.command.Refusal.{Refusal}
-use Rattle.command_text.specs.declared.command.Refusal.TheVariants.{NoBatch, ValueTooLong, StaleBatch, LocationOverflow, FloorRegressed, FloorBeyondSize}
+use Rattle.command_text.specs.declared.command.Refusal.TheVariants.{StaleBatch, LocationOverflow}
 use Rattle.twins.specs.Operation.{Operation, meaning}
-use Rattle.twins.specs.Step.{Outcome, begin, begin_on, append_to, seal_refusal, metadata_length, done_sealing, seal, apply, hold, release}
-use Rattle.twins.specs.Lists.{list_at}
-use Rattle.twins.specs.StateOf.{length_at, lengths, unsealed_of, batch_of, state_from, as_sealed, linked_in}
+use Rattle.twins.specs.Commitments.{commitment_of, one_state}
+use Rattle.twins.specs.Step.{Outcome, refused, lost, begin_on, append_to, floor_refusal, seal_refusal, metadata_length, done_sealing, seal, apply, hold}
+use Rattle.twins.specs.Lists.{list_at, lists_in, count_in}
+use Rattle.twins.specs.Pool.{Slots, item_at}
+use Rattle.twins.specs.StateOf.{sizes, IsStateIn, AreStatesIn, AreBounds, IsSealedOf, if_held, held_in, IsStateOf, Meets}
 use Rattle.twins.specs.declared.batch.Batch.{Batch}
 use Rattle.twins.specs.declared.batch.Batch.TheVariants.{Unsealed, Sealed, Gone}
-use Rattle.twins.specs.declared.batch.UnsealedBatch.{UnsealedBatch}
 use Rattle.twins.specs.declared.batch.SealedBatch.{SealedBatch}
-use Rattle.twins.proofs.Representation.{lt_false, lt_true, le_false, sealed_is, batch_at-from, from-set}
+use Rattle.twins.specs.declared.batch.Holding.{Holding}
+use Rattle.twins.specs.declared.machine.Machine.{Machine}
+use Rattle.twins.proofs.Fronts.{lt_false, lt_true, le_false, le_true, stands_decides}
+use Rattle.twins.proofs.PoolLemmas.{Slot}
+use Rattle.twins.proofs.Matching.{sealed_there}
+use Rattle.twins.proofs.Changes.{pool_holds}
 
 -- ---- why a seal is refused
 
-module _ (s : State Operation) (u : batches.UnsealedBatch Operation) (floor : ℕ) where
-  pub refused_stale : may_seal meaning s u ≡ false → Some StaleBatch ≡ seal_refusal s u floor
-  refused_stale e = rw e refl
+module _ (one : Test Operation) (s : State Operation) (u : batches.UnsealedBatch Operation) (floor : ℕ) (may : may_seal one s u ≡ true) (location : ℕ) (there : location ≡ batches.size_of u) where
+  -- a batch that may be sealed and isn't full is refused over its floor alone
+  pub refused_rest : location + 1 ≤ max_leaves → (below : ℕ) → below ≡ floor_below meaning s u → (r : Option Refusal) → r ≡ floor_refusal below floor location → r ≡ seal_refusal one s u floor
+  refused_rest fits below is r why =
+      let room : nat_lt max_leaves (batches.size_of u + 1) ≡ false = lt_false max_leaves (batches.size_of u + 1) (omega (arith, there, fits)) in
+      why ∙ rw (may, room, ← is, ← there) refl
 
-  module _ (may : may_seal meaning s u ≡ true) (location : ℕ) (there : location ≡ batches.size_of u) where
-    pub refused_full : (size : ℕ) → size ≡ location + 1 → max_leaves < size → Some (LocationOverflow size) ≡ seal_refusal s u floor
-    refused_full size count over =
-        let full : nat_lt max_leaves (batches.size_of u + 1) ≡ true = lt_true max_leaves (batches.size_of u + 1) (omega (arith, there, count, over)) in
-        rw (may, full, count, there) refl
+-- ---- where the present list stands
 
-    module _ (fits : location + 1 ≤ max_leaves) (below : ℕ) (is : below ≡ floor_below meaning s u) where
-      room : nat_lt max_leaves (batches.size_of u + 1) ≡ false
-      room = lt_false max_leaves (batches.size_of u + 1) (omega (arith, there, fits))
+-- a test that decides whether the present state is the boundary or a tip tells where the list stands
+pub told_by : (s : State Operation) (list : List Operation) (db : Commitment Mmr Sha256Digest) (tips : List (Commitment Mmr Sha256Digest)) → IsStateIn list db → AreStatesIn list tips
+    → (current : Commitment Mmr Sha256Digest) → current ≡ commitment_of s.ops → (ok : Bool) → Decides ok (Contains (db ∷ tips) current) → ok ≡ stands_on one_state s list db.size (sizes tips)
+told_by s list db tips k ks current is ok d =
+    one_answer ok (stands_on one_state s list db.size (sizes tips)) (subst (λ c. Decides ok (Contains (db ∷ tips) c)) is d) (stands_decides s list db tips k ks)
 
-      pub refused_fallen : floor < below → Some (FloorRegressed floor below) ≡ seal_refusal s u floor
-      refused_fallen low = rw (may, room, ← is, lt_true floor below low) refl
+pub stands_same : (one : Test Operation) (s : State Operation) (xs ys : List Operation) (m n : ℕ) (ms ns : List ℕ) → xs ≡ ys → m ≡ n → ms ≡ ns → stands_on one s xs m ms ≡ stands_on one s ys n ns
+stands_same one s xs ys m n ms ns e f g = rw (e, f, g) refl
 
-      module _ (high : below ≤ floor) where
-        pub refused_past : location < floor → Some (FloorBeyondSize floor location) ≡ seal_refusal s u floor
-        refused_past past = rw (may, room, ← is, lt_false floor below high, ← there, lt_true location floor past) refl
+-- ---- batches that the caller holds
 
-        pub refused_not : floor ≤ location → None ≡ seal_refusal s u floor
-        refused_not within = rw (may, room, ← is, lt_false floor below high, ← there, lt_false location floor within) refl
+pub held_some : (x : Batch) (k : Holding) → if_held x ≡ Some k → (x ≡ Sealed k) × (0 < k.holds)
+held_some (Unsealed u) k e = absurd (none-some k e)
+held_some (Sealed j) k e =
+    let t = cond_some (nat_lt 0 j.holds) j k e in
+    let some : 0 < j.holds = lt_is j.holds t.0 in
+    (ap Sealed t.1, subst (λ (i : Holding). 0 < i.holds) t.1 some)
+  where
+    lt_is : (n : ℕ) → nat_lt 0 n ≡ true → 0 < n
+    lt_is n e = grind (arith, nat_tests)
+held_some Gone k e = absurd (none-some k e)
 
--- ---- over the lists of a history
+module _ (one : Test Operation) (s : State Operation) (b : ℕ) where
+  module _ (c : batches.SealedBatch Operation) (held : is_held c ≡ true) where
+    pub begin_held : begin_on s b (batches.Sealed c) ≡ (answer.Batch (length s.batches), begun s (Some b) c.list)
+    begin_held = rw held refl
 
-module _ (lists : List (List Operation)) (head : ℕ) (bs : List Batch) where
-  abbrev S : State Operation
-  S = state_from lists head bs
+    pub apply_stale : may_apply one s c ≡ false → apply one s b (batches.Sealed c) ≡ refused s StaleBatch
+    apply_stale stale = rw (held, stale) refl
 
-  -- ---- a new batch
+    pub apply_done : may_apply one s c ≡ true → apply one s b (batches.Sealed c) ≡ (answer.Applied, applied s c)
+    apply_done stands = rw (held, stands) refl
 
-  module _ (p : ℕ) where
-    not_sealed : (x : Batch) → as_sealed x ≡ None → begin_on S p (batch_of lists x) ≡ (answer.Refused (NoBatch p), S)
-    not_sealed (Unsealed u) e = refl
-    not_sealed (Sealed c) e = absurd (none-some c (sym e))
-    not_sealed Gone e = refl
+    pub hold_done : hold s b (batches.Sealed c) ≡ (answer.Done, with_batch s b (batches.Sealed (batches.with_hold c)))
+    hold_done = rw held refl
 
-    pub begin_none : linked_in bs (Some p) ≡ None → begin S (Some p) ≡ (answer.Refused (NoBatch p), S)
-    begin_none e = rw (batch_at-from lists head bs p) (not_sealed (get_or bs p Gone) e)
+  -- ---- an unsealed batch
 
-    pub begin_free : (c : SealedBatch) → linked_in bs (Some p) ≡ Some c → c.holds ≡ 0 → begin S (Some p) ≡ (answer.Refused (NoBatch p), S)
-    begin_free c e free = rw (batch_at-from lists head bs p, sealed_is (get_or bs p Gone) c e, free) refl
+  module _ (w : batches.UnsealedBatch Operation) where
+    pub append_full : (limit : ℕ) (v : List ℕ) → length v ≤ limit → max_leaves ≤ batches.size_of w → append_to limit s b v (batches.Unsealed w) ≡ refused s (LocationOverflow (batches.size_of w + 1))
+    append_full limit v short full = rw (lt_false limit (length v) short, le_true max_leaves (batches.size_of w) full) refl
 
-    pub begin_held : (c : SealedBatch) → linked_in bs (Some p) ≡ Some c → 0 < c.holds → begin S (Some p) ≡ (answer.Batch (length (map (batch_of lists) bs)), begun S (Some p) (list_at lists c.list))
-    begin_held c e held = rw (batch_at-from lists head bs p, sealed_is (get_or bs p Gone) c e, lt_true 0 c.holds held) refl
+    pub append_done : (limit : ℕ) (v : List ℕ) → length v ≤ limit → batches.size_of w < max_leaves → append_to limit s b v (batches.Unsealed w) ≡ (answer.Done, with_batch s b (batches.Unsealed (batches.appended w (Append v))))
+    append_done limit v short few = rw (lt_false limit (length v) short, le_false max_leaves (batches.size_of w) few) refl
 
-  module _ (b : ℕ) where
-    -- ---- an append
+    module _ (limit : ℕ) (metadata : Option (List ℕ)) (floor : ℕ) where
+      pub seal_lost : metadata_length metadata ≤ limit → (refusal : Refusal) → seal_refusal one s w floor ≡ Some refusal → seal one limit s b metadata floor (batches.Unsealed w) ≡ lost s b refusal
+      seal_lost short refusal why = rw (lt_false limit (metadata_length metadata) short, why) refl
 
-    pub append_done : (limit : ℕ) (v : List ℕ) (u u' : UnsealedBatch) → get_or bs b Gone ≡ Unsealed u → length v ≤ limit → length_at lists u.base + length u.own.items < max_leaves
-        → u'.parent ≡ u.parent → u'.base ≡ u.base → u'.own.items ≡ u.own.items ++ (Append v ∷ [])
-        → (answer.Done, state_from lists head (slice_set bs b (Unsealed u'))) ≡ append_to limit S b v (batch_at S b)
-    append_done limit v u u' e short few parent base own =
-        rw (batch_at-from lists head bs b, e, lt_false limit (length v) short, le_false max_leaves (length_at lists u.base + length u.own.items) few)
-        (ap (λ s. (answer.Done, s)) (from-set lists head bs b (Unsealed u') ∙ rw (parent, base, own) refl))
+      pub seal_done : metadata_length metadata ≤ limit → seal_refusal one s w floor ≡ None → seal one limit s b metadata floor (batches.Unsealed w) ≡ done_sealing s b (sealed_here s w (Commit metadata floor) floor)
+      seal_done short why = rw (lt_false limit (metadata_length metadata) short, why) refl
 
-    -- ---- an apply
+-- ---- what the pool keeps
 
-    apply_not : (x : Batch) → as_sealed x ≡ None → apply S b (batch_of lists x) ≡ (answer.Refused (NoBatch b), S)
-    apply_not (Unsealed u) e = refl
-    apply_not (Sealed c) e = absurd (none-some c (sym e))
-    apply_not Gone e = refl
+pub item_some : (pool : Slots) (id : ℕ) (x : SealedBatch) → item_at pool id ≡ Some x → (e : HeldBatch SealedBatch) × (slots.batch_at pool id ≡ Some e) × (e.item ≡ x)
+item_some pool id x = found (slots.batch_at pool id) refl
+  where
+    found : (o : Slot) → slots.batch_at pool id ≡ o → option_map (λ (b : HeldBatch SealedBatch). b.item) o ≡ Some x → (e : HeldBatch SealedBatch) × (slots.batch_at pool id ≡ Some e) × (e.item ≡ x)
+    found None is e = absurd (none-some x e)
+    found (Some d) is e = (d, is, same_Some d.item x e)
 
-    pub apply_none : linked_in bs (Some b) ≡ None → (answer.Refused (NoBatch b), S) ≡ apply S b (batch_at S b)
-    apply_none e = rw (batch_at-from lists head bs b) (sym (apply_not (get_or bs b Gone) e))
+-- ---- a machine that stands for a state
 
-    pub apply_free : (c : SealedBatch) → linked_in bs (Some b) ≡ Some c → c.holds ≡ 0 → (answer.Refused (NoBatch b), S) ≡ apply S b (batch_at S b)
-    apply_free c e free = rw (batch_at-from lists head bs b, sealed_is (get_or bs b Gone) c e, free) refl
+-- a sealed batch that the caller holds
+pub record Held (m : Machine) (s : State Operation) (b : ℕ) (k : Holding) : Type 0 where
+  pub batch : batches.SealedBatch Operation
+  pub sealed : get_or m.batches.items b Gone ≡ Sealed k
+  pub some : 0 < k.holds
+  pub machine : batch_at s b ≡ batches.Sealed batch
+  pub is : IsSealedOf m.history m.batches.items m.pool s.batches b k batch
+  pub held : is_held batch ≡ true
+  pub pool : 0 < holds_of m.pool k.id
 
-    pub apply_stale : (c : SealedBatch) → linked_in bs (Some b) ≡ Some c → 0 < c.holds → stands_on meaning S (list_at lists c.list) (length_at lists c.boundary) (lengths lists c.tips.items) ≡ false
-        → (answer.Refused StaleBatch, S) ≡ apply S b (batch_at S b)
-    apply_stale c e held stale = rw (batch_at-from lists head bs b, sealed_is (get_or bs b Gone) c e, lt_true 0 c.holds held, stale) refl
+module _ (m : Machine) (s : State Operation) (k : IsStateOf m s) (b : ℕ) where
+  pub held_at : (j : Holding) → get_or m.batches.items b Gone ≡ Sealed j → 0 < j.holds → Held m s b j
+  held_at j sealed some =
+      let c = sealed_there m.history m.batches.items m.pool s.batches k.batches b j sealed in record {
+        batch = c.0;
+        sealed = sealed;
+        some = some;
+        machine = c.1;
+        is = c.2;
+        held = let n = c.2.holds in lt_true 0 c.0.holds (omega (arith, n, some));
+        pool = pool_holds m.history m.batches.items m.pool s.batches k.batches b j sealed c.0 c.1 c.2 some;
+      }
 
-    pub apply_done : (c : SealedBatch) → linked_in bs (Some b) ≡ Some c → 0 < c.holds → stands_on meaning S (list_at lists c.list) (length_at lists c.boundary) (lengths lists c.tips.items) ≡ true
-        → (answer.Applied, state_from lists c.list bs) ≡ apply S b (batch_at S b)
-    apply_done c e held stands = rw (batch_at-from lists head bs b, sealed_is (get_or bs b Gone) c e, lt_true 0 c.holds held, stands) refl
+  pub held_there : (j : Holding) → held_in m.batches.items b ≡ Some j → Held m s b j
+  held_there j e = let t = held_some (get_or m.batches.items b Gone) j e in held_at j t.0 t.1
 
-    -- ---- holds
+  -- its batch in the pool
+  module _ (j : Holding) (t : Held m s b j) (x : SealedBatch) (found : item_at m.pool j.id ≡ Some x) where
+    pub held_item : (e : HeldBatch SealedBatch) × (slots.batch_at m.pool j.id ≡ Some e) × (e.item ≡ x)
+    held_item = item_some m.pool j.id x found
 
-    pub hold_done : (c c' : SealedBatch) → get_or bs b Gone ≡ Sealed c → 0 < c.holds → c' ≡ record c { holds = c.holds + 1 }
-        → (answer.Done, state_from lists head (slice_set bs b (Sealed c'))) ≡ hold S b (batch_at S b)
-    hold_done c c' e held more = rw (batch_at-from lists head bs b, e, lt_true 0 c.holds held, more) (ap (λ s. (answer.Done, s)) (from-set lists head bs b (Sealed (record c { holds = c.holds + 1 }))))
+    pub item_there : x.list < count_in m.history
+    item_there = let e = held_item in subst (λ (y : SealedBatch). y.list < count_in m.history) e.2 (k.batches.kept j.id e.0 e.1).there
 
-    pub release_done : (c c' : SealedBatch) → get_or bs b Gone ≡ Sealed c → 0 < c.holds → c' ≡ record c { holds = c.holds - 1 }
-        → (answer.Done, state_from lists head (slice_set bs b (Sealed c'))) ≡ release S b (batch_at S b)
-    release_done c c' e held less = rw (batch_at-from lists head bs b, e, lt_true 0 c.holds held, less) (ap (λ s. (answer.Done, s)) (from-set lists head bs b (Sealed (record c { holds = c.holds - 1 }))))
+    pub item_bounds : AreBounds (list_at (lists_in m.history) x.list) x.bounds
+    item_bounds = let e = held_item in subst (λ (y : SealedBatch). AreBounds (list_at (lists_in m.history) y.list) y.bounds) e.2 (k.batches.kept j.id e.0 e.1).bounds
 
-    pub release_lost : (u : UnsealedBatch) (x : Batch) → get_or bs b Gone ≡ Unsealed u → (answer.Done, state_from lists head (slice_set (slice_set bs b x) b Gone)) ≡ release S b (batch_at S b)
-    release_lost u x e = rw (batch_at-from lists head bs b, e, set-set bs b x Gone) (ap (λ s. (answer.Done, s)) (from-set lists head bs b Gone))
+    pub item_list : t.batch.list ≡ list_at (lists_in m.history) x.list
+    item_list = let e = held_item in (t.is.item e.0 e.1).list ∙ ap (λ (y : SealedBatch). list_at (lists_in m.history) y.list) e.2
 
-    -- ---- a seal
+    item_boundary : t.batch.boundary ≡ x.bounds.db.size
+    item_boundary = let e = held_item in (t.is.item e.0 e.1).boundary ∙ ap (λ (y : SealedBatch). y.bounds.db.size) e.2
 
-    pub seal_long : (limit : ℕ) (metadata : Option (List ℕ)) (floor : ℕ) (u : UnsealedBatch) → get_or bs b Gone ≡ Unsealed u → limit < metadata_length metadata
-        → (answer.Refused (ValueTooLong (metadata_length metadata)), S) ≡ seal limit S b metadata floor (batch_at S b)
-    seal_long limit metadata floor u e long = rw (batch_at-from lists head bs b, e, lt_true limit (metadata_length metadata) long) refl
+    item_tips : t.batch.tips ≡ sizes x.bounds.ancestors
+    item_tips = let e = held_item in (t.is.item e.0 e.1).tips ∙ ap (λ (y : SealedBatch). sizes y.bounds.ancestors) e.2
 
-    pub seal_lost : (limit : ℕ) (metadata : Option (List ℕ)) (floor : ℕ) (u : UnsealedBatch) (refusal : Refusal) → get_or bs b Gone ≡ Unsealed u → metadata_length metadata ≤ limit
-        → Some refusal ≡ seal_refusal S (unsealed_of lists u) floor → (answer.Refused refusal, state_from lists head (slice_set bs b Gone)) ≡ seal limit S b metadata floor (batch_at S b)
-    seal_lost limit metadata floor u refusal e short why = rw (batch_at-from lists head bs b, e, lt_false limit (metadata_length metadata) short, ← why) (ap (λ s. (answer.Refused refusal, s)) (from-set lists head bs b Gone))
+    pub item_applies : (one : Test Operation) → stands_on one s (list_at (lists_in m.history) x.list) x.bounds.db.size (sizes x.bounds.ancestors) ≡ may_apply one s t.batch
+    item_applies one = rw (item_list, item_boundary, item_tips) refl
 
-    pub seal_done : (limit : ℕ) (metadata : Option (List ℕ)) (floor : ℕ) (u : UnsealedBatch) (o : Outcome) → get_or bs b Gone ≡ Unsealed u → metadata_length metadata ≤ limit
-        → None ≡ seal_refusal S (unsealed_of lists u) floor → o ≡ done_sealing S b (sealed_here S (unsealed_of lists u) (Commit metadata floor) floor) → o ≡ seal limit S b metadata floor (batch_at S b)
-    seal_done limit metadata floor u o e short why done = done ∙ rw (batch_at-from lists head bs b, e, lt_false limit (metadata_length metadata) short, ← why) refl
+-- a batch that is put in its own place
+pub set_same : (bs : List Batch) (b : ℕ) (x : Batch) → get_or bs b Gone ≡ x → set bs b x ≡ bs
+set_same bs b x e = ap (set bs b) (sym e) ∙ set-get_or bs b Gone
+
+pub meets : (new : Machine) (o p : Outcome) (a : Answer) → o ≡ p → a ≡ p.0 → IsStateOf new p.1 → Meets o new a
+meets new o p a e same k = subst (λ (q : Outcome). Meets q new a) (sym e) (same, k)

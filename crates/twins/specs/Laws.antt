@@ -1,24 +1,33 @@
 -- Laws of whole runs, and of a refusal.
-use Rattle.std.specs.Prelude.{◌≡◌, ◌⊎◌, ℕ, List, Option, ◌++◌, length, take, slice_get, Some}
+use Rattle.std.specs.Prelude.{◌≡◌, ◌⊎◌, ℕ, true, List, Option, ◌++◌, length, take, slice_get, Some}
 use Rattle.std.specs.List.Sorted.{IsNonDecreasingBy}
 use Rattle.log_model.specs.Batches.{Gone}
-use Rattle.log_model.specs.Machine.{State, with_batch}
-use Rattle.twins.specs.Operation.{Operation}
+use Rattle.log_model.specs.Machine.{State, Test, with_batch, one_list}
+use Rattle.twins.specs.Operation.{Operation, meaning}
 use Rattle.command_text.specs.declared.command.Command.{Command}
 use Rattle.command_text.specs.declared.command.Command.TheVariants as command
 use Rattle.command_text.specs.declared.command.Answer.TheVariants as answer
 use Rattle.command_text.specs.declared.command.Refusal.{Refusal}
 use Rattle.command_text.specs.declared.command.Reply.{Reply}
 use Rattle.twins.specs.Step.{step, root_of_list}
-use Rattle.twins.specs.Trace.{trace, replies_from, state_after, fresh_state}
+use Rattle.twins.specs.Commitments.{one_state}
+use Rattle.twins.specs.Trace.{trace, replies_from, state_after, fresh_state, HasNoClash}
 
 -- The list after a run of these commands.
-abbrev pub list_after : ℕ → List Command → List Operation
-list_after limit cs = (state_after limit fresh_state cs).ops
+abbrev pub list_after : Test Operation → ℕ → List Command → List Operation
+list_after one limit cs = (state_after one limit fresh_state cs).ops
+
+-- Lists that a test takes for one have one length.
+abbrev pub TellsLengths : Test Operation → Type 0
+TellsLengths one = (first second : List Operation) → one first second ≡ true → length first ≡ length second
 
 -- The sizes in the replies of a run never fall.
 abbrev pub SizesNeverFall : Type 0
-SizesNeverFall = (limit : ℕ) (cs : List Command) → IsNonDecreasingBy (λ (r : Reply). r.size) (trace limit cs)
+SizesNeverFall = (one : Test Operation) → TellsLengths one → (limit : ℕ) (cs : List Command) → IsNonDecreasingBy (λ (r : Reply). r.size) (trace one limit cs)
+
+-- Both tests of the run tell lengths.
+abbrev pub TestsTellLengths : Type 0
+TestsTellLengths = TellsLengths one_state × TellsLengths (one_list meaning)
 
 -- A reply tells the size and the root of a list.
 pub record TellsList (r : Reply) (list : List Operation) : Type 0 where
@@ -28,13 +37,17 @@ pub record TellsList (r : Reply) (list : List Operation) : Type 0 where
 
 -- Each reply of a run tells the list after the commands up to it, and nothing else of them.
 abbrev pub RepliesTellLists : Type 0
-RepliesTellLists = (limit : ℕ) (cs : List Command) (i : ℕ) (r : Reply) → slice_get (trace limit cs) i ≡ Some r → TellsList r (list_after limit (take i cs))
+RepliesTellLists = (one : Test Operation) (limit : ℕ) (cs : List Command) (i : ℕ) (r : Reply) → slice_get (trace one limit cs) i ≡ Some r → TellsList r (list_after one limit (take i cs))
 
 -- A run of two lists of commands is the run of the first, continued by the second.
 abbrev pub RunsContinue : Type 0
-RunsContinue = (limit : ℕ) (cs ds : List Command) → trace limit (cs ++ ds) ≡ trace limit cs ++ replies_from limit (state_after limit fresh_state cs) ds
+RunsContinue = (one : Test Operation) (limit : ℕ) (cs ds : List Command) → trace one limit (cs ++ ds) ≡ trace one limit cs ++ replies_from one limit (state_after one limit fresh_state cs) ds
 
 -- A refused command changes nothing, or is a seal and loses its batch.
 abbrev pub RefusalsKeep : Type 0
-RefusalsKeep = (limit : ℕ) (s : State Operation) (c : Command) (r : Refusal) → (step limit s c).0 ≡ answer.Refused r
-    → ((step limit s c).1 ≡ s) ⊎ ((b : ℕ) × (metadata : Option (List ℕ)) × (floor : ℕ) × (c ≡ command.Seal b metadata floor) × ((step limit s c).1 ≡ with_batch s b Gone))
+RefusalsKeep = (one : Test Operation) (limit : ℕ) (s : State Operation) (c : Command) (r : Refusal) → (step one limit s c).0 ≡ answer.Refused r
+    → ((step one limit s c).1 ≡ s) ⊎ ((b : ℕ) × (metadata : Option (List ℕ)) × (floor : ℕ) × (c ≡ command.Seal b metadata floor) × ((step one limit s c).1 ≡ with_batch s b Gone))
+
+-- Where nothing clashes that is hashed for the lists of a run, it answers the same by sizes and roots as by operations.
+abbrev pub StatesTellLists : ℕ → Type 0
+StatesTellLists limit = (cs : List Command) → HasNoClash limit cs → trace one_state limit cs ≡ trace (one_list meaning) limit cs

@@ -2,8 +2,10 @@ pub mod Names
 pub mod Config
 pub mod Operation
 pub mod Step
+pub mod Commitments
 pub mod Trace
 pub mod Lists
+pub mod Pool
 pub mod StateOf
 pub mod Outcome
 pub mod Report

@@ -1,12 +1,12 @@
 -- The lists that a run makes, by number.
-use Rattle.std.specs.Prelude.{◌≡◌, ℕ, ◌+◌, ◌<◌, ◌≤◌, List, [], ◌∷◌, ◌++◌, length, slice_index_or, slice_get, Option, Some, None}
+use Rattle.std.specs.Prelude.{◌≡◌, ℕ, ◌<◌, ◌≤◌, List, [], ◌∷◌, ◌++◌, length, slice_index_or, slice_get, Option, Some, None}
 use Rattle.std.specs.List.{flat_map}
 use Rattle.std.specs.Option.{option_map_or}
 use Rattle.log_model.specs.Good.{EndsWithCommit}
 use Rattle.log_model.specs.Machine.{max_leaves}
 use Rattle.log_model.specs.Reach.{link_bound}
 use Rattle.twins.specs.Operation.{Operation, meaning}
-use Rattle.twins.specs.Step.{root_of_list}
+use Rattle.twins.specs.Commitments.{commitment_of}
 use Rattle.twins.specs.declared.history.Segment.{Segment}
 use Rattle.twins.specs.declared.history.History.{History}
 
@@ -31,33 +31,17 @@ lists_from lists (g ∷ gs) = lists_from (lists ++ (list_after lists g ∷ [])) 
 abbrev pub lists_of : List Segment → List (List Operation)
 lists_of gs = lists_from [] gs
 
--- How many commits there are.
-abbrev pub one_if : Option ℕ → ℕ
-one_if None = 0
-one_if (Some floor) = 1
-
-abbrev pub commits : List Operation → ℕ
-commits [] = 0
-commits (op ∷ ops) = one_if (meaning.floor op) + commits ops
-
--- Appends and one commit behind them.
-pub record IsBlock (own : List Operation) : Type 0 where
-  pub ends : EndsWithCommit meaning own
-  pub once : commits own ≡ 1
-
--- Segment i stands on a list of a lower number, or on none; its list is that list with its own operations behind it; it keeps the size and the root of its list.
+-- Segment i stands on a list of a lower number, or on none; its list is that list with its own operations behind it, which a commit ends; it keeps the size and the root of its list.
 pub record IsSegment (lists : List (List Operation)) (i : ℕ) (g : Segment) : Type 0 where
   pub below : link_bound g.before ≤ i
   pub list : list_at lists i ≡ list_after lists g
-  pub size : g.size ≡ length (list_at lists i)
-  pub few : g.size ≤ max_leaves
-  pub root : g.root ≡ root_of_list (list_at lists i)
-  pub block : IsBlock g.own.items
+  pub ends : EndsWithCommit meaning g.own.items
+  pub state : g.state ≡ commitment_of (list_at lists i)
+  pub few : length (list_at lists i) ≤ max_leaves
 
--- So is each segment, and no two lists are equal.
-pub record AreKept (gs : List Segment) : Type 0 where
-  pub segments : (i : ℕ) (g : Segment) → slice_get gs i ≡ Some g → IsSegment (lists_of gs) i g
-  pub distinct : (i j : ℕ) → i < length gs → j < length gs → list_at (lists_of gs) i ≡ list_at (lists_of gs) j → i ≡ j
+-- So is each segment.
+abbrev pub AreKept : List Segment → Type 0
+AreKept gs = (i : ℕ) (g : Segment) → slice_get gs i ≡ Some g → IsSegment (lists_of gs) i g
 
 -- The own operations of a segment, by its number.
 abbrev pub own_at : List Segment → ℕ → List Operation
@@ -71,11 +55,6 @@ joined gs ids = flat_map (own_at gs) ids
 abbrev pub AreBelow : ℕ → List ℕ → Type 0
 AreBelow n [] = Unit {0}
 AreBelow n (i ∷ ids) = (i < n) × AreBelow n ids
-
--- A segment with these own operations stands on this list.
-pub record IsMadeOf (g : Segment) (on : ℕ) (ops : List Operation) : Type 0 where
-  pub before : g.before ≡ Some on
-  pub own : g.own.items ≡ ops
 
 -- The lists of a history.
 abbrev pub lists_in : History → List (List Operation)

@@ -1,15 +1,29 @@
 -- What the run keeps in memory, and what it means.
-use Rattle.std.specs.Prelude.{◌≡◌, ℕ, ◌<◌, ◌≤◌, List, [], ◌∷◌, length, map, take, slice_index_or, Option, Some, None, IsSomeAnd}
+use Rattle.std.specs.Prelude.{◌≡◌, ℕ, ◌+◌, ◌^◌, ◌<◌, ◌≤◌, nat_lt, List, [], ◌∷◌, length, map, take, slice_index_or, Option, Some, None, if◌then◌else◌}
+use Rattle.std.specs.List.{count_by}
+use Rattle.std.specs.Option.{option_map_or}
 use Rattle.log_model.specs.Batches as batches
 use Rattle.log_model.specs.Good.{AreAppends}
-use Rattle.log_model.specs.Machine.{State, max_leaves}
+use Rattle.log_model.specs.Machine.{State, max_leaves, batch_at}
 use Rattle.log_model.specs.Operations.{floor_of}
-use Rattle.log_model.specs.Reach.{reach, tips_of, effective_boundary}
+use Rattle.log_model.specs.Reach.{is_child, link_bound, reach, tips_of, effective_boundary}
 use Rattle.twins.specs.Operation.{Operation, meaning}
+use Rattle.chain_core.specs.Slots as slots
+use Rattle.chain_core.specs.Slots.{holds_of}
+use Rattle.chain_core.specs.declared.bounds.Bounds.{Bounds}
+use Rattle.chain_core.specs.declared.commitment.Commitment.{Commitment}
+use Rattle.chain_core.specs.declared.pool.HeldBatch.{HeldBatch}
+use Rattle.command_text.specs.declared.command.Answer.{Answer}
+use Rattle.tree_shape.specs.declared.mmr.Mmr.{Mmr}
+use Rattle.tree_shape.specs.declared.sha256.Sha256Digest.{Sha256Digest}
+use Rattle.twins.specs.Commitments.{commitment_of}
 use Rattle.twins.specs.Lists.{list_at, lists_in, count_in, IsHistory}
+use Rattle.twins.specs.Pool.{Slots, item_at}
+use Rattle.twins.specs.Step.{Outcome}
 use Rattle.twins.specs.declared.batch.Batch.{Batch}
 use Rattle.twins.specs.declared.batch.UnsealedBatch.{UnsealedBatch}
 use Rattle.twins.specs.declared.batch.SealedBatch.{SealedBatch}
+use Rattle.twins.specs.declared.batch.Holding.{Holding}
 use Rattle.twins.specs.declared.batch.Batch.TheVariants.{Unsealed, Sealed, Gone}
 use Rattle.twins.specs.declared.history.History.{History}
 use Rattle.twins.specs.declared.machine.Machine.{Machine}
@@ -17,89 +31,191 @@ use Rattle.twins.specs.declared.machine.Machine.{Machine}
 abbrev pub length_at : List (List Operation) → ℕ → ℕ
 length_at lists i = length (list_at lists i)
 
-abbrev pub lengths : List (List Operation) → List ℕ → List ℕ
-lengths lists ids = map (length_at lists) ids
+-- The sizes of states.
+abbrev pub sizes : List (Commitment Mmr Sha256Digest) → List ℕ
+sizes cs = map (λ c. c.size) cs
 
--- A batch, with the lists of a history in place of their numbers.
-abbrev pub unsealed_of : List (List Operation) → UnsealedBatch → batches.UnsealedBatch Operation
-unsealed_of lists u = record { parent = u.parent; list = list_at lists u.base; base = length_at lists u.base; pending = u.own.items }
+-- It is the state of a log that is a front of this list.
+abbrev pub IsStateIn : List Operation → Commitment Mmr Sha256Digest → Type 0
+IsStateIn list c = (c.size ≤ length list) × (c ≡ commitment_of (take c.size list))
 
-abbrev pub sealed_of : List (List Operation) → SealedBatch → batches.SealedBatch Operation
-sealed_of lists c = record {
-  parent = c.parent;
-  list = list_at lists c.list;
-  base = length_at lists c.base;
-  boundary = length_at lists c.boundary;
-  tips = lengths lists c.tips.items;
-  floor = floor_of meaning (list_at lists c.list);
-  holds = c.holds;
-}
+-- So are all.
+abbrev pub AreStatesIn : List Operation → List (Commitment Mmr Sha256Digest) → Type 0
+AreStatesIn list [] = Unit {0}
+AreStatesIn list (c ∷ cs) = IsStateIn list c × AreStatesIn list cs
 
-abbrev pub batch_of : List (List Operation) → Batch → batches.Batch Operation
-batch_of lists (Unsealed u) = batches.Unsealed (unsealed_of lists u)
-batch_of lists (Sealed c) = batches.Sealed (sealed_of lists c)
-batch_of lists Gone = batches.Gone
+-- The states of a sealed batch are those of fronts of its list, and its tip is that of the whole.
+pub record AreBounds (list : List Operation) (b : Bounds Mmr Sha256Digest) : Type 0 where
+  pub base : IsStateIn list b.base
+  pub db : IsStateIn list b.db
+  pub ancestors : AreStatesIn list b.ancestors
+  pub tip : b.tip ≡ commitment_of list
 
--- The log's list is one of the lists, by its number.
-abbrev pub state_from : List (List Operation) → ℕ → List Batch → State Operation
-state_from lists head bs = record { ops = list_at lists head; batches = map (batch_of lists) bs }
+-- ---- the pool
 
--- What the machine in memory means.
-abbrev pub state_of : Machine → State Operation
-state_of m = state_from (lists_in m.history) m.head m.batches.items
+-- What a link names was drawn, and where it is alive it has this list.
+abbrev pub LinkList : List (List Operation) → Slots → List Operation → Option ℕ → Type 0
+LinkList lists pool list None = Unit {0}
+LinkList lists pool list (Some id) = (id < length pool) × ((e : HeldBatch SealedBatch) → slots.batch_at pool id ≡ Some e → list_at lists e.item.list ≡ list)
 
--- List i is there, and it is the first of list j.
-abbrev pub IsFront : History → ℕ → ℕ → Type 0
-IsFront h i j = (i < count_in h) × (list_at (lists_in h) i ≡ take (length_at (lists_in h) i) (list_at (lists_in h) j))
+-- A batch that is alive is held, and its list is there; its states are in its list, and its parent's list, where that is alive, is the one on which it was made.
+pub record IsKeptItem (h : History) (pool : Slots) (e : HeldBatch SealedBatch) : Type 0 where
+  pub held : 0 < e.holds
+  pub there : e.item.list < count_in h
+  pub bounds : AreBounds (list_at (lists_in h) e.item.list) e.item.bounds
+  pub parent : LinkList (lists_in h) pool (take e.item.bounds.base.size (list_at (lists_in h) e.item.list)) e.parent
 
-abbrev pub AreFronts : History → List ℕ → ℕ → Type 0
-AreFronts h [] j = Unit {0}
-AreFronts h (i ∷ ids) j = IsFront h i j × AreFronts h ids j
+abbrev pub PoolKept : History → Slots → Type 0
+PoolKept h pool = (id : ℕ) (e : HeldBatch SealedBatch) → slots.batch_at pool id ≡ Some e → IsKeptItem h pool e
 
--- The sealed batch that a link names, if it names one.
-abbrev pub as_sealed : Batch → Option SealedBatch
-as_sealed (Unsealed u) = None
-as_sealed (Sealed c) = Some c
-as_sealed Gone = None
+-- ---- batches by number
 
-abbrev pub linked_in : List Batch → Option ℕ → Option SealedBatch
-linked_in bs None = None
-linked_in bs (Some p) = as_sealed (slice_index_or bs p Gone)
+-- Batch p is sealed, and stands in the pool under this number.
+pub record Stands (bs : List Batch) (p id : ℕ) : Type 0 where
+  pub holding : Holding
+  pub sealed : slice_index_or bs p Gone ≡ Sealed holding
+  pub id_is : holding.id ≡ id
 
--- A parent is a sealed batch of a lower number, whose list is the one on which its child was made.
-abbrev pub LinkKept : List Batch → ℕ → ℕ → Option ℕ → Type 0
-LinkKept bs b base None = Unit {0}
-LinkKept bs b base (Some p) = (p < b) × IsSomeAnd (as_sealed (slice_index_or bs p Gone)) (λ c. c.list ≡ base)
+-- A link in the pool is the link of batch b to one of a lower number.
+abbrev pub LinkIs : List Batch → ℕ → Option ℕ → Option ℕ → Type 0
+LinkIs bs b None None = Unit {0}
+LinkIs bs b (Some id) (Some p) = (p < b) × Stands bs p id
+LinkIs bs b None (Some p) = ⊥
+LinkIs bs b (Some id) None = ⊥
 
--- The lists of a batch are there, and all are first of its own; its appends are appends, and not too many; its parent fits; it's held no more often than steps were taken.
-abbrev pub BatchKept : ℕ → History → List Batch → ℕ → Batch → Type 0
-BatchKept taken h bs b (Unsealed u) = (u.base < count_in h) × (length u.own.items ≤ max_leaves) × AreAppends meaning u.own.items × LinkKept bs b u.base u.parent
-BatchKept taken h bs b (Sealed c) = (c.list < count_in h) × IsFront h c.base c.list × IsFront h c.boundary c.list × AreFronts h c.tips.items c.list × (c.holds ≤ taken) × LinkKept bs b c.base c.parent
-BatchKept taken h bs b Gone = Unit {0}
+-- An unsealed batch in memory, and the list machine's: the list on which it stands is there and is its parent's, and it has appends, and not too many.
+pub record IsUnsealedOf (h : History) (bs : List Batch) (pool : Slots) (b : ℕ) (u : UnsealedBatch) (w : batches.UnsealedBatch Operation) : Type 0 where
+  pub there : u.base < count_in h
+  pub few : length u.own.items ≤ max_leaves
+  pub appends : AreAppends meaning u.own.items
+  pub list : w.list ≡ list_at (lists_in h) u.base
+  pub base : w.base ≡ length_at (lists_in h) u.base
+  pub pending : w.pending ≡ u.own.items
+  pub link : LinkIs bs b u.parent w.parent
+  pub parent : LinkList (lists_in h) pool (list_at (lists_in h) u.base) u.parent
 
-abbrev pub BatchesKept : ℕ → History → List Batch → Type 0
-BatchesKept taken h bs = (b : ℕ) → BatchKept taken h bs b (slice_index_or bs b Gone)
+-- What the pool keeps of a sealed batch, and the list machine's.
+pub record IsItemOf (lists : List (List Operation)) (bs : List Batch) (b : ℕ) (e : HeldBatch SealedBatch) (c : batches.SealedBatch Operation) : Type 0 where
+  pub list : c.list ≡ list_at lists e.item.list
+  pub base : c.base ≡ e.item.bounds.base.size
+  pub boundary : c.boundary ≡ e.item.bounds.db.size
+  pub tips : c.tips ≡ sizes e.item.bounds.ancestors
+  pub floor : c.floor ≡ e.item.bounds.inactivity_floor
+  pub link : LinkIs bs b e.parent c.parent
 
--- The invariant of what the run keeps.
-pub record IsKept (m : Machine) : Type 0 where
+-- A sealed batch for the caller, and the list machine's. Its unsealed children and the caller hold it in the pool. The list machine keeps the fields of one that is dead too.
+pub record IsSealedOf (h : History) (bs : List Batch) (pool : Slots) (all : List (batches.Batch Operation)) (b : ℕ) (k : Holding) (c : batches.SealedBatch Operation) : Type 0 where
+  pub holds : c.holds ≡ k.holds
+  pub drawn : k.id < length pool
+  pub below : link_bound c.parent ≤ b
+  pub count : holds_of pool k.id ≡ k.holds + count_by (is_child b) all
+  pub item : (e : HeldBatch SealedBatch) → slots.batch_at pool k.id ≡ Some e → IsItemOf (lists_in h) bs b e c
+
+-- A batch in memory, and the list machine's.
+abbrev pub IsBatchOf : History → List Batch → Slots → List (batches.Batch Operation) → ℕ → Batch → batches.Batch Operation → Type 0
+IsBatchOf h bs pool all b (Unsealed u) (batches.Unsealed w) = IsUnsealedOf h bs pool b u w
+IsBatchOf h bs pool all b (Unsealed u) (batches.Sealed c) = ⊥
+IsBatchOf h bs pool all b (Unsealed u) batches.Gone = ⊥
+IsBatchOf h bs pool all b (Sealed k) (batches.Unsealed w) = ⊥
+IsBatchOf h bs pool all b (Sealed k) (batches.Sealed c) = IsSealedOf h bs pool all b k c
+IsBatchOf h bs pool all b (Sealed k) batches.Gone = ⊥
+IsBatchOf h bs pool all b Gone (batches.Unsealed w) = ⊥
+IsBatchOf h bs pool all b Gone (batches.Sealed c) = ⊥
+IsBatchOf h bs pool all b Gone batches.Gone = Unit {0}
+
+-- No two sealed batches stand in the pool under one number.
+abbrev pub AreApart : List Batch → Type 0
+AreApart bs = (p q : ℕ) (j k : Holding) → slice_index_or bs p Gone ≡ Sealed j → slice_index_or bs q Gone ≡ Sealed k → j.id ≡ k.id → p ≡ q
+
+-- The batches in memory and in the pool, and the list machine's.
+pub record AreBatchesOf (h : History) (bs : List Batch) (pool : Slots) (all : List (batches.Batch Operation)) : Type 0 where
+  pub count : length all ≡ length bs
+  pub each : (b : ℕ) → IsBatchOf h bs pool all b (slice_index_or bs b Gone) (slice_index_or all b batches.Gone)
+  pub apart : AreApart bs
+  pub kept : PoolKept h pool
+
+-- No more numbers were drawn, and nothing is held more often.
+pub record AreFew (n : ℕ) (pool : Slots) : Type 0 where
+  pub drawn : length pool ≤ n
+  pub holds : (id : ℕ) → holds_of pool id ≤ n
+
+-- ---- the machine
+
+-- The log's list is one of the history.
+pub record HasLog (m : Machine) : Type 0 where
   pub history : IsHistory m.history
   pub head : m.head < count_in m.history
-  pub batches : BatchesKept m.taken m.history m.batches.items
 
--- A batch is held less often than steps were taken.
-abbrev pub HeldLess : ℕ → Batch → Type 0
-HeldLess taken (Unsealed u) = Unit {0}
-HeldLess taken (Sealed c) = c.holds < taken
-HeldLess taken Gone = Unit {0}
+-- It is the present list of a state.
+abbrev pub IsLogOf : Machine → State Operation → Type 0
+IsLogOf m s = s.ops ≡ list_at (lists_in m.history) m.head
 
--- A step has begun: it was counted, and it has held no batch yet.
+-- The machine in memory stands for a state of the list machine. No number is drawn and no batch is held more often than steps were taken.
+pub record IsStateOf (m : Machine) (s : State Operation) : Type 0 where
+  pub log : HasLog m
+  pub ops : IsLogOf m s
+  pub batches : AreBatchesOf m.history m.batches.items m.pool s.batches
+  pub few : AreFew m.taken m.pool
+
+-- The invariant of what the run keeps: it stands for a state.
+abbrev pub IsKept : Machine → Type 0
+IsKept m = (s : State Operation) × IsStateOf m s
+
+-- A step has begun: it was counted, and it has drawn no number and held no batch yet.
 pub record HasRoom (m : Machine) : Type 0 where
-  pub some : 0 < m.taken
-  pub less : (b : ℕ) → HeldLess m.taken (slice_index_or m.batches.items b Gone)
+  pub within : m.taken < 2 ^ 64
+  pub drawn : length m.pool < m.taken
+  pub holds : (id : ℕ) → holds_of m.pool id < m.taken
 
--- Where an unsealed batch may be applied once it is sealed: the boundary that holds for it, and the tips in its reach. All are first of the list on which it stands.
-pub record IsPlace (m : Machine) (u : UnsealedBatch) (boundary : ℕ) (tips : List ℕ) : Type 0 where
-  pub boundary_is : length_at (lists_in m.history) boundary ≡ effective_boundary (state_of m) (unsealed_of (lists_in m.history) u)
-  pub tips_are : lengths (lists_in m.history) tips ≡ tips_of (reach (state_of m) (unsealed_of (lists_in m.history) u))
-  pub front : IsFront m.history boundary u.base
-  pub fronts : AreFronts m.history tips u.base
+-- An answer, and the machine after it, are an outcome.
+abbrev pub Meets : Outcome → Machine → Answer → Type 0
+Meets o new a = (a ≡ o.0) × IsStateOf new o.1
+
+-- For whatever state the machine stood, its answer and what it left are what the list machine makes of that state.
+abbrev pub Follows : (State Operation → Outcome) → Machine → Machine → Answer → Type 0
+Follows step old new a = (s : State Operation) → IsStateOf old s → Meets (step s) new a
+
+-- The sealed batch of a number, where the caller holds it.
+abbrev pub if_held : Batch → Option Holding
+if_held (Unsealed u) = None
+if_held (Sealed k) = if nat_lt 0 k.holds then Some k else None
+if_held Gone = None
+
+abbrev pub held_in : List Batch → ℕ → Option Holding
+held_in bs b = if_held (slice_index_or bs b Gone)
+
+-- The batch that a link names in the pool.
+abbrev pub linked_item : Slots → Option ℕ → Option SealedBatch
+linked_item pool None = None
+linked_item pool (Some id) = item_at pool id
+
+-- The boundary that a batch inherits, and the floor that it builds on.
+abbrev pub inherited_in : History → Slots → Option ℕ → ℕ → Commitment Mmr Sha256Digest
+inherited_in h pool link base = option_map_or (λ c. c.bounds.db) (linked_item pool link) (commitment_of (list_at (lists_in h) base))
+
+abbrev pub floor_in : History → ℕ → Slots → Option ℕ → ℕ
+floor_in h head pool link = option_map_or (λ c. c.bounds.inactivity_floor) (linked_item pool link) (floor_of meaning (list_at (lists_in h) head))
+
+-- An unsealed batch in memory is a state's, under the same number.
+pub record IsUnsealedIn (m : Machine) (u : UnsealedBatch) (s : State Operation) (w : batches.UnsealedBatch Operation) : Type 0 where
+  pub state : IsStateOf m s
+  pub number : ℕ
+  pub memory : slice_index_or m.batches.items number Gone ≡ Unsealed u
+  pub machine : batch_at s number ≡ batches.Unsealed w
+
+abbrev pub IsUnsealedHere : Machine → UnsealedBatch → Type 0
+IsUnsealedHere m u = (s : State Operation) × (w : batches.UnsealedBatch Operation) × IsUnsealedIn m u s w
+
+-- Where an unsealed batch may be applied once it is sealed: the boundary that holds for it, and the tips in its reach. All are states of fronts of the list on which it stands.
+pub record IsPlace (m : Machine) (u : UnsealedBatch) (boundary : Commitment Mmr Sha256Digest) (tips : List (Commitment Mmr Sha256Digest)) : Type 0 where
+  pub boundary_in : IsStateIn (list_at (lists_in m.history) u.base) boundary
+  pub tips_in : AreStatesIn (list_at (lists_in m.history) u.base) tips
+  pub boundary_is : (s : State Operation) (w : batches.UnsealedBatch Operation) → IsUnsealedIn m u s w → boundary.size ≡ effective_boundary s w
+  pub tips_are : (s : State Operation) (w : batches.UnsealedBatch Operation) → IsUnsealedIn m u s w → sizes tips ≡ tips_of (reach s w)
+
+-- Batch b is unsealed, and this is its place; there is room for its commit.
+pub record IsPlaced (m : Machine) (b : ℕ) (boundary : Commitment Mmr Sha256Digest) (tips : List (Commitment Mmr Sha256Digest)) : Type 0 where
+  pub batch : UnsealedBatch
+  pub is : slice_index_or m.batches.items b Gone ≡ Unsealed batch
+  pub place : IsPlace m batch boundary tips
+  pub few : length_at (lists_in m.history) batch.base + length batch.own.items < max_leaves

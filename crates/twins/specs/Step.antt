@@ -1,10 +1,10 @@
--- The list machine's step: what each command answers, and the state that it leaves.
+-- The list machine's step: what each command answers, and the state that it leaves. Whether the present list is a place of a batch is told by a test of lists.
 use Rattle.std.specs.Prelude.{ℕ, ◌+◌, nat_lt, nat_le, List, length, Option, Some, None, if◌then◌else◌}
 use Rattle.tree_shape.specs.declared.sha256.Sha256Digest.{Sha256Digest}
 use Rattle.tree_shape.specs.Mmr.{mmr}
 use Rattle.log_model.specs.Operations.{floor_of, last_value, root_of}
 use Rattle.log_model.specs.Batches.{Batch, UnsealedBatch, SealedBatch, Unsealed, Sealed, Gone, size_of, appended, is_held, with_hold, without_hold}
-use Rattle.log_model.specs.Machine.{State, max_leaves, batch_at, with_batch, begun, snapshot_taken, applied}
+use Rattle.log_model.specs.Machine.{State, Test, max_leaves, batch_at, with_batch, begun, snapshot_taken, applied}
 use Rattle.log_model.specs.Reach.{floor_below, may_seal, may_apply, sealed_here}
 use Rattle.twins.specs.Operation.{Operation, meaning, sha}
 use Rattle.op_codec.specs.declared.keyless.Operation.TheVariants.{Append, Commit}
@@ -58,14 +58,19 @@ append_to limit s b v (Unsealed u) =
 append_to limit s b v (Sealed c) = refused s (NoBatch b)
 append_to limit s b v Gone = refused s (NoBatch b)
 
--- Why a seal of this floor loses an unsealed batch, if it does: the batch can't be sealed on the present list, or it would be too long, or the floor falls below the one that it builds on, or is past the commit.
-abbrev pub seal_refusal : State Operation → UnsealedBatch Operation → ℕ → Option Refusal
-seal_refusal s u floor =
-    if may_seal meaning s u then
+-- Why a floor is refused, if it is: it falls below the one that it builds on, or is past the commit.
+abbrev pub floor_refusal : ℕ → ℕ → ℕ → Option Refusal
+floor_refusal below floor location =
+    if nat_lt floor below then Some (FloorRegressed floor below)
+    else (if nat_lt location floor then Some (FloorBeyondSize floor location)
+    else None)
+
+-- Why a seal of this floor loses an unsealed batch, if it does: the batch can't be sealed on the present list, or it would be too long, or the floor is refused.
+abbrev pub seal_refusal : Test Operation → State Operation → UnsealedBatch Operation → ℕ → Option Refusal
+seal_refusal one s u floor =
+    if may_seal one s u then
     (if nat_lt max_leaves (size_of u + 1) then Some (LocationOverflow (size_of u + 1))
-    else (if nat_lt floor (floor_below meaning s u) then Some (FloorRegressed floor (floor_below meaning s u))
-    else (if nat_lt (size_of u) floor then Some (FloorBeyondSize floor (size_of u))
-    else None)))
+    else floor_refusal (floor_below meaning s u) floor (size_of u))
     else Some StaleBatch
 
 -- The length of metadata, 0 where there is none.
@@ -83,22 +88,22 @@ sealed_or_lost s b u metadata floor (Some refusal) = lost s b refusal
 sealed_or_lost s b u metadata floor None = done_sealing s b (sealed_here s u (Commit metadata floor) floor)
 
 -- A commit ends batch b, where nothing refuses it. Metadata that is too long leaves the batch; each other refusal loses it.
-abbrev pub seal : ℕ → State Operation → ℕ → Option (List ℕ) → ℕ → Batch Operation → Outcome
-seal limit s b metadata floor (Unsealed u) =
+abbrev pub seal : Test Operation → ℕ → State Operation → ℕ → Option (List ℕ) → ℕ → Batch Operation → Outcome
+seal one limit s b metadata floor (Unsealed u) =
     if nat_lt limit (metadata_length metadata) then refused s (ValueTooLong (metadata_length metadata))
-    else sealed_or_lost s b u metadata floor (seal_refusal s u floor)
-seal limit s b metadata floor (Sealed c) = refused s (NoBatch b)
-seal limit s b metadata floor Gone = refused s (NoBatch b)
+    else sealed_or_lost s b u metadata floor (seal_refusal one s u floor)
+seal one limit s b metadata floor (Sealed c) = refused s (NoBatch b)
+seal one limit s b metadata floor Gone = refused s (NoBatch b)
 
 -- The list becomes that of batch b, which is held, where it may be applied.
-abbrev pub apply : State Operation → ℕ → Batch Operation → Outcome
-apply s b (Sealed c) =
+abbrev pub apply : Test Operation → State Operation → ℕ → Batch Operation → Outcome
+apply one s b (Sealed c) =
     if is_held c then
-    (if may_apply meaning s c then (answer.Applied, applied s c)
+    (if may_apply one s c then (answer.Applied, applied s c)
     else refused s StaleBatch)
     else refused s (NoBatch b)
-apply s b (Unsealed u) = refused s (NoBatch b)
-apply s b Gone = refused s (NoBatch b)
+apply one s b (Unsealed u) = refused s (NoBatch b)
+apply one s b Gone = refused s (NoBatch b)
 
 -- Batch b, which is held, is held once more.
 abbrev pub hold : State Operation → ℕ → Batch Operation → Outcome
@@ -117,16 +122,16 @@ release s b (Unsealed u) = (answer.Done, with_batch s b Gone)
 release s b Gone = refused s (NoBatch b)
 
 -- What a command answers, and the state that it leaves, where values have at most this length.
-abbrev pub step : ℕ → State Operation → Command → Outcome
-step limit s (command.New parent) = begin s parent
-step limit s (command.Append b v) = append_to limit s b v (batch_at s b)
-step limit s (command.Seal b metadata floor) = seal limit s b metadata floor (batch_at s b)
-step limit s (command.Apply b) = apply s b (batch_at s b)
-step limit s (command.Hold b) = hold s b (batch_at s b)
-step limit s (command.Release b) = release s b (batch_at s b)
-step limit s command.Snapshot = (answer.Batch (length s.batches), snapshot_taken s (floor_of meaning s.ops))
-step limit s command.Size = (answer.Size (length s.ops) 0 (floor_of meaning s.ops), s)
-step limit s command.Metadata = (answer.Metadata (last_value meaning s.ops), s)
+abbrev pub step : Test Operation → ℕ → State Operation → Command → Outcome
+step one limit s (command.New parent) = begin s parent
+step one limit s (command.Append b v) = append_to limit s b v (batch_at s b)
+step one limit s (command.Seal b metadata floor) = seal one limit s b metadata floor (batch_at s b)
+step one limit s (command.Apply b) = apply one s b (batch_at s b)
+step one limit s (command.Hold b) = hold s b (batch_at s b)
+step one limit s (command.Release b) = release s b (batch_at s b)
+step one limit s command.Snapshot = (answer.Batch (length s.batches), snapshot_taken s (floor_of meaning s.ops))
+step one limit s command.Size = (answer.Size (length s.ops) 0 (floor_of meaning s.ops), s)
+step one limit s command.Metadata = (answer.Metadata (last_value meaning s.ops), s)
 
 -- The reply: the answer, with the size and the root of the list after the step.
 abbrev pub reply : Outcome → Reply

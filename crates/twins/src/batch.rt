@@ -1,28 +1,30 @@
 use crate::operation::Operation;
+use chain_core::{BatchId, Bounds};
+use tree_shape::{Mmr, Sha256Digest};
 
 /// A batch that takes appends. Its list is one of the history, with its own operations behind it.
 #[derive(Drop)]
 pub struct UnsealedBatch {
-    /// The number of the batch on which it was made, where it was made on one.
-    pub parent: Option<u64>,
+    /// The pool's number of the batch on which it was made, where it was made on one. It holds that batch.
+    pub parent: Option<BatchId>,
     /// The number of the list on which it stands.
     pub base: u64,
     pub own: Vec<Operation>,
 }
 
-/// A batch that a commit has ended. Lists are named by their numbers in the history.
+/// What the pool keeps of a batch that a commit has ended, as long as somebody holds it.
 #[derive(Drop)]
 pub struct SealedBatch {
-    /// The number of the batch on which it was made, where it was made on one.
-    pub parent: Option<u64>,
+    /// The number of its list in the history.
     pub list: u64,
-    /// The list on which it was made.
-    pub base: u64,
-    /// The oldest list on which it may be applied.
-    pub boundary: u64,
-    /// The lists of its ancestors on which it may be applied, the newest first.
-    pub tips: Vec<u64>,
-    /// How often the caller holds it.
+    /// The states of the log at which it may be applied.
+    pub bounds: Bounds<Mmr, Sha256Digest>,
+}
+
+/// A sealed batch for the caller: its number in the pool, and how often the caller holds it.
+#[derive(Clone, Copy, Debug)]
+pub struct Holding {
+    pub id: BatchId,
     pub holds: u64,
 }
 
@@ -30,6 +32,6 @@ pub struct SealedBatch {
 #[derive(Drop)]
 pub enum Batch {
     Unsealed(UnsealedBatch),
-    Sealed(SealedBatch),
+    Sealed(Holding),
     Gone,
 }

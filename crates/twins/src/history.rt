@@ -1,69 +1,34 @@
-ghost use Rattle.std.specs.Prelude.{◌≡◌, ◌≤◌, ◌<◌, ◌+◌, ◌^◌, ◌++◌, ◌∷◌, [], ℕ, length, slice_get, Option, Some, IfOk, IfSome, OnOk, IsOkUnless, MatchOption};
-ghost use Rattle.std.specs.Bool.{Decides};
-ghost use Rattle.std.specs.Cmp.Lexicographic.{pointwise};
-ghost use Rattle.std.specs.List.{list_any};
+ghost use Rattle.std.specs.Prelude.{◌≡◌, ◌≤◌, ◌<◌, ◌+◌, ◌^◌, ◌++◌, ◌∷◌, [], length, IfOk, IfSome, OnOk, IsOkUnless};
 ghost use Rattle.tree_shape.specs.Mmr.{mmr};
+ghost use Rattle.log_model.specs.Good.{EndsWithCommit};
 ghost use Rattle.log_model.specs.Operations.{floor_of, last_value, leaves_from};
 ghost use Rattle.op_codec.specs.Keyless.{value_of};
 ghost use Rattle.twins.specs.Operation.{meaning, sha};
+ghost use Rattle.twins.specs.Commitments.{commitment_of};
 ghost use Rattle.twins.specs.Step.{plain_commit, root_of_list};
-ghost use Rattle.twins.specs.declared.history.Segment.{Segment};
-ghost use Rattle.twins.specs.Lists.{list_at, list_before, lists_of, own_at, joined, AreBelow, IsBlock, IsMadeOf, AreKept, IsHistory, lists_in, count_in, Extends};
+ghost use Rattle.twins.specs.Lists.{list_at, list_before, lists_of, own_at, joined, AreBelow, AreKept, IsHistory, lists_in, count_in, Extends};
 
 use crate::operation::Operation;
+use chain_core::Commitment;
 use codec_base::{Bytes, CodecError, Duplicate};
 use log_model::{floor_of_operations, push_leaves, root_of_leaves};
-use op_codec::{Same, keyless};
+use op_codec::keyless;
 use std::alloc::Global;
 use tree_shape::{Bagging, Location, Mmr, Sha256Digest, Sha256Hasher, Standard};
 
-/// A list of operations: a list of a lower number, where it has one, and its own operations behind it, of which the last alone is a commit.
+/// A list of operations: a list of a lower number, where it has one, and its own operations behind it, which a commit ends.
 #[derive(Drop)]
 pub struct Segment {
     pub before: Option<u64>,
     pub own: Vec<Operation>,
-    /// How many operations the list has.
-    pub size: u64,
-    /// The root of the list.
-    pub root: Sha256Digest,
+    /// The size and the root of the list.
+    pub state: Commitment<Mmr, Sha256Digest>,
 }
 
-/// The lists that a run has made, by number. No two are equal, so lists are compared by number. A list shares the operations of the one on which it stands.
+/// The lists that a run has made, by number. A list shares the operations of the one on which it stands.
 #[derive(Drop)]
 pub struct History {
     pub segments: Vec<Segment>,
-}
-
-/// Whether two lists are one.
-fn are_same<T: Same>(first: &[T], other: &[T]) -> bool
-    ensures { Decides result (first.now ≡ other.now) }
-{
-    first == other
-}
-
-/// Whether a segment with these own operations stands on this list.
-fn is_made_of(segment: &Segment, before: u64, own: &[Operation]) -> bool
-    ensures { Decides result (IsMadeOf segment.now before own.now) }
-{
-    match segment.before {
-        Some(number) => number == before && are_same(&segment.own, own),
-        None => false,
-    }
-}
-
-/// The number of the list that is another with these operations behind it, if it was made.
-fn find(segments: &[Segment], before: u64, own: &[Operation]) -> Option<u64>
-    requires kept { AreKept segments.now }
-    requires there { before < length segments.now }
-    ensures found { IfSome result (λ i. (g : Segment) × (slice_get segments.now i ≡ Some g) × IsMadeOf g before own.now) }
-    ensures none { result ≡ Option.None → (i : ℕ) (g : Segment) → slice_get segments.now i ≡ Some g → IsMadeOf g before own.now → ⊥ }
-{
-    for i in before + 1..segments.len() as u64 {
-        if is_made_of(&segments[i as usize], before, own) {
-            return Some(i);
-        }
-    }
-    None
 }
 
 /// The numbers of the lists on which a list stands, the first of them first, and its own.
@@ -168,11 +133,11 @@ impl History {
         own.push(keyless::Operation::Commit(None, Location::new(0)))?;
         let root = root_after(alloc, &[], None, &own)?;
         let mut segments = Vec::new(alloc);
+        let state = Commitment::new(Location::new(1), root);
         segments.push(Segment {
             before: None,
             own,
-            size: 1,
-            root,
+            state,
         })?;
         Ok(History { segments })
     }
@@ -184,16 +149,16 @@ impl History {
         ensures value { result ≡ length (list_at (lists_in self.now) i) }
         ensures within { result ≤ 2 ^ 62 }
     {
-        self.segments[i as usize].size
+        self.segments[i as usize].state.size.as_u64()
     }
 
-    /// The root of list i.
-    pub fn root(&self, i: u64) -> Sha256Digest
+    /// The state of a log that is list i.
+    pub fn state(&self, i: u64) -> Commitment<Mmr, Sha256Digest>
         requires kept { IsHistory self.now }
         requires there { i < count_in self.now }
-        ensures { result ≡ root_of_list (list_at (lists_in self.now) i) }
+        ensures { result ≡ commitment_of (list_at (lists_in self.now) i) }
     {
-        self.segments[i as usize].root
+        self.segments[i as usize].state.copied()
     }
 
     /// The floor of list i.
@@ -215,27 +180,7 @@ impl History {
         last_value(&self.segments[i as usize].own)
     }
 
-    /// Whether two numbers are those of one list.
-    pub fn is_same(&self, i: u64, j: u64) -> bool
-        requires kept { IsHistory self.now }
-        requires first { i < count_in self.now }
-        requires other { j < count_in self.now }
-        ensures { result ≡ pointwise meaning.same (list_at (lists_in self.now) i) (list_at (lists_in self.now) j) }
-    {
-        i == j
-    }
-
-    /// Whether list i is one of several.
-    pub fn is_among(&self, i: u64, ids: &[u64]) -> bool
-        requires kept { IsHistory self.now }
-        requires first { i < count_in self.now }
-        requires others { AreBelow (count_in self.now) ids.now }
-        ensures { result ≡ list_any (λ j. pointwise meaning.same (list_at (lists_in self.now) i) (list_at (lists_in self.now) j)) ids.now }
-    {
-        ids.contains(&i)
-    }
-
-    /// The number of the list that is another with these operations behind it, of which the last alone is a commit. It is made where it wasn't.
+    /// Makes the list that is another with these operations behind it, which a commit ends; answers its number.
     pub fn add(
         &mut self,
         alloc: Global,
@@ -244,7 +189,7 @@ impl History {
     ) -> Result<u64, CodecError>
         requires kept { IsHistory self.old }
         requires there { before < count_in self.old }
-        requires block { IsBlock own.items }
+        requires ends { EndsWithCommit meaning own.items }
         requires few { length (list_at (lists_in self.old) before) + length own.items ≤ 2 ^ 62 }
         ensures there { IfOk result (λ i. i < count_in self.new) }
         ensures list { IfOk result (λ i. list_at (lists_in self.new) i ≡ list_at (lists_in self.old) before ++ own.items) }
@@ -252,17 +197,14 @@ impl History {
         ensures extends { OnOk result (Extends self.old self.new) }
         ensures memory { IsOkUnless result CodecError.Memory }
     {
-        if let Some(i) = find(&self.segments, before, &own) {
-            return Ok(i);
-        }
         let root = root_after(alloc, &self.segments, Some(before), &own)?;
-        let size = self.segments[before as usize].size + own.len() as u64;
+        let size = self.size(before) + own.len() as u64;
+        let state = Commitment::new(Location::new(size), root);
         let number = self.segments.len() as u64;
         self.segments.push(Segment {
             before: Some(before),
             own,
-            size,
-            root,
+            state,
         })?;
         Ok(number)
     }

@@ -1,10 +1,20 @@
 //! Laws of the definitions that the run is stated by.
 ghost use Rattle.twins.specs.Good.{StepsStayGood, RunsAreGood};
-ghost use Rattle.twins.specs.Laws.{SizesNeverFall, RepliesTellLists, RunsContinue, RefusalsKeep};
+ghost use Rattle.twins.specs.Laws.{SizesNeverFall, TestsTellLengths, RepliesTellLists, RunsContinue, RefusalsKeep, StatesTellLists};
+
+use crate::operation::Operation;
+use codec_base::LengthCfg;
+use log_model::no_clash_law;
+use tree_shape::{Mmr, Sha256Hasher};
 
 /// The sizes in the replies of a run never fall.
 pub fn sizes_never_fall()
     ensures { SizesNeverFall }
+{}
+
+/// Both tests of lists tell lengths.
+pub fn tests_tell_lengths()
+    ensures { TestsTellLengths }
 {}
 
 /// Each reply of a run tells the list after the commands up to it, and nothing else of them.
@@ -31,3 +41,10 @@ pub fn steps_stay_good()
 pub fn runs_are_good()
     ensures { RunsAreGood }
 {}
+
+/// Where nothing clashes that is hashed for the lists of a run, it answers the same by sizes and roots as by operations.
+pub fn states_tell_lists(limit: u64)
+    ensures { StatesTellLists limit }
+{
+    no_clash_law::<Mmr, Sha256Hasher, Operation>(&LengthCfg { max: limit });
+}

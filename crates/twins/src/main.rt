@@ -6,10 +6,11 @@ mod config;
 mod ending;
 mod history;
 mod laws;
-mod links;
 mod machine;
 mod main_call;
 mod operation;
+mod pool;
+mod reach;
 mod report;
 mod run;
 

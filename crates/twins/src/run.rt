@@ -3,10 +3,14 @@ ghost use Rattle.std.specs.FinMap as map;
 ghost use Rattle.codec_base.specs.Causes.{Rose};
 ghost use Rattle.volume_base.specs.Volume.{SameContents, PastStays, StaysSteady, Reads};
 ghost use Rattle.twins.specs.declared.ending.Fault.TheVariants.{Volume, NotFresh, Memory};
-ghost use Rattle.twins.specs.Trace.{trace, IsFreshLog, IsFresh, IsBegun};
+ghost use Rattle.log_model.specs.Machine.{one_list};
+ghost use Rattle.twins.specs.Operation.{meaning};
+ghost use Rattle.twins.specs.Commitments.{one_state};
+ghost use Rattle.twins.specs.Trace.{trace, HasNoClash, IsFreshLog, IsFresh, IsBegun};
 
 use crate::config::TwinConfig;
 use crate::ending::{Fault, Stopped};
+use crate::laws::states_tell_lists;
 use crate::machine::Machine;
 use codec_base::{CodecError, ListOf};
 use command_text::{Answer, Command, Replies};
@@ -22,8 +26,8 @@ fn answer_all(
     replies: &mut Replies,
 ) -> Result<(), CodecError>
     requires { replies.old ≡ [] }
-    ensures ok { OnOk result (replies.new ≡ trace limit commands.now) }
-    ensures err { OnErr result (IsBegun replies.new (trace limit commands.now)) }
+    ensures ok { OnOk result (replies.new ≡ trace one_state limit commands.now) }
+    ensures err { OnErr result (IsBegun replies.new (trace one_state limit commands.now)) }
     ensures memory { IsOkUnless result CodecError.Memory }
 {
     let mut machine = Machine::new(alloc, limit)?;
@@ -94,8 +98,12 @@ pub fn run_twins<V: Volume>(
     commands: &[Command],
 ) -> Result<Replies, Stopped>
     // One reply to the opening and one to each command, as the list machine answers; or the first of these.
-    ensures replies { IfOk result (λ replies. replies ≡ trace config.now.value_limit commands.now) }
-    ensures so_far { IfErr result (λ s. IsBegun s.replies (trace config.now.value_limit commands.now)) }
+    ensures replies { IfOk result (λ replies. replies ≡ trace one_state config.now.value_limit commands.now) }
+    ensures so_far { IfErr result (λ s. IsBegun s.replies (trace one_state config.now.value_limit commands.now)) }
+
+    // So far lists are told by their sizes and roots. Where nothing clashes that is hashed for the lists of the run, this is the same as by their operations.
+    ensures lists { HasNoClash config.now.value_limit commands.now → IfOk result (λ replies. replies ≡ trace (one_list meaning) config.now.value_limit commands.now) }
+    ensures lists_so_far { HasNoClash config.now.value_limit commands.now → IfErr result (λ s. IsBegun s.replies (trace (one_list meaning) config.now.value_limit commands.now)) }
 
     // The volume stays as it was, whatever is answered.
     ensures clock { (V.state volume.new).clock ≡ (V.state volume.old).clock }
@@ -116,6 +124,7 @@ pub fn run_twins<V: Volume>(
     ensures faults { (V.state volume.old).faults ≤ (V.state volume.new).faults }
     ensures steady { (V.state volume.old).steady → StaysSteady (V.state volume.old) (V.state volume.new) }
 {
+    states_tell_lists(config.value_limit());
     if let Err(fault) = check_fresh(config, volume) {
         let replies = ListOf::new(alloc);
         return Err(Stopped { fault, replies });

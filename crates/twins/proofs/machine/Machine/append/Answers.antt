@@ -1,46 +1,61 @@
-use Rattle.std.proofs.Common.{◌≤◌, [], ◌∷◌, length, ◌∙◌, refl, subst, arith}
+use Rattle.std.proofs.Common.{◌≡◌, ◌+◌, ◌≤◌, ◌++◌, [], ◌∷◌, List, length, ◌∙◌, refl, sym, ap, subst, arith}
 use Rattle.std.proofs.lemmas.List.{length-append}
+use Rattle.log_model.specs.Batches.{size_of, appended}
+use Rattle.log_model.specs.Batches as batches
 use Rattle.log_model.specs.Good.{AreAppends}
-use Rattle.log_model.specs.Machine.{max_leaves}
+use Rattle.log_model.specs.Machine.{max_leaves, with_batch}
 use Rattle.op_codec.specs.declared.keyless.Operation.TheVariants.{Append}
+use Rattle.command_text.specs.declared.command.Answer.TheVariants as answer
+use Rattle.command_text.specs.declared.command.Refusal.TheVariants.{LocationOverflow}
+use Rattle.twins.specs.declared.batch.Batch.{Batch}
 use Rattle.twins.specs.declared.batch.Batch.TheVariants.{Unsealed}
 use Rattle.twins.specs.Operation.{meaning}
-use Rattle.twins.specs.Lists.{lists_in}
-use Rattle.twins.specs.StateOf.{BatchKept}
-use Rattle.twins.proofs.Representation.{read_at, kept_set, kept_same, unsealed_keeps}
+use Rattle.twins.specs.Commitments.{one_state}
+use Rattle.twins.specs.Step.{refused, append_to}
+use Rattle.twins.specs.StateOf.{AreBatchesOf}
+use Rattle.twins.proofs.Matching.{read_at}
 use Rattle.twins.proofs.HistoryLemmas.{appends_push}
-use Rattle.twins.proofs.Handlers.{append_done}
+use Rattle.twins.proofs.States.{unsealed_in}
+use Rattle.twins.proofs.Changes.{batches_appended}
+use Rattle.twins.proofs.Handlers.{append_full, append_done, set_same, meets}
 use Rattle.twins.proofs.machine.Machine.append.Goals as goal
 
-pub returns-then-size-ge-MAX_LEAVES-clause-kept : goal.returns-then-size-ge-MAX_LEAVES-clause-kept
-returns-then-size-ge-MAX_LEAVES-clause-kept c =
+pub returns-then-size-ge-MAX_LEAVES-clause-ok : goal.returns-then-size-ge-MAX_LEAVES-clause-ok
+returns-then-size-ge-MAX_LEAVES-clause-ok c = λ s k.
     let m = c.args.self.now in
     let bs = m.batches.items in
-    let e = read_at bs c.args.b c.index_mut.result.now (omega arith) c.index_mut.ensures.value ∙ c.in-Unsealed.is in record {
-      history = c.requires.history;
-      head = c.requires.head;
-      batches = kept_same m.taken m.history bs c.requires.batches c.args.b _ e;
-    }
+    let b = c.args.b in
+    let u = c.in-Unsealed.batch in
+    let e = read_at bs b c.index_mut.result.now (omega arith) c.index_mut.ensures.value ∙ c.in-Unsealed.is in
+    let w = unsealed_in m s k b u e in
+    let o = w.3 in
+    let size : c.size.result + c.len-in-Unsealed-2.result ≡ size_of w.0 = let base = o.base in let own = ap length o.pending in omega (arith, c.size.ensures.value, base, own) in
+    meets _ _ (refused s (LocationOverflow (size_of w.0 + 1))) _ (ap (append_to m.limit s b c.args.value.now) w.2 ∙ append_full one_state s b w.0 m.limit c.args.value.now (omega arith) (omega (arith, size)))
+    (ap (λ n. answer.Refused (LocationOverflow (n + 1))) size) (record {
+      log = record { history = k.log.history; head = k.log.head };
+      ops = k.ops;
+      batches = subst (λ (xs : List Batch). AreBatchesOf m.history xs m.pool s.batches) (sym (set_same bs b (Unsealed u) e)) k.batches;
+      few = k.few;
+    })
 
 pub returns-in_ok-push-in-Unsealed-clause-ok : goal.returns-in_ok-push-in-Unsealed-clause-ok
-returns-in_ok-push-in-Unsealed-clause-ok c =
+returns-in_ok-push-in-Unsealed-clause-ok c = λ s k.
     let m = c.args.self.now in
     let bs = m.batches.items in
-    let e = read_at bs c.args.b c.index_mut.result.now (omega arith) c.index_mut.ensures.value ∙ c.in-Unsealed.is in
-    append_done (lists_in m.history) m.head bs c.args.b m.limit c.args.value.now c.in-Unsealed.batch _ e (omega arith) (omega (arith, c.size.ensures.value)) refl refl (c.in_ok-push-in-Unsealed.ensures.items ∙ rw c.in_ok-duplicate-in-Unsealed.ensures.same refl)
-
-pub returns-in_ok-push-in-Unsealed-clause-kept : goal.returns-in_ok-push-in-Unsealed-clause-kept
-returns-in_ok-push-in-Unsealed-clause-kept c =
-    let m = c.args.self.now in
-    let bs = m.batches.items in
+    let b = c.args.b in
     let u = c.in-Unsealed.batch in
-    let e = read_at bs c.args.b c.index_mut.result.now (omega arith) c.index_mut.ensures.value ∙ c.in-Unsealed.is in
-    let k = subst (BatchKept m.taken m.history bs c.args.b) e (c.requires.batches c.args.b) in
-    let items = c.in_ok-push-in-Unsealed.ensures.items in
-    let l = length-append u.own.items (Append c.in_ok-duplicate-in-Unsealed.field-0 ∷ []) in
-    let few : length c.push.new.self.items ≤ max_leaves = rw items (omega (arith, l, c.size.ensures.value)) in
-    let appends : AreAppends meaning c.push.new.self.items = rw items (appends_push u.own.items (Append c.in_ok-duplicate-in-Unsealed.field-0) k.2 refl) in record {
-      history = c.requires.history;
-      head = c.requires.head;
-      batches = kept_set m.taken m.history bs c.requires.batches c.args.b (Unsealed (record { parent = u.parent; base = u.base; own = c.push.new.self })) (k.0, few, appends, k.3) (unsealed_keeps bs c.args.b u (Unsealed (record { parent = u.parent; base = u.base; own = c.push.new.self })) e);
-    }
+    let e = read_at bs b c.index_mut.result.now (omega arith) c.index_mut.ensures.value ∙ c.in-Unsealed.is in
+    let w = unsealed_in m s k b u e in
+    let o = w.3 in
+    let size : c.size.result + c.len-in-Unsealed-2.result ≡ size_of w.0 = let base = o.base in let own = ap length o.pending in omega (arith, c.size.ensures.value, base, own) in
+    let items : c.push.new.self.items ≡ u.own.items ++ (Append c.args.value.now ∷ []) = c.in_ok-push-in-Unsealed.ensures.items ∙ rw c.in_ok-duplicate-in-Unsealed.ensures.same refl in
+    let l = length-append u.own.items (Append c.args.value.now ∷ []) in
+    let few : length c.push.new.self.items ≤ max_leaves = rw items (let own = ap length o.pending in omega (arith, l, size, own)) in
+    let appends : AreAppends meaning c.push.new.self.items = rw items (appends_push u.own.items (Append c.args.value.now) o.appends refl) in
+    meets _ _ (answer.Done, with_batch s b (batches.Unsealed (appended w.0 (Append c.args.value.now)))) _ (ap (append_to m.limit s b c.args.value.now) w.2 ∙ append_done one_state s b w.0 m.limit c.args.value.now (omega arith) (omega (arith, size)))
+    refl (record {
+      log = record { history = k.log.history; head = k.log.head };
+      ops = k.ops;
+      batches = batches_appended m.history bs m.pool s.batches k.batches b u e (omega arith) w.0 w.2 o (record { parent = u.parent; base = u.base; own = c.push.new.self }) (Append c.args.value.now) refl refl items few appends;
+      few = k.few;
+    })

@@ -1,47 +1,75 @@
-use Rattle.std.proofs.Common.{◌≡◌, ◌++◌, [], ◌∷◌, sym, ◌∙◌, refl, ap, subst, arith}
+use Rattle.std.proofs.Common.{◌≡◌, ◌++◌, ◌∷◌, [], length, set, sym, ◌∙◌, refl, ap, ap₂, subst, arith}
+use Rattle.std.proofs.lemmas.List.{set-set}
+use Rattle.chain_core.specs.declared.commitment.Commitment.{Commitment}
+use Rattle.tree_shape.specs.declared.mmr.Mmr.{Mmr}
+use Rattle.tree_shape.specs.declared.sha256.Sha256Digest.{Sha256Digest}
+use Rattle.log_model.specs.Batches as batches
+use Rattle.log_model.specs.Reach.{sealed_here}
 use Rattle.op_codec.specs.declared.keyless.Operation.TheVariants.{Commit}
+use Rattle.command_text.specs.declared.command.Answer.TheVariants as answer
+use Rattle.twins.specs.Step.{root_of_list}
 use Rattle.twins.specs.Lists.{list_at, lists_in}
-use Rattle.twins.specs.StateOf.{BatchKept, IsPlace}
+use Rattle.twins.specs.Operation.{Operation}
+use Rattle.twins.specs.Pool.{Slots, link_released}
+use Rattle.twins.specs.StateOf.{IsPlace, AreBatchesOf, AreFew}
+use Rattle.twins.specs.declared.batch.Batch.TheVariants.{Sealed}
 use Rattle.twins.specs.declared.batch.UnsealedBatch.{UnsealedBatch}
-use Rattle.twins.proofs.Representation.{read_at}
-use Rattle.twins.proofs.HistoryLemmas.{block_of}
-use Rattle.twins.proofs.Sealing.{one_unsealed, sealed_kept, sealed_done}
+use Rattle.twins.specs.declared.batch.SealedBatch.{SealedBatch}
+use Rattle.twins.specs.declared.batch.Holding.{Holding}
+use Rattle.twins.proofs.Matching.{read_at, same_unsealed}
+use Rattle.twins.proofs.HistoryLemmas.{ends_with}
+use Rattle.twins.proofs.Sealing.{parent_lives, few_sealed, sealed_list, sealed_batches}
 use Rattle.twins.proofs.machine.Machine.end.Goals as goal
 
-pub add-requires-clause-block : goal.add-requires-clause-block
-add-requires-clause-block c =
+pub add-requires-clause-ends : goal.add-requires-clause-ends
+add-requires-clause-ends c = rw c.in_ok-push.ensures.items (ends_with c.in-Unsealed.batch.own.items _ refl)
+
+pub put-requires-clause-room : goal.put-requires-clause-room
+put-requires-clause-room c = omega (arith, c.requires.room.drawn, c.requires.room.within)
+
+pub release-requires : goal.release-requires
+release-requires c =
     let m = c.args.self.now in
-    let bs = m.batches.items in
-    let e = read_at bs c.args.b c.index_mut.result.now c.requires.there c.index_mut.ensures.value ∙ sym c.in-Unsealed.ensures.value in
-    let k = subst (BatchKept m.taken m.history bs c.args.b) e (c.requires.kept.batches c.args.b) in
-    rw c.in_ok-push.ensures.items (block_of c.in-Unsealed.batch.own.items _ k.2 refl)
+    let b = c.args.b in
+    let v = c.in-Unsealed.batch in
+    let e = read_at m.batches.items b c.index_mut.result.now c.requires.there c.index_mut.ensures.value ∙ sym c.in-Unsealed.ensures.value in
+    let p = c.requires.place in
+    let k = c.requires.kept in
+    let add = c.in_ok-list.ensures in
+    let x : SealedBatch = record { list = c.in_ok-list.list; bounds = record { base = c.state-base.result; db = c.args.place.boundary; tip = c.state-tip.result; ancestors = c.from_vec.result; inactivity_floor = c.new-2.result } } in
+    let place : IsPlace m v c.args.place.boundary c.from_vec.result = subst (IsPlace m v c.args.place.boundary) (sym c.from_vec.ensures)
+    (subst (λ (w : UnsealedBatch). IsPlace m w c.args.place.boundary c.args.place.tips.items) (same_unsealed p.batch v (sym p.is ∙ e)) p.place) in
+    let own : c.push.new.self.items ≡ v.own.items ++ (Commit c.args.metadata.now c.args.floor ∷ []) = c.in_ok-push.ensures.items ∙ rw (c.in_ok-duplicate.ensures.same, c.new.ensures) refl in
+    let list : list_at (lists_in c.add.new.self) c.in_ok-list.list ≡ list_at (lists_in m.history) v.base ++ (v.own.items ++ (Commit c.args.metadata.now c.args.floor ∷ [])) = add.list ∙ rw own refl in
+    let lives = parent_lives m k.0 k.1 b v e c.add.new.self add.extends x c.args.metadata.now c.args.floor add.there list c.state-base.ensures c.state-tip.ensures place in
+    record { alive = rw c.in_ok-id.ensures.ok lives }
 
 pub returns-clause-ok : goal.returns-clause-ok
-returns-clause-ok c = λ u is.
+returns-clause-ok c = λ s w k machine.
     let m = c.args.self.now in
-    let bs = m.batches.items in
+    let b = c.args.b in
     let v = c.in-Unsealed.batch in
-    let e = read_at bs c.args.b c.index_mut.result.now c.requires.there c.index_mut.ensures.value ∙ sym c.in-Unsealed.ensures.value in
-    let same : v ≡ u = one_unsealed bs c.args.b v u e is in
+    let e = read_at m.batches.items b c.index_mut.result.now c.requires.there c.index_mut.ensures.value ∙ sym c.in-Unsealed.ensures.value in
     let p = c.requires.place in
-    let place : IsPlace m u c.args.place.boundary c.args.place.tips.items = subst (λ (w : UnsealedBatch). IsPlace m w c.args.place.boundary c.args.place.tips.items) (one_unsealed bs c.args.b p.0 u p.1 is) p.2 in
-    let own : c.push.new.self.items ≡ u.own.items ++ (Commit c.args.metadata.now c.args.floor ∷ []) = c.in_ok-push.ensures.items ∙ rw (same, c.in_ok-duplicate.ensures.same, c.new.ensures) refl in
-    let list : list_at (lists_in c.add.new.self) c.in_ok-list.list ≡ list_at (lists_in m.history) u.base ++ (u.own.items ++ (Commit c.args.metadata.now c.args.floor ∷ [])) = c.in_ok-list.ensures.list ∙ rw (same, own) refl in
-    sealed_done m.taken m.history c.add.new.self c.in_ok-list.ensures.extends bs c.requires.kept.batches c.args.b u is _ c.in_ok-list.ensures.there c.args.metadata.now c.args.floor list
-    (ap (λ (w : UnsealedBatch). w.parent) same) (ap (λ (w : UnsealedBatch). w.base) same) place.front place.fronts refl c.replace.new.dest m.head c.requires.kept.head place.boundary_is place.tips_are c.size.result c.root.result c.size.ensures.value c.root.ensures
-
-pub returns-clause-kept : goal.returns-clause-kept
-returns-clause-kept c =
-    let m = c.args.self.now in
-    let bs = m.batches.items in
-    let u = c.in-Unsealed.batch in
-    let is = read_at bs c.args.b c.index_mut.result.now c.requires.there c.index_mut.ensures.value ∙ sym c.in-Unsealed.ensures.value in
-    let p = c.requires.place in
-    let place : IsPlace m u c.args.place.boundary c.args.place.tips.items = subst (λ (w : UnsealedBatch). IsPlace m w c.args.place.boundary c.args.place.tips.items) (one_unsealed bs c.args.b p.0 u p.1 is) p.2 in
-    let own : c.push.new.self.items ≡ u.own.items ++ (Commit c.args.metadata.now c.args.floor ∷ []) = c.in_ok-push.ensures.items ∙ rw (c.in_ok-duplicate.ensures.same, c.new.ensures) refl in
-    let list : list_at (lists_in c.add.new.self) c.in_ok-list.list ≡ list_at (lists_in m.history) u.base ++ (u.own.items ++ (Commit c.args.metadata.now c.args.floor ∷ [])) = c.in_ok-list.ensures.list ∙ rw own refl in
-    let more = c.in_ok-list.ensures.extends in record {
-      history = c.in_ok-list.ensures.kept;
-      head = omega (arith, c.requires.kept.head, more.count);
-      batches = sealed_kept m.taken m.history c.add.new.self more bs c.requires.kept.batches c.args.b u is _ c.in_ok-list.ensures.there c.args.metadata.now c.args.floor list refl refl place.front place.fronts refl c.replace.new.dest c.requires.some;
-    }
+    let add = c.in_ok-list.ensures in
+    let more = add.extends in
+    let put = c.in_ok-id.ensures in
+    let x : SealedBatch = record { list = c.in_ok-list.list; bounds = record { base = c.state-base.result; db = c.args.place.boundary; tip = c.state-tip.result; ancestors = c.from_vec.result; inactivity_floor = c.new-2.result } } in
+    let j : Holding = record { id = c.in_ok-id.id; holds = 1 } in
+    let place : IsPlace m v c.args.place.boundary c.from_vec.result = subst (IsPlace m v c.args.place.boundary) (sym c.from_vec.ensures)
+    (subst (λ (u : UnsealedBatch). IsPlace m u c.args.place.boundary c.args.place.tips.items) (same_unsealed p.batch v (sym p.is ∙ e)) p.place) in
+    let own : c.push.new.self.items ≡ v.own.items ++ (Commit c.args.metadata.now c.args.floor ∷ []) = c.in_ok-push.ensures.items ∙ rw (c.in_ok-duplicate.ensures.same, c.new.ensures) refl in
+    let list : list_at (lists_in c.add.new.self) c.in_ok-list.list ≡ list_at (lists_in m.history) v.base ++ (v.own.items ++ (Commit c.args.metadata.now c.args.floor ∷ [])) = add.list ∙ rw own refl in
+    let tip = c.state-tip.ensures in
+    let whole = sealed_list m s k b v e c.add.new.self more x c.args.metadata.now c.args.floor add.there list c.state-base.ensures tip place w machine c.new-2.ensures in
+    let after = c.release.ensures ∙ ap (λ (pool : Slots). link_released pool v.parent) put.ok in
+    let y : batches.Batch Operation = batches.Sealed (sealed_here s w (Commit c.args.metadata.now c.args.floor) c.args.floor) in (
+      ap₂ answer.Sealed (c.as_u64.ensures ∙ ap (λ (d : Commitment Mmr Sha256Digest). d.size) tip ∙ ap length whole) (ap (λ (d : Commitment Mmr Sha256Digest). d.root) tip ∙ ap root_of_list whole),
+      record {
+        log = record { history = add.kept; head = omega (arith, k.log.head, more.count) };
+        ops = k.ops ∙ sym (more.same m.head k.log.head);
+        batches = rw set-set (subst (λ (pool : Slots). AreBatchesOf c.add.new.self (set m.batches.items b (Sealed j)) pool (set s.batches b y)) (sym after)
+            (sealed_batches m s k b v e c.add.new.self more x c.args.metadata.now c.args.floor add.there list c.state-base.ensures tip place w machine c.new-2.ensures j put.number refl));
+        few = subst (AreFew m.taken) (sym after) (few_sealed m s k b v e c.add.new.self more x c.args.metadata.now c.args.floor add.there list c.state-base.ensures tip place c.requires.room);
+      },
+    )

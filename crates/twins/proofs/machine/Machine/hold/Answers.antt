@@ -1,25 +1,32 @@
-use Rattle.std.proofs.Common.{◌∙◌, refl, subst, arith}
-use Rattle.twins.specs.Lists.{lists_in}
-use Rattle.twins.specs.StateOf.{BatchKept, HeldLess}
-use Rattle.twins.proofs.Representation.{read_at, kept_set}
-use Rattle.twins.proofs.Handlers.{hold_done}
+use Rattle.std.proofs.Common.{◌<◌, ◌+◌, Some, set, sym, ◌∙◌, refl, ap, subst}
+use Rattle.std.proofs.lemmas.Option.{same_Some}
+use Rattle.chain_core.specs.Slots.{holds_of}
+use Rattle.log_model.specs.Batches as batches
+use Rattle.log_model.specs.Batches.{with_hold}
+use Rattle.log_model.specs.Machine.{with_batch}
+use Rattle.command_text.specs.declared.command.Answer.TheVariants as answer
+use Rattle.twins.specs.Commitments.{one_state}
+use Rattle.twins.specs.Pool.{Slots}
+use Rattle.twins.specs.Step.{hold}
+use Rattle.twins.specs.StateOf.{AreBatchesOf, AreFew}
+use Rattle.twins.specs.declared.batch.Batch.TheVariants.{Sealed}
+use Rattle.twins.proofs.Changes.{batches_held, few_held}
+use Rattle.twins.proofs.Handlers.{held_there, hold_done, meets}
 use Rattle.twins.proofs.machine.Machine.hold.Goals as goal
 
-pub returns-else-batch-eq0-clause-ok : goal.returns-else-batch-eq0-clause-ok
-returns-else-batch-eq0-clause-ok c =
+pub returns-clause-ok : goal.returns-clause-ok
+returns-clause-ok c = λ s k.
     let m = c.args.self.now in
     let bs = m.batches.items in
-    let e = read_at bs c.args.b c.index_mut.result.now (omega arith) c.index_mut.ensures.value ∙ c.in-Sealed.is in
-    hold_done (lists_in m.history) m.head bs c.args.b c.in-Sealed.batch _ e (omega (arith, c.if-batch-eq0.false)) refl
-
-pub returns-else-batch-eq0-clause-kept : goal.returns-else-batch-eq0-clause-kept
-returns-else-batch-eq0-clause-kept c =
-    let m = c.args.self.now in
-    let bs = m.batches.items in
-    let e = read_at bs c.args.b c.index_mut.result.now (omega arith) c.index_mut.ensures.value ∙ c.in-Sealed.is in
-    let k = subst (BatchKept m.taken m.history bs c.args.b) e (c.requires.kept.batches c.args.b) in
-    let less = subst (HeldLess m.taken) e (c.requires.room.less c.args.b) in record {
-      history = c.requires.kept.history;
-      head = c.requires.kept.head;
-      batches = kept_set m.taken m.history bs c.requires.kept.batches c.args.b _ (k.0, k.1, k.2, k.3, omega (arith, less), k.5) (rw e refl);
-    }
+    let b = c.args.b in
+    let j = c.in-Some.held in
+    let t = held_there m s k b j (sym c.in-Some.ensures.held) in
+    let d = with_hold t.batch in
+    meets _ _ (answer.Done, with_batch s b (batches.Sealed d)) _ (ap (hold s b) t.machine ∙ hold_done one_state s b t.batch t.held)
+    refl (record {
+      log = record { history = k.log.history; head = k.log.head };
+      ops = k.ops;
+      batches = subst (λ (pool : Slots). AreBatchesOf m.history (set bs b (Sealed (record { id = j.id; holds = j.holds + 1 }))) pool (set s.batches b (batches.Sealed d))) (sym c.hold.ensures)
+          (batches_held m.history bs m.pool s.batches k.batches b j t.sealed t.batch t.machine t.is t.some (record { id = j.id; holds = j.holds + 1 }) refl refl);
+      few = subst (AreFew m.taken) (sym c.hold.ensures) (few_held m.taken m.pool k.few c.requires.room.holds (Some j.id) (λ id e. subst (λ i. 0 < holds_of m.pool i) (same_Some j.id id e) t.pool));
+    })

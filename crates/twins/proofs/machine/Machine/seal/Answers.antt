@@ -1,30 +1,60 @@
-use Rattle.std.proofs.Common.{sym, ◌∙◌, arith}
+use Rattle.std.proofs.Common.{length, sym, ◌∙◌, refl, ap, subst, arith}
 use Rattle.std.proofs.lemmas.Result.{IfOk-weaker}
-use Rattle.twins.specs.Lists.{lists_in}
-use Rattle.twins.specs.StateOf.{unsealed_of, state_of}
-use Rattle.twins.proofs.Representation.{read_at}
-use Rattle.twins.proofs.Handlers.{seal_lost, seal_done}
-use Rattle.twins.proofs.RunGood.{seal_fits}
+use Rattle.twins.specs.Commitments.{one_state}
+use Rattle.twins.specs.Step.{lost, seal}
+use Rattle.twins.specs.StateOf.{Meets}
+use Rattle.twins.proofs.Matching.{read_at}
+use Rattle.twins.proofs.States.{unsealed_in, unsealed_here, in_of}
+use Rattle.twins.proofs.Handlers.{seal_lost, seal_done, meets}
+use Rattle.twins.proofs.Sealing.{seal_few}
 use Rattle.twins.proofs.machine.Machine.seal.Goals as goal
 
-pub returns-in-Some-clause-ok : goal.returns-in-Some-clause-ok
-returns-in-Some-clause-ok c =
+pub place-requires : goal.place-requires
+place-requires c =
     let m = c.args.self.now in
-    let bs = m.batches.items in
-    let e = read_at bs c.args.b c.index.result.now (omega arith) c.index.ensures ∙ c.in-Unsealed.is in
-    seal_lost (lists_in m.history) m.head bs c.args.b m.limit c.args.metadata.now c.args.floor c.in-Unsealed.batch c.in-Some.refusal e (omega arith) c.in-Some.ensures
+    let e = read_at m.batches.items c.args.b c.index.result.now (omega arith) c.index.ensures ∙ c.in-Unsealed.is in
+    record { batch = unsealed_here m c.requires.kept c.args.b c.in-Unsealed.batch e }
+
+pub seal_refusal-requires-clause-batch : goal.seal_refusal-requires-clause-batch
+seal_refusal-requires-clause-batch c =
+    let m = c.args.self.now in
+    let e = read_at m.batches.items c.args.b c.index.result.now (omega arith) c.index.ensures ∙ c.in-Unsealed.is in
+    unsealed_here m c.requires.kept c.args.b c.in-Unsealed.batch e
+
+pub lose-requires-clause-batch : goal.lose-requires-clause-batch
+lose-requires-clause-batch c =
+    let m = c.args.self.now in
+    let e = read_at m.batches.items c.args.b c.index.result.now (omega arith) c.index.ensures ∙ c.in-Unsealed.is in
+    (c.in-Unsealed.batch, e, refl)
+
+pub returns-in-Some-clause-ok : goal.returns-in-Some-clause-ok
+returns-in-Some-clause-ok c = λ s k.
+    let m = c.args.self.now in
+    let b = c.args.b in
+    let e = read_at m.batches.items b c.index.result.now (omega arith) c.index.ensures ∙ c.in-Unsealed.is in
+    let w = unsealed_in m s k b c.in-Unsealed.batch e in
+    let refusal = c.in-Some.refusal in
+    meets _ _ (lost s b refusal) _ (ap (seal one_state m.limit s b c.args.metadata.now c.args.floor) w.2 ∙ seal_lost one_state s b w.0 m.limit c.args.metadata.now c.args.floor (omega arith) refusal (sym (c.in-Some.ensures s w.0 w.1)))
+    refl (c.lose.ensures.lost s k)
 
 pub end-requires-clause-place : goal.end-requires-clause-place
 end-requires-clause-place c =
     let m = c.args.self.now in
-    let bs = m.batches.items in
-    let e = read_at bs c.args.b c.index.result.now (omega arith) c.index.ensures ∙ c.in-Unsealed.is in
-    let fits = seal_fits (state_of m) (unsealed_of (lists_in m.history) c.in-Unsealed.batch) c.args.floor (sym c.in_default-seal_refusal.ensures) in
-    (c.in-Unsealed.batch, e, c.in_ok-place.ensures.place, omega (arith, fits.few))
+    let b = c.args.b in
+    let u = c.in-Unsealed.batch in
+    let e = read_at m.batches.items b c.index.result.now (omega arith) c.index.ensures ∙ c.in-Unsealed.is in
+    let k = c.requires.kept in
+    let w = unsealed_in m k.0 k.1 b u e in
+    let o = in_of m u k.0 w.0 w.1 in
+    let few = seal_few one_state k.0 w.0 c.args.floor (sym (c.in_default-seal_refusal.ensures k.0 w.0 w.1)) in
+    record { batch = u; is = e; place = c.in_ok-place.ensures.place; few = let base = o.base in let own = ap length o.pending in omega (arith, few, base, own) }
 
 pub returns-clause-ok : goal.returns-clause-ok
 returns-clause-ok c =
     let m = c.args.self.now in
-    let bs = m.batches.items in
-    let e = read_at bs c.args.b c.index.result.now (omega arith) c.index.ensures ∙ c.in-Unsealed.is in
-    IfOk-weaker c.end.result _ _ (λ a done. seal_done (lists_in m.history) m.head bs c.args.b m.limit c.args.metadata.now c.args.floor c.in-Unsealed.batch _ e (omega arith) c.in_default-seal_refusal.ensures (done c.in-Unsealed.batch e)) c.end.ensures.ok
+    let b = c.args.b in
+    let e = read_at m.batches.items b c.index.result.now (omega arith) c.index.ensures ∙ c.in-Unsealed.is in
+    IfOk-weaker c.end.result _ _ (λ a done s k.
+    let w = unsealed_in m s k b c.in-Unsealed.batch e in
+    subst (λ o. Meets o c.end.new.self a) (sym (ap (seal one_state m.limit s b c.args.metadata.now c.args.floor) w.2 ∙ seal_done one_state s b w.0 m.limit c.args.metadata.now c.args.floor (omega arith) (sym (c.in_default-seal_refusal.ensures s w.0 w.1))))
+    (done s w.0 k w.2)) c.end.ensures.ok
