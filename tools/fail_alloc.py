@@ -1,0 +1,85 @@
+#!/usr/bin/env python3
+"""Lets each allocation of the program fail in turn, on each run of expected.py at the program's own value limit.
+
+usage: tools/fail_alloc.py PROGRAM
+
+The program has to end with status 8, the message of status 8, and the replies to a first part of the commands on its
+output, as expected.py computes them; or, where the allocation wasn't needed, as if it hadn't failed. One allocation
+fails by fail_alloc.c, which the C compiler `cc` makes and the loader puts before the C library.
+"""
+import os
+import shutil
+import subprocess
+import sys
+import tempfile
+from pathlib import Path
+
+import expected
+
+NO_MEMORY = (8, b"twins: out of memory\n")
+DONE = (0, b"")
+
+
+class Program:
+    """The program, with a library before the C library's by which one allocation fails."""
+
+    def __init__(self, path, library, told):
+        self.path, self.library, self.told = path, library, told
+
+    def run(self, text, failing=0):
+        settings = dict(os.environ, LD_PRELOAD=self.library, FAIL_ALLOC=str(failing), FAIL_ALLOC_TOLD=self.told)
+        ended = subprocess.run([self.path], input=text, capture_output=True, env=settings, timeout=60)
+        return (ended.returncode, ended.stderr), ended.stdout
+
+    def allocations(self):
+        return int(Path(self.told).read_text())
+
+
+def fronts(text):
+    """The texts of a first part of these lines, which isn't all of them."""
+    lines = text.splitlines(keepends=True)
+    return {b"".join(lines[:count]) for count in range(len(lines))}
+
+
+def faults_of(program, name, lines):
+    """How many allocations a run makes, how many of them weren't needed, and what was wrong."""
+    text = "".join(line + "\n" for line in lines).encode()
+    whole = expected.run(lines).encode()
+    ending, output = program.run(text)
+    if (ending, output) != (DONE, whole):
+        return 0, 0, [f"{name}: not answered where no allocation fails"]
+    count, spared, wrong = program.allocations(), 0, []
+    for number in range(1, count + 1):
+        ending, output = program.run(text, number)
+        if (ending, output) == (DONE, whole):
+            spared += 1
+        elif ending != NO_MEMORY or output not in fronts(whole):
+            wrong.append(f"{name}: allocation {number} of {count}: {ending}, {len(output)} bytes written")
+    return count, spared, wrong
+
+
+def main(words):
+    if len(words) != 1:
+        print(__doc__.strip(), file=sys.stderr)
+        return 2
+    if not sys.platform.startswith("linux") or shutil.which("cc") is None:
+        print("skipped: no C compiler, so no allocation is made to fail")
+        return 0
+    source = Path(__file__).with_name("fail_alloc.c")
+    with tempfile.TemporaryDirectory() as scratch:
+        library, told = f"{scratch}/fail_alloc.so", f"{scratch}/told"
+        subprocess.run(["cc", "-O1", "-shared", "-fPIC", "-o", library, source], check=True)
+        program = Program(words[0], library, told)
+        runs = [(name, lines) for name, limit, lines in expected.RUNS if limit == expected.VALUE_LIMIT]
+        results = [faults_of(program, name, lines) for name, lines in runs]
+    wrong = [line for _, _, lines in results for line in lines]
+    for line in wrong:
+        print(line)
+    count, spared = (sum(result[at] for result in results) for at in (0, 1))
+    print(f"{count} failing allocations in {len(runs)} runs, {spared} of them not needed: "
+          f"{'as it should be' if not wrong else f'{len(wrong)} faults'}")
+    return 1 if wrong else 0
+
+
+if __name__ == "__main__":
+    sys.exit(main(sys.argv[1:]))
