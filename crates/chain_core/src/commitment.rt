@@ -10,7 +10,7 @@ pub struct Commitment<F, D> {
     pub root: D,
 }
 
-/// A database whose state a batch may be read at, or sealed at. Only the checks of this crate answer one.
+/// A database whose state a batch may be read at, or sealed at. The checks of this crate answer one; a value alone shows nothing, since its field is public.
 #[derive_where(Clone, Copy)]
 pub struct Compatible<'a, T> {
     pub db: &'a T,

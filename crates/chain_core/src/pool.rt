@@ -131,7 +131,7 @@ impl<T: Drop> Pool<T> {
         }
     }
 
-    /// Whether the batch was neither released nor ended.
+    /// Whether a batch is alive under this number: it is held.
     pub fn is_alive(&self, id: BatchId) -> bool
         ensures { IsTrue result ↔ IsAlive self.now id }
     {

@@ -35,7 +35,7 @@ pub enum Refusal {
     StaleBatch,
     /// This size would be above the greatest.
     LocationOverflow(u64),
-    /// The floor, and the floor of the present list, which is above it.
+    /// The floor, and the floor on which the batch builds, which is above it.
     FloorRegressed(u64, u64),
     /// The floor, and the location of the commit, which is below it.
     FloorBeyondSize(u64, u64),

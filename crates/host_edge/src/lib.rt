@@ -1,4 +1,4 @@
-//! The adapters of the real thing: they count each failure of the outside, and tell no contents.
+//! The adapters of the real thing: they count each failure of the outside, and tell the bytes that the reader or writer below tells.
 #![tactic(auto)]
 
 mod sink;

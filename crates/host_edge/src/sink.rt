@@ -1,10 +1,11 @@
-ghost use Rattle.std.specs.Prelude.{◌≡◌, ◌≢◌, ◌<◌, ◌+◌, ◌-◌, ◌^◌, min, length, IfOk, IsOk, OnOk, OnErr};
+ghost use Rattle.std.specs.Prelude.{◌≡◌, ◌≢◌, ◌<◌, ◌≤◌, ◌+◌, ◌-◌, ◌^◌, min, length, IfOk, IsOk, OnOk, OnErr};
 ghost use Rattle.std.specs.Io.{WritesAtMost};
 ghost use Rattle.std.specs.Io.KnownBytes.{WriteAppends, Keeps};
 ghost use Rattle.std.specs.IoError.{error_kind};
 ghost use Rattle.codec_base.specs.Causes.{HasCause};
 
 use std::io::{self, ErrorKind};
+use std::marker::Model;
 use stream_base::{Sink, WriteFailed};
 
 /// A sink over a std writer. It tells the bytes that the writer tells, which the standard streams, files and sockets don't.
@@ -14,6 +15,14 @@ pub struct StdSink<W> {
     writer: W,
     waits: bool,
     faults: u64,
+}
+
+impl<W> Model for StdSink<W> {
+    ghost use Rattle.host_edge.specs.Adapters.{OverWriter};
+
+    ghost Value = { OverWriter W };
+
+    ghost view = { λ s. record { writer = s.writer; waits = s.waits; faults = s.faults } };
 }
 
 impl<W: io::Write> StdSink<W> {
@@ -32,6 +41,7 @@ impl<W: io::Write> StdSink<W> {
 
     fn count_fault(&mut self)
         ensures counted { self.new.faults ≡ min (self.old.faults + 1) (2 ^ 64 - 1) }
+        ensures later { self.old.faults ≤ self.new.faults }
         ensures writer { self.new.writer ≡ self.old.writer }
         ensures waits { self.new.waits ≡ self.old.waits }
     {
@@ -42,6 +52,7 @@ impl<W: io::Write> StdSink<W> {
     fn failed(&mut self, _e: &io::Error) -> WriteFailed
         requires { error_kind _e.now ≢ ErrorKind.Interrupted }
         ensures counted { self.new.faults ≡ min (self.old.faults + 1) (2 ^ 64 - 1) }
+        ensures later { self.old.faults ≤ self.new.faults }
         ensures writer { self.new.writer ≡ self.old.writer }
         ensures waits { self.new.waits ≡ self.old.waits }
     {
@@ -53,6 +64,7 @@ impl<W: io::Write> StdSink<W> {
     fn gave_up(&mut self, _tries: u64) -> WriteFailed
         requires { _tries ≡ 2 ^ 64 - 1 }
         ensures counted { self.new.faults ≡ min (self.old.faults + 1) (2 ^ 64 - 1) }
+        ensures later { self.old.faults ≤ self.new.faults }
         ensures writer { self.new.writer ≡ self.old.writer }
         ensures waits { self.new.waits ≡ self.old.waits }
     {
@@ -78,8 +90,9 @@ impl<W: io::Write> Sink for StdSink<W> {
         // A write that succeeds counts nothing, whatever interrupted it; one that fails counts once.
         ensures kept { OnOk result (self.new.faults ≡ self.old.faults) }
         ensures counted { OnErr result (self.new.faults ≡ min (self.old.faults + 1) (2 ^ 64 - 1)) }
-        // What was written waits for a flush.
+        // What was written waits for a flush, whatever is answered.
         ensures waits { IfOk result (λ n. 0 < n → IsTrue self.new.waits) }
+        ensures still_waits { IsTrue self.old.waits → IsTrue self.new.waits }
         // Of an empty piece nothing is asked of the writer.
         ensures empty { length buf.now ≡ 0 → IsOk result × (self.new.writer ≡ self.old.writer) }
     {
@@ -106,6 +119,8 @@ impl<W: io::Write> Sink for StdSink<W> {
         ensures cause { HasCause self.old.faults self.new.faults result }
         ensures kept { OnOk result (self.new.faults ≡ self.old.faults) }
         ensures counted { OnErr result (self.new.faults ≡ min (self.old.faults + 1) (2 ^ 64 - 1)) }
+        // What waited for a flush that failed still waits.
+        ensures still { OnErr result (self.new.waits ≡ self.old.waits) }
     {
         let mut tries = 0;
         while tries < u64::MAX {

@@ -1,10 +1,11 @@
-ghost use Rattle.std.specs.Prelude.{◌≡◌, ◌≢◌, ◌+◌, ◌-◌, ◌^◌, min, length, IsOk, OnOk, OnErr};
+ghost use Rattle.std.specs.Prelude.{◌≡◌, ◌≢◌, ◌≤◌, ◌+◌, ◌-◌, ◌^◌, min, length, IsOk, OnOk, OnErr};
 ghost use Rattle.std.specs.Io.{ReadsAtMost};
 ghost use Rattle.std.specs.Io.KnownBytes.{ReadConsumes};
 ghost use Rattle.std.specs.IoError.{error_kind};
 ghost use Rattle.codec_base.specs.Causes.{HasCause};
 
 use std::io::{self, ErrorKind};
+use std::marker::Model;
 use stream_base::{ReadFailed, Source};
 
 /// A source over a std reader. It tells the bytes that the reader tells, which the standard streams, files and sockets don't.
@@ -13,6 +14,14 @@ use stream_base::{ReadFailed, Source};
 pub struct StdSource<R> {
     reader: R,
     faults: u64,
+}
+
+impl<R> Model for StdSource<R> {
+    ghost use Rattle.host_edge.specs.Adapters.{OverReader};
+
+    ghost Value = { OverReader R };
+
+    ghost view = { λ s. record { reader = s.reader; faults = s.faults } };
 }
 
 impl<R: io::Read> StdSource<R> {
@@ -26,6 +35,7 @@ impl<R: io::Read> StdSource<R> {
 
     fn count_fault(&mut self)
         ensures counted { self.new.faults ≡ min (self.old.faults + 1) (2 ^ 64 - 1) }
+        ensures later { self.old.faults ≤ self.new.faults }
         ensures reader { self.new.reader ≡ self.old.reader }
     {
         self.faults = self.faults.saturating_add(1);
@@ -35,6 +45,7 @@ impl<R: io::Read> StdSource<R> {
     fn failed(&mut self, _e: &io::Error) -> ReadFailed
         requires { error_kind _e.now ≢ ErrorKind.Interrupted }
         ensures counted { self.new.faults ≡ min (self.old.faults + 1) (2 ^ 64 - 1) }
+        ensures later { self.old.faults ≤ self.new.faults }
         ensures reader { self.new.reader ≡ self.old.reader }
     {
         self.count_fault();
@@ -45,6 +56,7 @@ impl<R: io::Read> StdSource<R> {
     fn gave_up(&mut self, _tries: u64) -> ReadFailed
         requires { _tries ≡ 2 ^ 64 - 1 }
         ensures counted { self.new.faults ≡ min (self.old.faults + 1) (2 ^ 64 - 1) }
+        ensures later { self.old.faults ≤ self.new.faults }
         ensures reader { self.new.reader ≡ self.old.reader }
     {
         self.count_fault();

@@ -207,6 +207,8 @@ fn goes_through_its_calls_at_both_kinds_of_items(rt: HostRuntime) -> Result<(), 
         |item: &Bytes| item.len() == 4,
     )?;
     assert_eq!(rt; variable, (3, 3));
+    backing_laws::<VariableJournal<Bytes>>();
+    run_laws::<Bytes>(&LengthCfg { max: 9 });
     Ok(())
 }
 

@@ -1,2 +1,4 @@
 pub mod OperationLemmas
+pub mod ReachLemmas
+pub mod GoodLemmas
 mod HashedLemmas

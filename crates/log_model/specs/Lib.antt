@@ -5,5 +5,3 @@ pub mod Batches
 pub mod Machine
 pub mod Reach
 pub mod Good
-pub mod ReachLaws
-pub mod GoodLaws

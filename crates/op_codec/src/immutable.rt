@@ -11,7 +11,7 @@ mod variable;
 
 use crate::{Floored, Key, OperationTrait, ValueEncoding};
 use codec_base::{Bytes, CodecError, Cursor, Duplicate, EncodeSize, Read, Spelled, Write};
-pub use laws::{fixed_laws, hash_laws, order_laws, variable_laws};
+pub use laws::{equality_laws, fixed_laws, hash_laws, order_laws, variable_laws};
 use std::alloc::Global;
 use tree_shape::{Family, Location};
 

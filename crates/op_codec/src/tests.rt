@@ -156,6 +156,7 @@ fn operations_are_ordered_and_hashed_by_their_fields(rt: HostRuntime) {
         keyless::Operation::Commit(Some(U64::new(2)), Location::new(0)),
     ];
     assert!(rt; rise(&keyless));
+    keyless::equality_laws::<Mmr, FixedEncoding<U64>>();
     keyless::order_laws::<Mmr, FixedEncoding<U64>>();
     keyless::hash_laws::<Mmr, FixedEncoding<U64>>();
     let immutable: [KeyedNumbers; 5] = [
@@ -166,6 +167,7 @@ fn operations_are_ordered_and_hashed_by_their_fields(rt: HostRuntime) {
         immutable::Operation::Commit(None, Location::new(4)),
     ];
     assert!(rt; rise(&immutable));
+    immutable::equality_laws::<Mmr, U64, FixedEncoding<U64>>();
     immutable::order_laws::<Mmr, U64, FixedEncoding<U64>>();
     immutable::hash_laws::<Mmr, U64, FixedEncoding<U64>>();
 }

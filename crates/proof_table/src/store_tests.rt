@@ -7,7 +7,9 @@ use codec_base::ListOf;
 use memory_volume::MemoryVolume;
 use std::alloc::Global;
 use std::test::Fail;
-use tree_core::verification::{ProofStore, range_proof};
+use tree_core::verification::{
+    ProofStore, needed_cover_law, range_proof, range_proofs_check, told_tree_law,
+};
 use tree_core::{
     Bagging, Error, Location, MAX_LEAVES, Position, Proof, Sha256Digest, Sha256Hasher, Standard,
     Storage, verify,
@@ -47,6 +49,8 @@ fn narrower_proofs_are_made_over_what_a_proof_tells(rt: HostRuntime) -> Result<(
     let narrow = range_proof(alloc, &mut vol, &store, start, Location::new(6), 0)?;
     let elements = elements_of(alloc, 4, 6, WHOLE)?;
     assert!(rt; verify(alloc, &hasher, &narrow, start, &elements, &root)?);
+    range_proofs_check::<Mmb, Sha256Hasher>();
+    needed_cover_law::<Mmb>();
     // The second leaf is under a node of the cover.
     let first = range_proof(
         alloc,
@@ -78,6 +82,7 @@ fn what_a_proof_tells_is_what_the_tree_has(rt: HostRuntime) -> Result<(), Fail> 
     }
     // Three of the cover, seven leaves, and seven over these.
     assert_eq!(rt; nodes, 17);
+    told_tree_law::<Mmb, Sha256Hasher>();
     let pair = store.get_nodes(&mut vol, &[Position::new(2)])?;
     assert!(rt; pair.first().copied() == tree.get_node(Position::new(2)));
     Ok(())

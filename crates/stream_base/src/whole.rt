@@ -27,6 +27,7 @@ impl From<ReadFailed> for ReadAllError {
 }
 
 /// Reads a source to its end, up to a limit.
+#[tactic(auto, using(crate::proofs::Known::front_read))]
 pub fn read_all<S: Source>(alloc: Global, source: &mut S, limit: u64) -> Result<Bytes, ReadAllError>
     // It was read to its end, and these are its bytes.
     ensures whole { IfOk result (λ bytes. Consumes (S.left source.old) (S.left source.new) bytes × IsAtEnd (S.left source.new)) }
@@ -34,8 +35,8 @@ pub fn read_all<S: Source>(alloc: Global, source: &mut S, limit: u64) -> Result<
     ensures long { IsErrOf result ReadAllError.TooLong → IfSome (S.left source.old) (λ left. limit < length left) }
     ensures failed { IsErrOf result ReadAllError.Failed → Rose (S.faults source.old) (S.faults source.new) }
     ensures later { S.faults source.old ≤ S.faults source.new }
-    // It ends at the first fault.
-    ensures kept { OnOk result (S.faults source.new ≡ S.faults source.old) }
+    // It ends at the first fault: every other answer counts none.
+    ensures kept { (IsErrOf result ReadAllError.Failed → ⊥) → S.faults source.new ≡ S.faults source.old }
     ensures err { OnErr result (ReadsFront (S.left source.old) (S.left source.new)) }
 {
     let mut bytes = Bytes::new(alloc);

@@ -12,7 +12,8 @@ use Rattle.tree_store.specs.declared.error.Error.{Error}
 use Rattle.tree_store.specs.declared.error.Error.TheVariants.{Memory, ElementPruned}
 use Rattle.tree_proof.specs.declared.proof.Proof.{Proof}
 use Rattle.tree_proof.specs.Cover.{meets, cover}
-use Rattle.tree_verification.specs.Ranges.{cover_positions, range_answer, leaf_answer, IsUnread, Proves}
+use Rattle.tree_store.specs.Stores.{IsUnread}
+use Rattle.tree_verification.specs.Ranges.{cover_positions, range_answer, leaf_answer, Proves}
 use Rattle.tree_verification.proofs.CoverLemmas.{cover-below}
 use Rattle.tree_verification.proofs.NeededLemmas.{cover-needed}
 use Rattle.tree_core.specs.Pruned.{made_from, IsPruned}

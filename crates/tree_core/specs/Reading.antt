@@ -3,15 +3,8 @@ use Rattle.std.specs.Prelude.{◌≡◌, ◌⊎◌, ℕ, ◌-◌, ◌<◌, List,
 use Rattle.tree_shape.specs.Shape.{Shape}
 use Rattle.tree_shape.specs.Kept.{PeakOf}
 use Rattle.tree_shape.specs.Pins.{base}
-use Rattle.tree_store.specs.Stores.{IsFirstAbsent}
 use Rattle.tree_store.specs.declared.error.Error.{Error}
-use Rattle.tree_store.specs.declared.error.Error.TheVariants.{Memory, ElementPruned}
-
--- a read of memory was refused: there is no memory, or the first of these positions without a node is named
-abbrev pub IsAbsent : {F D : Type 0} → (ℕ → Option D) → List ℕ → Error F → Type 0
-IsAbsent told ps (ElementPruned p) = IsFirstAbsent told ps p
-IsAbsent told ps Memory = Unit {0}
-IsAbsent told ps _ = ⊥
+use Rattle.tree_store.specs.declared.error.Error.TheVariants.{Memory}
 
 -- it is refused only as these tests say, or for want of memory
 abbrev pub OnlyRefusedBy : {F T : Type 0} → Result (Unit {0}) (Error F) → Result T (Error F) → Type 0

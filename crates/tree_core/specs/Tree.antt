@@ -39,12 +39,6 @@ IsOf s h all t = IsTreeOf s h all t.leaves (node_at t)
 abbrev pub empty_tree : {D : Type 0} → Tree D
 empty_tree = record { leaves = 0; boundary = 0; kept = [] }
 
--- the two have the same leaf count, boundary and nodes
-pub record IsLike {D : Type 0} (t u : Tree D) : Type 0 where
-  pub leaves : u.leaves ≡ t.leaves
-  pub boundary : u.boundary ≡ t.boundary
-  pub nodes : (p : ℕ) → node_at u p ≡ node_at t p
-
 -- u is t pruned to loc: kept are the nodes at or past its position and its peaks, and no other pin
 pub record IsPrunedTo {D : Type 0} (s : Shape) (loc : ℕ) (t u : Tree D) : Type 0 where
   pub leaves : u.leaves ≡ t.leaves

@@ -58,7 +58,7 @@ impl<F: Family, D: Digest> Mem<F, D> {
     ghost use Rattle.tree_shape.specs.Root.{root, root_over};
     ghost use Rattle.tree_core.specs.Pruned.{made_from, nodes_from, peaks_at, Extends};
     ghost use Rattle.tree_core.specs.Reading.{ArePeaks, OnlyRefusedBy};
-    ghost use Rattle.tree_core.specs.Tree.{Tree, node_at, IsSound, IsOf, IsLike, IsPrunedTo, IsGrown, IsBuilt, NotBuilt, IsPinned, empty_tree, prune_answer};
+    ghost use Rattle.tree_core.specs.Tree.{Tree, node_at, IsSound, IsOf, IsPrunedTo, IsGrown, IsBuilt, NotBuilt, IsPinned, empty_tree, prune_answer};
     ghost use Rattle.tree_core.specs.Batches.{BeginsAt, StandsAt, IsUnsealedOf, IsSealedOf};
     ghost use Rattle.tree_core.specs.Applied.{IsLonger, Fits, Refused};
     ghost use Rattle.tree_proof.specs.Cover.{meets};
@@ -234,7 +234,7 @@ impl<F: Family, D: Digest> Mem<F, D> {
     pub fn add_pinned_nodes(&mut self, pins: BTreeMap<Position<F>, D>) -> Result<(), Error<F>>
         requires { (p : ℕ) (d : D) → get nat_cmp pins p ≡ Some d → p < length (made F.shape self.old.leaves) }
         ensures ok { OnOk result (IsPinned (get nat_cmp pins) self.old self.new) }
-        ensures err { OnErr result (IsLike self.old self.new) }
+        ensures err { OnErr result (self.new ≡ self.old) }
         ensures tree { (h : Hashing D) (all : List D) → IsOf F.shape h all self.old → ((p : ℕ) (d : D) → get nat_cmp pins p ≡ Some d → slice_get (nodes F.shape h all) p ≡ Some d) → IsOf F.shape h all self.new }
         ensures memory { IsOkUnless result Error.Memory }
     {
@@ -259,7 +259,7 @@ impl<F: Family, D: Digest> Mem<F, D> {
         requires few { self.old.leaves + later ≤ 2 ^ 62 }
         requires counted { length more.now ≡ length (made_from F.shape self.old.leaves later) }
         ensures ok { OnOk result (IsGrown F.shape later more.now self.old self.new) }
-        ensures err { OnErr result (IsLike self.old self.new) }
+        ensures err { OnErr result (self.new ≡ self.old) }
     {
         let size = F::size(self.leaves);
         push_all(&mut self.nodes, size, more)?;
@@ -300,7 +300,7 @@ impl<F: Family, D: Digest> Mem<F, D> {
         ensures fits { OnOk result ((h : Hashing D) (all : List D) → IsOf F.shape h all self.old → (i : ℕ) × Fits F.shape h all self.old.leaves batch.now i) }
         ensures tree { OnOk result ((h : Hashing D) (all made : List D) → IsOf F.shape h all self.old → IsSealedOf F.shape h made batch.now → IsOf F.shape h (all ++ drop (length all) made) self.new) }
         ensures refused { IfErr result (λ e. (h : Hashing D) (all : List D) → IsOf F.shape h all self.old → Refused F.shape h all self.old.leaves batch.now e) }
-        ensures err { OnErr result (IsLike self.old self.new) }
+        ensures err { OnErr result (self.new ≡ self.old) }
     {
         let mark = self.mark()?;
         match batch.place_of(&mark) {
@@ -341,8 +341,7 @@ impl<F: Family, D: Digest> Storage<F> for Mem<F, D> {
     ghost use Rattle.std.specs.Prelude.{◌≡◌, ◌<◌, length, map, Some, Ok, All, AllPairs, IfOk, IfErr};
     ghost use Rattle.tree_shape.specs.Shape.{made};
     ghost use Rattle.volume_base.specs.Volume.{Reads};
-    ghost use Rattle.tree_store.specs.Stores.{IsReadFault, IsReadRefusal, IsOutside, IsOutsideOr};
-    ghost use Rattle.tree_core.specs.Reading.{IsAbsent};
+    ghost use Rattle.tree_store.specs.Stores.{IsReadFault, IsReadRefusal, IsOutside, IsOutsideOr, IsUnread};
     ghost use Rattle.tree_core.specs.Tree.{node_at};
 
     type Digest = D;
@@ -384,7 +383,7 @@ impl<F: Family, D: Digest> Storage<F> for Mem<F, D> {
         ensures reads { Reads V.tells Error.Volume (V.state _vol.old) (V.state _vol.new) result }
         // They are told from memory, at any positions.
         ensures exact { IfOk result (λ nodes. map Some nodes.items ≡ map (node_at self.now) positions.now) }
-        ensures absent { IfErr result (IsAbsent (node_at self.now) positions.now) }
+        ensures absent { IfErr result (IsUnread (node_at self.now) positions.now) }
         ensures volume { _vol.new ≡ _vol.old }
     {
         let mut nodes = Vec::new(self.alloc);

@@ -84,7 +84,8 @@ impl<F: Family, D: Digest> MerkleizedBatch<F, D> {
 
     /// The number of nodes with this batch.
     pub fn size(&self) -> Position<F>
-        ensures { result ≡ length (made F.shape self.now.leaves) }
+        ensures size { result ≡ length (made F.shape self.now.leaves) }
+        ensures few { self.now.leaves ≤ 2 ^ 62 }
     {
         Position::new(F::size(self.leaves))
     }

@@ -6,3 +6,4 @@ pub mod PinLemmas
 pub mod SizeLemmas
 pub mod TableLemmas
 pub mod NeededLemmas
+pub mod InactiveLemmas

@@ -1,5 +1,5 @@
-ghost use Rattle.std.specs.Prelude.{◌≡◌, ◌≤◌, ◌^◌};
-ghost use Rattle.tree_shape.specs.Shape.{inactive};
+ghost use Rattle.std.specs.Prelude.{◌≡◌, ℕ, ◌+◌, ◌≤◌, ◌<◌, ◌^◌, All, take, drop};
+ghost use Rattle.tree_shape.specs.Shape.{inactive, peaks};
 
 use crate::{Family, width};
 
@@ -18,3 +18,9 @@ pub(crate) fn inactive_of<F: Family>(n: u64, floor: u64) -> u64
     }
     0
 }
+
+/// The peaks that end at or below a floor lead: of the peaks of n leaves, the oldest first, the first `inactive` do, and no other.
+pub fn inactive_law<F: Family>()
+    ensures leading { (n f : ℕ) → All (λ p. p.0 + 2 ^ p.1 ≤ f) (take (inactive F.shape n f) (peaks F.shape n)) }
+    ensures others { (n f : ℕ) → All (λ p. f < p.0 + 2 ^ p.1) (drop (inactive F.shape n f) (peaks F.shape n)) }
+{}

@@ -25,6 +25,7 @@ pub use bagging::Bagging;
 pub use digest::Digest;
 pub use family::Family;
 pub use hasher::Hasher;
+pub use inactive::inactive_law;
 pub use mmb::Mmb;
 pub use mmr::Mmr;
 pub use needed::needed_nodes;

@@ -140,5 +140,6 @@ fn roots_of_the_examples(rt: HostRuntime) -> Result<(), Fail> {
             "{count} {inactive}"
         );
     }
+    inactive_law::<Mmb>();
     Ok(())
 }

@@ -39,3 +39,9 @@ IsReadRefusal error = IsReadFault error
 abbrev pub IsOutsideOr : {F D : Type 0} → (ℕ → Option D) → List ℕ → Error F → Type 0
 IsOutsideOr told ps (ElementPruned p) = IsFirstAbsent told ps p
 IsOutsideOr told ps error = IsOutside error
+
+-- a read of several from memory was refused: the first of these positions at which no node is told is named, or memory is wanting
+abbrev pub IsUnread : {F D : Type 0} → (ℕ → Option D) → List ℕ → Error F → Type 0
+IsUnread told ps (ElementPruned p) = IsFirstAbsent told ps p
+IsUnread told ps Memory = Unit {0}
+IsUnread told ps _ = ⊥

@@ -29,9 +29,9 @@ impl TreeData {
 /// Why a call of a tree wasn't done.
 #[derive_where(Clone, Copy, Debug, PartialEq, Eq)]
 pub enum Error<F> {
-    /// The number of leaves is above `MAX_LEAVES`.
+    /// The location is past what a tree may have.
     LocationOverflow(Location<F>),
-    /// The number of leaves is past the tree.
+    /// The number of leaves, the range's end or the location is past the tree.
     RangeOutOfBounds(Location<F>),
     /// The leaf lies past the tree.
     LeafOutOfBounds(Location<F>),

@@ -23,7 +23,8 @@ pub trait Readable {
 
     /// The number of nodes, whatever was pruned.
     fn size(&self) -> Position<Self::Family>
-        ensures { result ≡ length (made Self.Family.shape (leaves self.now)) };
+        ensures size { result ≡ length (made Self.Family.shape (leaves self.now)) }
+        ensures few { leaves self.now ≤ 2 ^ 62 };
 
     /// The node at a position, where memory has it.
     fn get_node(&self, pos: Position<Self::Family>) -> Option<Self::Digest>

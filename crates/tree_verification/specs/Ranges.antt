@@ -5,9 +5,9 @@ use Rattle.tree_shape.specs.Shape.{Shape}
 use Rattle.tree_shape.specs.Pins.{position_of}
 use Rattle.tree_proof.specs.declared.proof.Proof.{Proof}
 use Rattle.tree_proof.specs.Cover.{Met, cover, cover_digests}
-use Rattle.tree_store.specs.Stores.{IsTreeOf, IsFirstAbsent}
+use Rattle.tree_store.specs.Stores.{IsTreeOf, IsUnread}
 use Rattle.tree_store.specs.declared.error.Error.{Error}
-use Rattle.tree_store.specs.declared.error.Error.TheVariants.{Empty, LocationOverflow, RangeOutOfBounds, ElementPruned, Memory}
+use Rattle.tree_store.specs.declared.error.Error.TheVariants.{Empty, LocationOverflow, RangeOutOfBounds}
 
 -- where the nodes of the cover stand, in its order
 abbrev pub cover_positions : Shape → Met → ℕ → List ℕ
@@ -32,12 +32,6 @@ range_answer stored n a b =
 -- the same for one leaf of a tree of n
 abbrev pub leaf_answer : {F : Type 0} → ℕ → ℕ → Result (Unit {0}) (Error F)
 leaf_answer n l = if nat_lt l (2 ^ 62) then range_answer n n l (l + 1) else Err (LocationOverflow l)
-
--- the first of these positions at which memory has no node is named, or memory is wanting
-abbrev pub IsUnread : {F D : Type 0} → (ℕ → Option D) → List ℕ → Error F → Type 0
-IsUnread told ps (ElementPruned p) = IsFirstAbsent told ps p
-IsUnread told ps Memory = Unit {0}
-IsUnread told ps _ = ⊥
 
 -- what a proof from memory that tells these nodes of a tree of n leaves answers: the refusal that no read decides, or else the proof, or the first node of the cover that isn't there
 pub record Proves {F D : Type 0} (s : Shape) (answer : Result (Unit {0}) (Error F)) (n inactive : ℕ) (met : Met) (told : ℕ → Option D) (result : Result (Proof F D) (Error F)) : Type 0 where

@@ -1,9 +1,9 @@
 //! Proofs from what memory has of a tree.
 ghost use Rattle.std.specs.Prelude.{◌≡◌, ℕ, ◌+◌, ◌≤◌, ◌^◌, List, length, map, take, Some, IfOk, IfErr};
 ghost use Rattle.tree_shape.specs.Hashing.{Hashing};
-ghost use Rattle.tree_store.specs.Stores.{IsTreeOf};
+ghost use Rattle.tree_store.specs.Stores.{IsTreeOf, IsUnread};
 ghost use Rattle.tree_proof.specs.Cover.{meets};
-ghost use Rattle.tree_verification.specs.Ranges.{cover_positions, proof_of, range_answer, leaf_answer, HasForm, IsUnread, Proves};
+ghost use Rattle.tree_verification.specs.Ranges.{cover_positions, proof_of, range_answer, leaf_answer, HasForm, Proves};
 
 use crate::bounds::check_range;
 use crate::walk::find_cover;

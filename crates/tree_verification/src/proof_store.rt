@@ -39,7 +39,7 @@ impl<F: Family, D: Digest> ProofStore<F, D> {
     ghost use Rattle.tree_store.specs.Stores.{IsTreeOf};
     ghost use Rattle.tree_verification.specs.Told.{told_nodes, IsTold, entries, TellsExactly, told_at, told_answer};
 
-    /// The nodes that the proof and its elements from `start` on tell, whether or not they have the root that is thought.
+    /// The nodes that the proof and its elements from `start` on tell, whatever root they have.
     pub fn new<H: Hasher<Digest = D>>(
         alloc: Global,
         proof: &Proof<F, D>,
@@ -89,8 +89,7 @@ impl<F: Family, D: Digest> Storage<F> for ProofStore<F, D> {
     ghost use Rattle.std.specs.Prelude.{◌≡◌, ◌<◌, length, map, Some, Ok, All, AllPairs, IfOk, IfErr};
     ghost use Rattle.tree_shape.specs.Shape.{made};
     ghost use Rattle.volume_base.specs.Volume.{Reads};
-    ghost use Rattle.tree_store.specs.Stores.{IsReadFault, IsReadRefusal, IsOutside, IsOutsideOr};
-    ghost use Rattle.tree_verification.specs.Ranges.{IsUnread};
+    ghost use Rattle.tree_store.specs.Stores.{IsReadFault, IsReadRefusal, IsOutside, IsOutsideOr, IsUnread};
     ghost use Rattle.tree_verification.specs.Told.{told_at};
 
     type Digest = D;

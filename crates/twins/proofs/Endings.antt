@@ -17,11 +17,15 @@ use Rattle.command_text.specs.Lines.{lines_of}
 use Rattle.twins.specs.Outcome.{WritesSoFar, IsValid, IsEarly, IsReadStatus, IsRunStatus, replies_to, fault_status}
 use Rattle.command_text.proofs.CommandLines.{bad_clash}
 
+-- what stays has nothing added
+pub nothing_added : (w : Option (List ℕ)) → Appends w w []
+nothing_added None = tt
+nothing_added (Some bytes) = sym (append-nil bytes)
+
 -- nothing was written, for no reply
 pub wrote_nothing : (w : Option (List ℕ)) (faults : ℕ) (commands : List Command) → WritesSoFar w w faults faults (replies_to commands)
 unfolding text_of trace
-wrote_nothing None faults commands = record { so_far = []; begun = record { front = refl; fewer = omega arith }; wrote = inl tt }
-wrote_nothing (Some bytes) faults commands = record { so_far = []; begun = record { front = refl; fewer = omega arith }; wrote = inl (sym (append-nil bytes)) }
+wrote_nothing w faults commands = record { so_far = []; begun = record { front = refl; fewer = omega arith }; wrote = inl (nothing_added w) }
 
 none_before : (done left : List ℕ) → [] ≡ done ++ left → [] ≡ done
 none_before [] left whole = refl

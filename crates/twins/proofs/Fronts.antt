@@ -14,7 +14,7 @@ use Rattle.tree_shape.specs.declared.mmr.Mmr.{Mmr}
 use Rattle.tree_shape.specs.declared.sha256.Sha256Digest.{Sha256Digest}
 use Rattle.log_model.specs.Machine.{State, stands_at}
 use Rattle.log_model.specs.Reach.{stands_on, later}
-use Rattle.log_model.specs.ReachLaws.{Begins, front_of}
+use Rattle.log_model.proofs.ReachLemmas.{Begins, front_of}
 use Rattle.twins.specs.Operation.{Operation}
 use Rattle.twins.specs.Commitments.{commitment_of, one_state}
 use Rattle.twins.specs.StateOf.{sizes, IsStateIn, AreStatesIn}

@@ -15,7 +15,7 @@ use Rattle.log_model.specs.Machine.{State, batch_at}
 use Rattle.log_model.specs.Operations.{floor_of}
 use Rattle.log_model.specs.Reach as model
 use Rattle.log_model.specs.Reach.{is_child, is_alive, if_alive, alive_at, linked, reach_from, reach, link_bound, tips_of, oldest_base, later, effective_boundary}
-use Rattle.log_model.specs.ReachLaws.{LinksFall, reach_end, reach_more, Begins, begins_take, begins_begins}
+use Rattle.log_model.proofs.ReachLemmas.{LinksFall, reach_end, reach_more, Begins, begins_take, begins_begins}
 use Rattle.twins.specs.Operation.{Operation, meaning}
 use Rattle.twins.specs.Commitments.{commitment_of}
 use Rattle.twins.specs.Lists.{list_at, lists_in}

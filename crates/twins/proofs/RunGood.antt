@@ -8,9 +8,9 @@ use Rattle.log_model.specs.Batches.{Batch, UnsealedBatch, SealedBatch, Unsealed,
 use Rattle.log_model.specs.Machine.{State, Test, max_leaves, batch_at, with_batch, one_list, sealed_list, lists_here}
 use Rattle.log_model.specs.Operations.{floor_of}
 use Rattle.log_model.specs.Reach.{floor_below, may_seal, may_apply, sealed_here}
-use Rattle.log_model.specs.ReachLaws.{floor_here, stood_alone}
+use Rattle.log_model.proofs.ReachLemmas.{floor_here, stood_alone}
 use Rattle.log_model.specs.Good.{IsGoodBatch}
-use Rattle.log_model.specs.GoodLaws.{good_lost, good_with_append, good_with_sealed, good_with_holds, good_begun, good_begun_after, good_snapshot_taken, good_applied, good_opened}
+use Rattle.log_model.proofs.GoodLemmas.{good_lost, good_with_append, good_with_sealed, good_with_holds, good_begun, good_begun_after, good_snapshot_taken, good_applied, good_opened}
 use Rattle.twins.specs.Operation.{Operation, meaning, operation_decide}
 use Rattle.op_codec.specs.declared.keyless.Operation.TheVariants.{Append, Commit}
 use Rattle.command_text.specs.declared.command.Command.{Command}
@@ -19,7 +19,7 @@ use Rattle.command_text.specs.declared.command.Refusal.{Refusal}
 use Rattle.twins.specs.Step.{Outcome, step, begin, begin_on, append_to, seal_refusal, metadata_length, sealed_or_lost, seal, apply, hold, release, plain_commit}
 use Rattle.twins.specs.Trace.{state_after, fresh_state}
 use Rattle.twins.specs.Good.{IsGoodState, anywhere, StepsStayGood, RunsAreGood}
-use Rattle.twins.proofs.RunLaws.{either}
+use Rattle.twins.proofs.RunLaws.{either, either_why}
 
 abbrev Allowed : ℕ → List ℕ → Type 0
 Allowed limit v = length v ≤ limit
@@ -29,10 +29,6 @@ not_lt m n e = grind (arith, nat_tests)
 
 not_le : (m n : ℕ) → nat_le m n ≡ false → n < m
 not_le m n e = grind (arith, nat_tests)
-
-either_why : (P : Option Refusal → Type 0) (b : Bool) (x y : Option Refusal) → (b ≡ true → P x) → (b ≡ false → P y) → P (cond b x y)
-either_why P true x y p q = p refl
-either_why P false x y p q = q refl
 
 -- what a seal that nothing refuses stands on
 pub record SealFits (one : Test Operation) (s : State Operation) (u : UnsealedBatch Operation) (floor : ℕ) : Type 0 where

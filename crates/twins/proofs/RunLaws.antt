@@ -1,14 +1,15 @@
 -- The laws of whole runs.
-use Rattle.std.proofs.Common.{◌≡◌, ◌⊎◌, inl, inr, ℕ, zero, suc, ◌<◌, ◌≤◌, Bool, true, false, cond, List, [], ◌∷◌, ◌++◌, length, take, get_or, Option, Some, None, refl, ap, subst, arith}
+use Rattle.std.proofs.Common.{◌≡◌, ℕ, zero, suc, ◌+◌, ◌<◌, ◌≤◌, Bool, true, false, cond, List, [], ◌∷◌, ◌++◌, length, take, get_or, Option, Some, None, refl, sym, ap, subst, arith}
 use Rattle.std.specs.Prelude.{◌==◌, nat_eq, nat_lt, nat_le, slice_get, unwrap_or}
 use Rattle.std.specs.Cmp.{first_so}
 use Rattle.std.specs.Cmp.Lexicographic.{pointwise}
 use Rattle.std.specs.List.Sorted.{IsNonDecreasingBy}
 use Rattle.std.proofs.lemmas.Bool.Decides.{Decides-eqb}
+use Rattle.std.proofs.lemmas.Option.{same_Some}
 use Rattle.log_model.specs.Batches.{Batch, UnsealedBatch, Unsealed, Sealed, Gone, size_of, is_held}
 use Rattle.log_model.specs.Machine.{State, Test, max_leaves, batch_at, with_batch, one_list}
-use Rattle.log_model.specs.Reach.{may_apply}
-use Rattle.log_model.specs.ReachLaws.{lists_decide, not_longer}
+use Rattle.log_model.specs.Reach.{may_seal, may_apply, floor_below}
+use Rattle.log_model.proofs.ReachLemmas.{lists_decide, not_longer}
 use Rattle.twins.specs.Operation.{Operation, meaning, operation_decide}
 use Rattle.tree_shape.specs.Sha256Codec.{bytes_of}
 use Rattle.command_text.specs.declared.command.Command.{Command}
@@ -16,15 +17,19 @@ use Rattle.command_text.specs.declared.command.Command.TheVariants as command
 use Rattle.command_text.specs.declared.command.Answer.TheVariants as answer
 use Rattle.command_text.specs.declared.command.Refusal.{Refusal}
 use Rattle.command_text.specs.declared.command.Reply.{Reply}
-use Rattle.twins.specs.Step.{Outcome, root_of_list, step, reply, begin, begin_on, append_to, seal_refusal, metadata_length, sealed_or_lost, seal, apply, hold, release}
+use Rattle.twins.specs.Step.{Outcome, root_of_list, step, reply, begin, begin_on, append_to, floor_refusal, seal_refusal, metadata_length, sealed_or_lost, seal, apply, hold, release}
 use Rattle.twins.specs.Commitments.{one_state}
 use Rattle.twins.specs.Trace.{trace, replies_from, state_after, fresh_state}
-use Rattle.twins.specs.Laws.{TellsLengths, SizesNeverFall, TestsTellLengths, TellsList, RepliesTellLists, RunsContinue, RefusalsKeep}
+use Rattle.twins.specs.Laws.{TellsLengths, SizesNeverFall, TestsTellLengths, TellsList, RepliesTellLists, RunsContinue, loses_batch, RefusalsKeep}
 
 -- what holds of both choices holds of the one that a test makes
 pub either : (P : Outcome → Type 0) (b : Bool) (x y : Outcome) → (b ≡ true → P x) → (b ≡ false → P y) → P (cond b x y)
 either P true x y p q = p refl
 either P false x y p q = q refl
+
+pub either_why : (P : Option Refusal → Type 0) (b : Bool) (x y : Option Refusal) → (b ≡ true → P x) → (b ≡ false → P y) → P (cond b x y)
+either_why P true x y p q = p refl
+either_why P false x y p q = q refl
 
 -- ---- sizes
 
@@ -141,56 +146,84 @@ continues one limit cs ds = ap (λ (rs : List Reply). reply (answer.Opened 1 0, 
 
 -- ---- refusals
 
-abbrev Keeps : State Operation → Command → Outcome → Type 0
-Keeps s c o = (r : Refusal) → o.0 ≡ answer.Refused r → (o.1 ≡ s) ⊎ ((b : ℕ) × (metadata : Option (List ℕ)) × (floor : ℕ) × (c ≡ command.Seal b metadata floor) × (o.1 ≡ with_batch s b Gone))
+-- where it is refused, the state stays
+abbrev Stays : State Operation → Outcome → Type 0
+Stays s o = (r : Refusal) → o.0 ≡ answer.Refused r → o.1 ≡ s
 
-append_keeps : (limit : ℕ) (s : State Operation) (b : ℕ) (v : List ℕ) (c : Command) (x : Batch Operation) → Keeps s c (append_to limit s b v x)
-append_keeps limit s b v c (Unsealed u) = either (Keeps s c) (nat_lt limit (length v)) _ _ (λ e r is. inl refl) (λ e. either (Keeps s c) (nat_le max_leaves (size_of u)) _ _ (λ f r is. inl refl) (λ f r is. absurd (cc)))
-append_keeps limit s b v c (Sealed d) = λ r is. inl refl
-append_keeps limit s b v c Gone = λ r is. inl refl
+append_stays : (limit : ℕ) (s : State Operation) (b : ℕ) (v : List ℕ) (x : Batch Operation) → Stays s (append_to limit s b v x)
+append_stays limit s b v (Unsealed u) = either (Stays s) (nat_lt limit (length v)) _ _ (λ e r is. refl) (λ e. either (Stays s) (nat_le max_leaves (size_of u)) _ _ (λ f r is. refl) (λ f r is. absurd (cc)))
+append_stays limit s b v (Sealed d) = λ r is. refl
+append_stays limit s b v Gone = λ r is. refl
 
-ended_keeps : (s : State Operation) (b : ℕ) (metadata : Option (List ℕ)) (floor : ℕ) (u : UnsealedBatch Operation) (why : Option Refusal)
-    → Keeps s (command.Seal b metadata floor) (sealed_or_lost s b u metadata floor why)
-ended_keeps s b metadata floor u (Some refusal) = λ r is. inr (b, metadata, floor, refl, refl)
-ended_keeps s b metadata floor u None = λ r is. absurd (cc)
+apply_stays : (one : Test Operation) (s : State Operation) (b : ℕ) (x : Batch Operation) → Stays s (apply one s b x)
+apply_stays one s b (Sealed d) = either (Stays s) (is_held d) _ _ (λ h. either (Stays s) (may_apply one s d) _ _ (λ e r is. absurd (cc)) (λ e r is. refl)) (λ h r is. refl)
+apply_stays one s b (Unsealed u) = λ r is. refl
+apply_stays one s b Gone = λ r is. refl
 
-seal_keeps : (one : Test Operation) (limit : ℕ) (s : State Operation) (b : ℕ) (metadata : Option (List ℕ)) (floor : ℕ) (x : Batch Operation) → Keeps s (command.Seal b metadata floor) (seal one limit s b metadata floor x)
-seal_keeps one limit s b metadata floor (Unsealed u) = either (Keeps s (command.Seal b metadata floor)) (nat_lt limit (metadata_length metadata)) _ _
-    (λ e r is. inl refl) (λ e. ended_keeps s b metadata floor u (seal_refusal one s u floor))
-seal_keeps one limit s b metadata floor (Sealed c) = λ r is. inl refl
-seal_keeps one limit s b metadata floor Gone = λ r is. inl refl
+hold_stays : (s : State Operation) (b : ℕ) (x : Batch Operation) → Stays s (hold s b x)
+hold_stays s b (Sealed d) = either (Stays s) (is_held d) _ _ (λ h r is. absurd (cc)) (λ h r is. refl)
+hold_stays s b (Unsealed u) = λ r is. refl
+hold_stays s b Gone = λ r is. refl
 
-apply_keeps : (one : Test Operation) (s : State Operation) (b : ℕ) (c : Command) (x : Batch Operation) → Keeps s c (apply one s b x)
-apply_keeps one s b c (Sealed d) = either (Keeps s c) (is_held d) _ _ (λ h. either (Keeps s c) (may_apply one s d) _ _ (λ e r is. absurd (cc)) (λ e r is. inl refl)) (λ h r is. inl refl)
-apply_keeps one s b c (Unsealed u) = λ r is. inl refl
-apply_keeps one s b c Gone = λ r is. inl refl
+release_stays : (s : State Operation) (b : ℕ) (x : Batch Operation) → Stays s (release s b x)
+release_stays s b (Sealed d) = either (Stays s) (is_held d) _ _ (λ h r is. absurd (cc)) (λ h r is. refl)
+release_stays s b (Unsealed u) = λ r is. absurd (cc)
+release_stays s b Gone = λ r is. refl
 
-hold_keeps : (s : State Operation) (b : ℕ) (c : Command) (x : Batch Operation) → Keeps s c (hold s b x)
-hold_keeps s b c (Sealed d) = either (Keeps s c) (is_held d) _ _ (λ h r is. absurd (cc)) (λ h r is. inl refl)
-hold_keeps s b c (Unsealed u) = λ r is. inl refl
-hold_keeps s b c Gone = λ r is. inl refl
+begin_stays_on : (s : State Operation) (p : ℕ) (x : Batch Operation) → Stays s (begin_on s p x)
+begin_stays_on s p (Sealed d) = either (Stays s) (is_held d) _ _ (λ h r is. absurd (cc)) (λ h r is. refl)
+begin_stays_on s p (Unsealed u) = λ r is. refl
+begin_stays_on s p Gone = λ r is. refl
 
-release_keeps : (s : State Operation) (b : ℕ) (c : Command) (x : Batch Operation) → Keeps s c (release s b x)
-release_keeps s b c (Sealed d) = either (Keeps s c) (is_held d) _ _ (λ h r is. absurd (cc)) (λ h r is. inl refl)
-release_keeps s b c (Unsealed u) = λ r is. absurd (cc)
-release_keeps s b c Gone = λ r is. inl refl
+begin_stays : (s : State Operation) (parent : Option ℕ) → Stays s (begin s parent)
+begin_stays s None = λ r is. absurd (cc)
+begin_stays s (Some p) = begin_stays_on s p (batch_at s p)
 
-begin_keeps_on : (s : State Operation) (p : ℕ) (c : Command) (x : Batch Operation) → Keeps s c (begin_on s p x)
-begin_keeps_on s p c (Sealed d) = either (Keeps s c) (is_held d) _ _ (λ h r is. absurd (cc)) (λ h r is. inl refl)
-begin_keeps_on s p c (Unsealed u) = λ r is. inl refl
-begin_keeps_on s p c Gone = λ r is. inl refl
+-- an answer tells why
+same_why : (x r : Refusal) → answer.Refused x ≡ answer.Refused r → x ≡ r
+same_why x r is = cc
 
-begin_keeps : (s : State Operation) (parent : Option ℕ) (c : Command) → Keeps s c (begin s parent)
-begin_keeps s None c = λ r is. absurd (cc)
-begin_keeps s (Some p) c = begin_keeps_on s p c (batch_at s p)
+-- for each reason of an unsealed batch its seal loses it
+abbrev Loses : Option Refusal → Type 0
+Loses why = (x : Refusal) → why ≡ Some x → loses_batch x ≡ true
+
+told_loses : (y x : Refusal) → Some y ≡ Some x → loses_batch y ≡ true → loses_batch x ≡ true
+told_loses y x is loses = subst (λ (r : Refusal). loses_batch r ≡ true) (same_Some y x is) loses
+
+floor_loses : (below floor location : ℕ) → Loses (floor_refusal below floor location)
+floor_loses below floor location = either_why Loses (nat_lt floor below) _ _ (λ e x is. told_loses _ x is refl)
+    (λ e. either_why Loses (nat_lt location floor) _ _ (λ f x is. told_loses _ x is refl) (λ f x is. absurd (cc)))
+
+seal_loses : (one : Test Operation) (s : State Operation) (u : UnsealedBatch Operation) (floor : ℕ) → Loses (seal_refusal one s u floor)
+seal_loses one s u floor = either_why Loses (may_seal one s u) _ _
+    (λ e. either_why Loses (nat_lt max_leaves (size_of u + 1)) _ _ (λ f x is. told_loses _ x is refl) (λ f. floor_loses (floor_below meaning s u) floor (size_of u)))
+    (λ e x is. told_loses _ x is refl)
+
+-- where a seal of batch b is refused, the batch is lost, or the state stays
+abbrev LosesOrStays : State Operation → ℕ → Outcome → Type 0
+LosesOrStays s b o = (r : Refusal) → o.0 ≡ answer.Refused r → o.1 ≡ cond (loses_batch r) (with_batch s b Gone) s
+
+stays_why : (s t : State Operation) (x r : Refusal) → answer.Refused x ≡ answer.Refused r → loses_batch x ≡ false → s ≡ cond (loses_batch r) t s
+stays_why s t x r is stays = rw (sym (same_why x r is), stays) refl
+
+ended_loses : (s : State Operation) (b : ℕ) (metadata : Option (List ℕ)) (floor : ℕ) (u : UnsealedBatch Operation) (why : Option Refusal) → Loses why
+    → LosesOrStays s b (sealed_or_lost s b u metadata floor why)
+ended_loses s b metadata floor u (Some refusal) loses = λ r is. rw (sym (same_why refusal r is), loses refusal refl) refl
+ended_loses s b metadata floor u None loses = λ r is. absurd (cc)
+
+seal_loses_or_stays : (one : Test Operation) (limit : ℕ) (s : State Operation) (b : ℕ) (metadata : Option (List ℕ)) (floor : ℕ) (x : Batch Operation) → LosesOrStays s b (seal one limit s b metadata floor x)
+seal_loses_or_stays one limit s b metadata floor (Unsealed u) = either (LosesOrStays s b) (nat_lt limit (metadata_length metadata)) _ _
+    (λ e r is. stays_why s (with_batch s b Gone) _ r is refl) (λ e. ended_loses s b metadata floor u (seal_refusal one s u floor) (seal_loses one s u floor))
+seal_loses_or_stays one limit s b metadata floor (Sealed c) = λ r is. stays_why s (with_batch s b Gone) _ r is refl
+seal_loses_or_stays one limit s b metadata floor Gone = λ r is. stays_why s (with_batch s b Gone) _ r is refl
 
 pub keep : RefusalsKeep
-keep one limit s (command.New parent) r is = begin_keeps s parent (command.New parent) r is
-keep one limit s (command.Append b v) r is = append_keeps limit s b v (command.Append b v) (batch_at s b) r is
-keep one limit s (command.Seal b metadata floor) r is = seal_keeps one limit s b metadata floor (batch_at s b) r is
-keep one limit s (command.Apply b) r is = apply_keeps one s b (command.Apply b) (batch_at s b) r is
-keep one limit s (command.Hold b) r is = hold_keeps s b (command.Hold b) (batch_at s b) r is
-keep one limit s (command.Release b) r is = release_keeps s b (command.Release b) (batch_at s b) r is
+keep one limit s (command.New parent) r is = begin_stays s parent r is
+keep one limit s (command.Append b v) r is = append_stays limit s b v (batch_at s b) r is
+keep one limit s (command.Seal b metadata floor) r is = seal_loses_or_stays one limit s b metadata floor (batch_at s b) r is
+keep one limit s (command.Apply b) r is = apply_stays one s b (batch_at s b) r is
+keep one limit s (command.Hold b) r is = hold_stays s b (batch_at s b) r is
+keep one limit s (command.Release b) r is = release_stays s b (batch_at s b) r is
 keep one limit s command.Snapshot r is = absurd (cc)
 keep one limit s command.Size r is = absurd (cc)
 keep one limit s command.Metadata r is = absurd (cc)

@@ -13,9 +13,9 @@ use Rattle.log_model.specs.Hashed.{NoClash}
 use Rattle.log_model.specs.Batches.{Batch, Unsealed, Sealed, Gone}
 use Rattle.log_model.specs.Machine.{State, batch_at, one_list, lists_here}
 use Rattle.log_model.specs.Reach.{effective_boundary, tips_of, reach, stands_on, may_seal, may_apply}
-use Rattle.log_model.specs.ReachLaws.{AllAgree, lists_decide, marks_here, stands_agree}
+use Rattle.log_model.proofs.ReachLemmas.{AllAgree, lists_decide, marks_here, stands_agree}
 use Rattle.log_model.specs.Good.{FloorFits, FloorsRise, ValuesAre, IsGoodList, IsMark, AreMarks, IsGoodBatch}
-use Rattle.log_model.specs.GoodLaws.{good_opened}
+use Rattle.log_model.proofs.GoodLemmas.{good_opened}
 use Rattle.op_codec.specs.Keyless.{parts, variable_admits}
 use Rattle.op_codec.specs.declared.keyless.Operation.TheVariants.{Append, Commit}
 use Rattle.chain_core.specs.Commitments.{is_same-exact, is_same_equivalence}

@@ -1,5 +1,5 @@
 -- Laws of whole runs, and of a refusal.
-use Rattle.std.specs.Prelude.{◌≡◌, ◌⊎◌, ℕ, true, List, Option, ◌++◌, length, take, slice_get, Some}
+use Rattle.std.specs.Prelude.{◌≡◌, ℕ, Bool, true, false, List, ◌++◌, length, take, slice_get, Some, if◌then◌else◌}
 use Rattle.std.specs.List.Sorted.{IsNonDecreasingBy}
 use Rattle.log_model.specs.Batches.{Gone}
 use Rattle.log_model.specs.Machine.{State, Test, with_batch, one_list}
@@ -8,6 +8,7 @@ use Rattle.command_text.specs.declared.command.Command.{Command}
 use Rattle.command_text.specs.declared.command.Command.TheVariants as command
 use Rattle.command_text.specs.declared.command.Answer.TheVariants as answer
 use Rattle.command_text.specs.declared.command.Refusal.{Refusal}
+use Rattle.command_text.specs.declared.command.Refusal.TheVariants as refusal
 use Rattle.command_text.specs.declared.command.Reply.{Reply}
 use Rattle.twins.specs.Step.{step, root_of_list}
 use Rattle.twins.specs.Commitments.{one_state}
@@ -43,10 +44,30 @@ RepliesTellLists = (one : Test Operation) (limit : ℕ) (cs : List Command) (i :
 abbrev pub RunsContinue : Type 0
 RunsContinue = (one : Test Operation) (limit : ℕ) (cs ds : List Command) → trace one limit (cs ++ ds) ≡ trace one limit cs ++ replies_from one limit (state_after one limit fresh_state cs) ds
 
--- A refused command changes nothing, or is a seal and loses its batch.
+-- A seal that is refused for this reason loses its batch.
+abbrev pub loses_batch : Refusal → Bool
+loses_batch (refusal.NoBatch b) = false
+loses_batch (refusal.ValueTooLong n) = false
+loses_batch refusal.StaleBatch = true
+loses_batch (refusal.LocationOverflow n) = true
+loses_batch (refusal.FloorRegressed floor below) = true
+loses_batch (refusal.FloorBeyondSize floor location) = true
+
+-- What a refused command leaves: the state as it was, but for the batch that a seal loses.
+abbrev pub after_refusal : State Operation → Command → Refusal → State Operation
+after_refusal s (command.Seal b metadata floor) r = if loses_batch r then with_batch s b Gone else s
+after_refusal s (command.New parent) r = s
+after_refusal s (command.Append b v) r = s
+after_refusal s (command.Apply b) r = s
+after_refusal s (command.Hold b) r = s
+after_refusal s (command.Release b) r = s
+after_refusal s command.Snapshot r = s
+after_refusal s command.Size r = s
+after_refusal s command.Metadata r = s
+
+-- A refused command changes nothing; a seal that is refused as stale, for its location or for its floor loses its batch.
 abbrev pub RefusalsKeep : Type 0
-RefusalsKeep = (one : Test Operation) (limit : ℕ) (s : State Operation) (c : Command) (r : Refusal) → (step one limit s c).0 ≡ answer.Refused r
-    → ((step one limit s c).1 ≡ s) ⊎ ((b : ℕ) × (metadata : Option (List ℕ)) × (floor : ℕ) × (c ≡ command.Seal b metadata floor) × ((step one limit s c).1 ≡ with_batch s b Gone))
+RefusalsKeep = (one : Test Operation) (limit : ℕ) (s : State Operation) (c : Command) (r : Refusal) → (step one limit s c).0 ≡ answer.Refused r → (step one limit s c).1 ≡ after_refusal s c r
 
 -- Where nothing clashes that is hashed for the lists of a run, it answers the same by sizes and roots as by operations.
 abbrev pub StatesTellLists : ℕ → Type 0

@@ -6,6 +6,9 @@ use std::alloc::{AllocError, Global};
 use std::marker::Model;
 use std::num::NonZeroU64;
 
+/// The greatest length of a value under the program's configuration.
+pub const VALUE_LIMIT: u64 = 1048576;
+
 /// Why a configuration is refused.
 #[derive(Clone, Copy, Debug, PartialEq, Eq)]
 pub enum ConfigError {
@@ -111,7 +114,16 @@ impl TwinConfig {
         ensures memory { IsOkUnless result ConfigError.Memory }
     {
         TwinConfig::new(
-            alloc, "log", "nodes", "metadata", "witness", 64, 128, 64, 1024, 1048576,
+            alloc,
+            "log",
+            "nodes",
+            "metadata",
+            "witness",
+            64,
+            128,
+            64,
+            1024,
+            VALUE_LIMIT,
         )
     }
 

@@ -33,7 +33,7 @@ pub enum Status {
     WriteFault,
     /// The volume failed.
     Volume,
-    /// The volume holds something.
+    /// A log isn't 0..0, or the map isn't empty.
     NotFresh,
     /// There is no memory.
     Memory,

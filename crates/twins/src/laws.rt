@@ -27,17 +27,17 @@ pub fn runs_continue()
     ensures { RunsContinue }
 {}
 
-/// A refused command changes nothing, or is a seal and loses its batch.
+/// A refused command changes nothing; a seal that is refused as stale, for its location or for its floor loses its batch.
 pub fn refusals_keep()
     ensures { RefusalsKeep }
 {}
 
-/// A step makes a good state of a good state.
+/// A step that compares operations makes a good state of a good state.
 pub fn steps_stay_good()
     ensures { StepsStayGood }
 {}
 
-/// Each state of a run is good.
+/// Each state of a run that compares operations is good.
 pub fn runs_are_good()
     ensures { RunsAreGood }
 {}

@@ -4,14 +4,16 @@ ghost use Rattle.codec_base.specs.Causes.{HasCause, Rose};
 ghost use Rattle.stream_base.specs.Writing.{Writes};
 ghost use Rattle.volume_base.specs.Volume.{SameContents, PastStays};
 ghost use Rattle.twins.specs.Config.{standard_config};
+ghost use Rattle.twins.specs.Laws.{StatesTellLists};
 ghost use Rattle.command_text.specs.Lines.{lines_of};
 ghost use Rattle.command_text.specs.Bad.{IsFirstBad};
 ghost use Rattle.command_text.specs.Text.{text_of};
 ghost use Rattle.twins.specs.Trace.{IsFresh};
 ghost use Rattle.twins.specs.Outcome.{IsValid, IsWhole, IsInput, IsAnswered, IsCutOff, IsStopped, IsEarly, IsReadStatus, IsRunStatus, fault_status};
 
-use crate::config::TwinConfig;
+use crate::config::{TwinConfig, VALUE_LIMIT};
 use crate::ending::{Fault, Status};
+use crate::laws::states_tell_lists;
 use crate::run::run_twins;
 use command_text::{Command, LineError, Replies, parse_commands, write_replies};
 use std::alloc::Global;
@@ -75,6 +77,8 @@ fn run_and_write<O: Sink, V: Volume>(
     ensures fresh { ((result ≡ Status.Done) ⊎ (result ≡ Status.WriteFault)) → V.tells → IsFresh standard_config (V.state volume.old).log (V.state volume.old).map }
     ensures not_fresh { result ≡ Status.NotFresh → V.tells → IsFresh standard_config (V.state volume.old).log (V.state volume.old).map → ⊥ }
     ensures unopened { ((result ≡ Status.Volume) ⊎ (result ≡ Status.NotFresh)) → Appends (O.written output.old) (O.written output.new) [] }
+    // Something is written over a fresh volume alone.
+    ensures answered { (Appends (O.written output.old) (O.written output.new) [] → ⊥) → V.tells → IsFresh standard_config (V.state volume.old).log (V.state volume.old).map }
 
     // The volume stays as it was, whatever is answered.
     ensures clock { (V.state volume.new).clock ≡ (V.state volume.old).clock }
@@ -125,10 +129,15 @@ pub fn twins_main<I: Source, O: Sink, V: Volume>(
     ensures cut_off { result ≡ Status.WriteFault → IsCutOff (I.left input.old) (I.left input.new) (O.written output.old) (O.written output.new) }
     ensures fresh { ((result ≡ Status.Done) ⊎ (result ≡ Status.WriteFault)) → V.tells → IsFresh standard_config (V.state volume.old).log (V.state volume.old).map }
 
+    // These replies tell lists by their sizes and roots. Where nothing clashes that is hashed for the lists of a run, they are the same by operations.
+    ensures lists { StatesTellLists standard_config.value_limit }
+
     // After a run that a fault ended.
     ensures volume { result ≡ Status.Volume → Rose (V.state volume.old).faults (V.state volume.new).faults }
     ensures not_fresh { result ≡ Status.NotFresh → V.tells → IsFresh standard_config (V.state volume.old).log (V.state volume.old).map → ⊥ }
     ensures unopened { ((result ≡ Status.Volume) ⊎ (result ≡ Status.NotFresh)) → Appends (O.written output.old) (O.written output.new) [] }
+    // Something is written over a fresh volume alone.
+    ensures answered { (Appends (O.written output.old) (O.written output.new) [] → ⊥) → V.tells → IsFresh standard_config (V.state volume.old).log (V.state volume.old).map }
     ensures stopped { ((result ≡ Status.Volume) ⊎ (result ≡ Status.NotFresh)) → IsStopped (I.left input.old) (I.left input.new) (O.written output.old) (O.written output.new) (O.faults output.old) (O.faults output.new) }
 
     // Want of memory, in the run or before it.
@@ -149,6 +158,7 @@ pub fn twins_main<I: Source, O: Sink, V: Volume>(
     // What is valid is answered, where nothing outside has failed and there is memory.
     ensures valid { IsValid words.now (I.left input.old) → V.tells → IsFresh standard_config (V.state volume.old).log (V.state volume.old).map → (Rose (I.faults input.old) (I.faults input.new) → ⊥) → (Rose (O.faults output.old) (O.faults output.new) → ⊥) → (Rose (V.state volume.old).faults (V.state volume.new).faults → ⊥) → (result ≡ Status.Done) ⊎ (result ≡ Status.Memory) }
 {
+    states_tell_lists(VALUE_LIMIT);
     if !words.is_empty() {
         return Status::BadWords;
     }

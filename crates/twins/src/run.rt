@@ -116,6 +116,7 @@ pub fn run_twins<V: Volume>(
     ensures volume { IfErr result (λ s. s.fault ≡ Fault.Volume → Rose (V.state volume.old).faults (V.state volume.new).faults) }
     // Where the volume isn't fresh or fails nothing is answered.
     ensures unopened { IfErr result (λ s. ((s.fault ≡ Fault.Volume) ⊎ (s.fault ≡ Fault.NotFresh)) → s.replies ≡ []) }
+    ensures answered { IfErr result (λ s. (s.replies ≡ [] → ⊥) → V.tells → IsFresh config.now (V.state volume.old).log (V.state volume.old).map) }
     ensures fresh { OnOk result (V.tells → IsFresh config.now (V.state volume.old).log (V.state volume.old).map) }
     ensures not_fresh { IfErr result (λ s. s.fault ≡ Fault.NotFresh → V.tells → IsFresh config.now (V.state volume.old).log (V.state volume.old).map → ⊥) }
 

@@ -1,7 +1,8 @@
-//! What is decoded from the encodings of immutable operations, and how these are ordered and hashed, for callers that are generic over key and value.
+//! What is decoded from the encodings of immutable operations, and how these are compared, ordered and hashed, for callers that are generic over key and value.
 ghost use Rattle.op_codec.specs.Compared.{IsOrderedImmutable, IsHashedImmutable};
 ghost use Rattle.op_codec.specs.Decoding.{IsExact};
 ghost use Rattle.op_codec.specs.Immutable.{IsAllowed};
+ghost use Rattle.op_codec.specs.ImmutableMeanings.{IsFieldwise};
 
 use super::Operation;
 use crate::{FixedEncoding, Key, ValueEncoding, VariableEncoding};
@@ -23,6 +24,13 @@ pub fn fixed_laws<
     V: Write + EncodeSize + FixedSize + Read + Duplicate + Drop,
 >(cfg: &(K::Cfg, V::Cfg))
     ensures { IsExact (IsAllowed (K.admits cfg.now.0) (V.admits cfg.now.1)) (⟦<Operation<F, K, FixedEncoding<V>> as Spelled>⟧.spelling) (⟦<Operation<F, K, FixedEncoding<V>> as Read>⟧.reads cfg.now) }
+{}
+
+/// Operations are equal where their variants and their fields are, whether or not equal keys or equal values are one.
+pub fn equality_laws<F: Family, K: Key, V: ValueEncoding>()
+where
+    V::Value: PartialEq,
+    ensures { IsFieldwise K.eq V.Value.eq (⟦<Operation<F, K, V> as PartialEq>⟧.eq) }
 {}
 
 /// Operations are ordered by their variants, sets first, and then by their fields from the left.

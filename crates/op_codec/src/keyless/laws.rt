@@ -1,7 +1,8 @@
-//! What is decoded from the encodings of keyless operations, and how these are ordered and hashed, for callers that are generic over the value.
+//! What is decoded from the encodings of keyless operations, and how these are compared, ordered and hashed, for callers that are generic over the value.
 ghost use Rattle.op_codec.specs.Compared.{IsOrderedKeyless, IsHashedKeyless};
 ghost use Rattle.op_codec.specs.Decoding.{IsExact};
 ghost use Rattle.op_codec.specs.Keyless.{IsAllowed};
+ghost use Rattle.op_codec.specs.Meanings.{IsFieldwise};
 
 use super::Operation;
 use crate::{FixedEncoding, ValueEncoding, VariableEncoding};
@@ -19,6 +20,13 @@ pub fn fixed_laws<F: Family, V: Write + EncodeSize + FixedSize + Read + Duplicat
     cfg: &V::Cfg,
 )
     ensures { IsExact (IsAllowed (V.admits cfg.now)) (⟦<Operation<F, FixedEncoding<V>> as Spelled>⟧.spelling) (⟦<Operation<F, FixedEncoding<V>> as Read>⟧.reads cfg.now) }
+{}
+
+/// Operations are equal where their variants and their fields are, whether or not equal values are one.
+pub fn equality_laws<F: Family, V: ValueEncoding>()
+where
+    V::Value: PartialEq,
+    ensures { IsFieldwise V.Value.eq (⟦<Operation<F, V> as PartialEq>⟧.eq) }
 {}
 
 /// Operations are ordered by their variants, appends first, and then by their fields from the left.

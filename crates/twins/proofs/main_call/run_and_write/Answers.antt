@@ -1,4 +1,4 @@
-use Rattle.twins.proofs.Endings.{fault_of, nothing_more, wrote_nothing}
+use Rattle.twins.proofs.Endings.{fault_of, nothing_added, nothing_more, wrote_nothing}
 use Rattle.twins.proofs.main_call.run_and_write.Goals as goal
 
 pub returns-in_default-clause-run : goal.returns-in_default-clause-run
@@ -8,3 +8,11 @@ pub returns-clause-unopened : goal.returns-clause-unopened
 returns-clause-unopened g c is =
     let fault = fault_of c.in-Err.stopped.fault (rw c.status_of.ensures at is) in
     nothing_more _ _ c.put_out-in-Err.result c.in-Err.stopped.replies (c.in-Err.ensures.unopened fault) c.put_out-in-Err.ensures.text
+
+pub returns-in_default-clause-answered : goal.returns-in_default-clause-answered
+returns-in_default-clause-answered g c = λ more tells. absurd (more (nothing_added _))
+
+pub returns-clause-answered : goal.returns-clause-answered
+returns-clause-answered g c = λ more tells.
+    let fresh = c.in-Err.ensures.answered (λ none. more (nothing_more _ _ c.put_out-in-Err.result c.in-Err.stopped.replies none c.put_out-in-Err.ensures.text)) tells in
+    rw c.in-Ok.ensures.same at fresh

@@ -46,6 +46,9 @@ returns-in-Ok-clause-not_fresh g c = c.run_and_write.ensures.not_fresh
 pub returns-in-Ok-clause-unopened : goal.returns-in-Ok-clause-unopened
 returns-in-Ok-clause-unopened g c = c.run_and_write.ensures.unopened
 
+pub returns-in-Ok-clause-answered : goal.returns-in-Ok-clause-answered
+returns-in-Ok-clause-answered g c = c.run_and_write.ensures.answered
+
 pub returns-in-Ok-clause-stopped : goal.returns-in-Ok-clause-stopped
 returns-in-Ok-clause-stopped g c = λ e. elim e [
   | inl v ↦

@@ -20,3 +20,9 @@ returns-in-Err-clause-lists_so_far g c = λ none. none_begun _ _ _ _ c.new-repli
 
 pub returns-in_default-with_capacity-clause-lists_so_far : goal.returns-in_default-with_capacity-clause-lists_so_far
 returns-in_default-with_capacity-clause-lists_so_far g c = λ none. none_begun _ _ _ _ c.new-replies-in_default-with_capacity.ensures
+
+pub returns-in-Err-clause-answered : goal.returns-in-Err-clause-answered
+returns-in-Err-clause-answered g c = λ some tells. absurd (some c.new-replies.ensures)
+
+pub returns-in_default-with_capacity-clause-answered : goal.returns-in_default-with_capacity-clause-answered
+returns-in_default-with_capacity-clause-answered g c = λ some tells. absurd (some c.new-replies-in_default-with_capacity.ensures)

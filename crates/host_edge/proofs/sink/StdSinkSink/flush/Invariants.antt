@@ -9,4 +9,5 @@ abbrev pub invariant-loop-tries : goal.invariant-loop-tries
 invariant-loop-tries g l = record {
   kept : Keeps (g.W.Write.contents l.fn.self.writer) (g.W.Write.contents l.self.writer);
   faults : l.self.faults ≡ l.fn.self.faults;
+  waits : l.self.waits ≡ l.fn.self.waits;
 }

@@ -9,7 +9,7 @@ use Rattle.log_model.specs.Batches.{Batch, Unsealed, Sealed, Gone, UnsealedBatch
 use Rattle.log_model.specs.Machine.{State, max_leaves, opened, batch_at, with_batch, with_new, begun, snapshot_taken, applied}
 use Rattle.log_model.specs.Reach.{as_sealed, reach, tips_of, effective_boundary, sealed_here}
 use Rattle.log_model.specs.Good.{EndsWithCommit, FloorsRise, ValuesAre, AreAppends, IsGoodList, IsMark, AreMarks, IsGoodBatch, ParentFits, HasParent, IsGood}
-use Rattle.log_model.specs.ReachLaws.{marks_here}
+use Rattle.log_model.proofs.ReachLemmas.{marks_here}
 
 none_is : (o : Option ℕ) → IsNone o → o ≡ None
 none_is None h = refl
