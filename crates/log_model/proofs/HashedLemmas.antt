@@ -1,17 +1,17 @@
 -- Lists with one root.
-use Rattle.std.proofs.Common.{◌≡◌, ℕ, zero, suc, ◌+◌, ◌^◌, ◌≤◌, ◌⊎◌, inl, inr, List, [], ◌∷◌, ◌++◌, length, map, drop, get_or, refl, sym, ◌∙◌, ap, subst, arith}
-use Rattle.std.specs.List.{enumerate_from, flat_map, Contains, AllByRecursion}
+use Rattle.std.proofs.Common.{◌≡◌, ℕ, zero, suc, ◌^◌, ◌≤◌, ◌⊎◌, inl, inr, List, [], ◌∷◌, ◌++◌, length, map, drop, get_or, refl, sym, ◌∙◌, ap, subst, arith}
+use Rattle.std.specs.List.{flat_map, Contains, AllByRecursion}
 use Rattle.std.proofs.lemmas.List.{length-map}
 use Rattle.std.proofs.lemmas.List.Elements.{Contains-append_left, Contains-append_right, Contains-append_cases}
 use Rattle.tree_shape.specs.Hashing.{Hashing}
 use Rattle.tree_shape.specs.Shape.{Shape, inactive}
-use Rattle.tree_shape.specs.Slow.{leaf, leaf_digests}
+use Rattle.tree_shape.specs.Slow.{leaf_digests}
 use Rattle.tree_shape.specs.Root.{root}
 use Rattle.tree_shape.specs.declared.bagging.Bagging.{Bagging}
 use Rattle.tree_shape.specs.declared.bagging.Bagging.TheVariants.{ForwardFold}
 use Rattle.tree_proof.specs.Inputs.{Clash, tree_inputs}
 use Rattle.log_model.specs.Meaning.{Meaning}
-use Rattle.log_model.specs.Operations.{floor_of, leaves_from, root_of}
+use Rattle.log_model.specs.Operations.{floor_of, root_of}
 use Rattle.log_model.specs.Hashed.{inputs_of, NoClash}
 use Rattle.log_model.proofs.OperationLemmas.{inactive-within}
 
@@ -21,14 +21,9 @@ in_flat_map f (y ∷ ys) x a (zero, within, is) c = Contains-append_left (f y) (
 in_flat_map f (y ∷ ys) x a (suc k, within, is) c = Contains-append_right (f y) (flat_map f ys) a (in_flat_map f ys x a (k, omega (arith, within), is) c)
 
 module _ {D Op V : Type 0} (s : Shape) (h : Hashing D) (m : Meaning Op V) where
-  -- the leaves of a list are those of its encodings
-  leaves_of_encodings : (i : ℕ) (ops : List Op) → leaves_from s h m i ops ≡ map (λ p. leaf s h p.0 p.1) (enumerate_from i (map m.encoding ops))
-  leaves_of_encodings i [] = refl
-  leaves_of_encodings i (op ∷ ops) = ap (λ (ds : List D). leaf s h i (m.encoding op) ∷ ds) (leaves_of_encodings (i + 1) ops)
-
   root_of_encodings : (ops : List Op) → root_of s h m ops ≡ root s h (leaf_digests s h (map m.encoding ops)) (inactive s (length ops) (floor_of m ops)) ForwardFold
   unfolding root_of
-  root_of_encodings ops = ap (λ (ds : List D). root s h ds (inactive s (length ops) (floor_of m ops)) ForwardFold) (leaves_of_encodings 0 ops)
+  root_of_encodings ops = refl
 
   -- two lists of elements with one root are one, or two inputs clash
   abbrev pub IsOneRoot : Type 0
