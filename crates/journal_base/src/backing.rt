@@ -36,9 +36,9 @@ pub trait BackingRecovery: Sized + Drop {
         ensures item { IfOk result (λ item. V.tells → IsItemAt ((V.state vol.old).log (view self.now).name) position (Self.Item.spelling item)) }
         ensures admitted { IfOk result (λ item. Self.Item.admits (view self.now).codec item) }
         ensures within { OnOk result (((view self.now).start ≤ position) × (position < (view self.now).end)) }
-        ensures pruned { V.tells → IsWithin (view self.now) (V.state vol.old) → (p : ℕ) → IsErrOf result (ItemPruned p) → (p ≡ position) × (position < (view self.now).start) }
-        ensures out_of_range { V.tells → IsWithin (view self.now) (V.state vol.old) → (p : ℕ) → IsErrOf result (ItemOutOfRange p) → (p ≡ position) × ((view self.now).end ≤ position) }
-        ensures corrupt { V.tells → (p : ℕ) → IsErrOf result (Corruption p) → (p ≡ position) × ((view self.now).start ≤ position) × (position < (view self.now).end) × IsCorrupt Self.Item.spelling (Self.Item.admits (view self.now).codec) ((V.state vol.old).log (view self.now).name) position }
+        ensures pruned { (p : ℕ) → IsErrOf result (ItemPruned p) → (p ≡ position) × (V.tells → IsWithin (view self.now) (V.state vol.old) → position < (view self.now).start) }
+        ensures out_of_range { (p : ℕ) → IsErrOf result (ItemOutOfRange p) → (p ≡ position) × (V.tells → IsWithin (view self.now) (V.state vol.old) → (view self.now).end ≤ position) }
+        ensures corrupt { (p : ℕ) → IsErrOf result (Corruption p) → (p ≡ position) × ((view self.now).start ≤ position) × (position < (view self.now).end) × (V.tells → IsCorrupt Self.Item.spelling (Self.Item.admits (view self.now).codec) ((V.state vol.old).log (view self.now).name) position) }
         ensures listed { V.tells → IsWithin (view self.now) (V.state vol.old) → (list : List Self.Item) (x : Self.Item) → Spells Self.Item.spelling list ((V.state vol.old).log (view self.now).name) → slice_get list position ≡ Some x → Self.Item.admits (view self.now).codec x → IfOk result (λ item. item ≡ x) }
         ensures errors { IfErr result IsOfRead }
         ensures answers { Reads V.tells Volume (V.state vol.old) (V.state vol.new) result }
@@ -79,7 +79,7 @@ pub trait BackingRecovery: Sized + Drop {
 
     /// Cuts the log to the lesser of its end and a size, makes what is left durable, and opens it.
     fn finish<V: Volume>(self, vol: &mut V, size: u64) -> Result<Self::Journal, JournalError>
-        ensures pruned { V.tells → (p : ℕ) → IsErrOf result (ItemPruned p) → (p ≡ size) × (size < ((V.state vol.old).log (view self).name).start) }
+        ensures pruned { (p : ℕ) → IsErrOf result (ItemPruned p) → (p ≡ size) × (V.tells → size < ((V.state vol.old).log (view self).name).start) }
         ensures reached { OnOk result (V.tells → ((V.state vol.old).log (view self).name).start ≤ size) }
         ensures made { IfOk result (λ made. opened made ≡ at_bounds (view self) (opened made).start (opened made).end) }
         ensures held { IfOk result (λ made. V.tells → IsHeld (opened made) (V.state vol.new)) }
@@ -111,7 +111,7 @@ pub trait Backing: Mutable {
         cfg: Self::Config,
         max_size: Option<u64>,
     ) -> Result<Self::Recovery, JournalError>
-        ensures pruned { V.tells → (p : ℕ) → IsErrOf result (ItemPruned p) → (max_size ≡ Some p) × (p < ((V.state vol.old).log (config cfg).name).start) }
+        ensures pruned { (p : ℕ) → IsErrOf result (ItemPruned p) → (max_size ≡ Some p) × (V.tells → p < ((V.state vol.old).log (config cfg).name).start) }
         ensures reached { OnOk result (V.tells → (cap : ℕ) → max_size ≡ Some cap → ((V.state vol.old).log (config cfg).name).start ≤ cap) }
         ensures made { IfOk result (λ made. Self.Recovery.view made ≡ at_bounds (config cfg) (Self.Recovery.view made).start (Self.Recovery.view made).end) }
         ensures start { IfOk result (λ made. V.tells → (Self.Recovery.view made).start ≡ ((V.state vol.old).log (config cfg).name).start) }

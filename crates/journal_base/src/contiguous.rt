@@ -29,9 +29,9 @@ pub trait Contiguous: Sized + Drop {
     fn read<V: Volume>(&self, vol: &mut V, position: u64) -> Result<Self::Item, JournalError>
         ensures item { IfOk result (λ item. V.tells → IsItemAt ((V.state vol.old).log (view self.now).name) position (Self.Item.spelling item)) }
         ensures admitted { IfOk result (λ item. Self.Item.admits (view self.now).codec item) }
-        ensures pruned { V.tells → (p : ℕ) → IsErrOf result (ItemPruned p) → (p ≡ position) × (position < ((V.state vol.old).log (view self.now).name).start) }
-        ensures out_of_range { V.tells → (p : ℕ) → IsErrOf result (ItemOutOfRange p) → (p ≡ position) × (end_of ((V.state vol.old).log (view self.now).name) ≤ position) }
-        ensures corrupt { V.tells → (p : ℕ) → IsErrOf result (Corruption p) → (p ≡ position) × IsCorrupt Self.Item.spelling (Self.Item.admits (view self.now).codec) ((V.state vol.old).log (view self.now).name) position }
+        ensures pruned { (p : ℕ) → IsErrOf result (ItemPruned p) → (p ≡ position) × (V.tells → position < ((V.state vol.old).log (view self.now).name).start) }
+        ensures out_of_range { (p : ℕ) → IsErrOf result (ItemOutOfRange p) → (p ≡ position) × (V.tells → end_of ((V.state vol.old).log (view self.now).name) ≤ position) }
+        ensures corrupt { (p : ℕ) → IsErrOf result (Corruption p) → (p ≡ position) × (V.tells → IsCorrupt Self.Item.spelling (Self.Item.admits (view self.now).codec) ((V.state vol.old).log (view self.now).name) position) }
         // Where the log is a run of a list, it is the item of the list.
         ensures listed { V.tells → (list : List Self.Item) (x : Self.Item) → Spells Self.Item.spelling list ((V.state vol.old).log (view self.now).name) → ((V.state vol.old).log (view self.now).name).start ≤ position → slice_get list position ≡ Some x → Self.Item.admits (view self.now).codec x → IfOk result (λ item. item ≡ x) }
         ensures errors { IfErr result IsOfRead }

@@ -124,7 +124,7 @@ impl<T: Write + EncodeSize + Read + Duplicate + Drop, K: Kind<T>> BackingRecover
 impl<T: Write + EncodeSize + Read + Duplicate + Drop, K: Kind<T>> Recovery<T, K> {
     /// Cuts the log to the lesser of the view's end and a size, where its end falls, and the view ends there.
     pub fn truncate<V: Volume>(self, vol: &mut V, size: u64) -> Result<Self, JournalError>
-        ensures pruned { V.tells → (p : ℕ) → IsErrOf result (ItemPruned p) → (p ≡ size) × (size < ((V.state vol.old).log (⟦<Recovery<T, K> as BackingRecovery>⟧.view self).name).start) }
+        ensures pruned { (p : ℕ) → IsErrOf result (ItemPruned p) → (p ≡ size) × (V.tells → size < ((V.state vol.old).log (⟦<Recovery<T, K> as BackingRecovery>⟧.view self).name).start) }
         ensures reached { OnOk result (V.tells → ((V.state vol.old).log (⟦<Recovery<T, K> as BackingRecovery>⟧.view self).name).start ≤ size) }
         ensures made { IfOk result (λ made. ⟦<Recovery<T, K> as BackingRecovery>⟧.view made ≡ at_bounds (⟦<Recovery<T, K> as BackingRecovery>⟧.view self) (⟦<Recovery<T, K> as BackingRecovery>⟧.view made).start (⟦<Recovery<T, K> as BackingRecovery>⟧.view made).end) }
         ensures end { IfOk result (λ made. V.tells → IsWithin (⟦<Recovery<T, K> as BackingRecovery>⟧.view self) (V.state vol.old) → (⟦<Recovery<T, K> as BackingRecovery>⟧.view made).end ≡ min size (⟦<Recovery<T, K> as BackingRecovery>⟧.view self).end) }

@@ -26,9 +26,9 @@ impl<J: Contiguous> Replay<'_, J> {
         ensures next { MatchOption result (next_of self.new ≡ next_of self.old) (λ answer. MatchResult answer (λ _. next_of self.new ≡ next_of self.old + 1) (λ _. end_at self.old ≤ next_of self.new)) }
         ensures item { IfSome result (λ answer. IfOk answer (λ item. V.tells → IsItemAt ((V.state vol.old).log (J.view (journal_of self.old)).name) (next_of self.old) (J.Item.spelling item))) }
         ensures admitted { IfSome result (λ answer. IfOk answer (λ item. J.Item.admits (J.view (journal_of self.old)).codec item)) }
-        ensures pruned { V.tells → IfSome result (λ answer. (p : ℕ) → IsErrOf answer (ItemPruned p) → (p ≡ next_of self.old) × (next_of self.old < ((V.state vol.old).log (J.view (journal_of self.old)).name).start)) }
-        ensures out_of_range { V.tells → IfSome result (λ answer. (p : ℕ) → IsErrOf answer (ItemOutOfRange p) → (p ≡ next_of self.old) × (end_of ((V.state vol.old).log (J.view (journal_of self.old)).name) ≤ next_of self.old)) }
-        ensures corrupt { V.tells → IfSome result (λ answer. (p : ℕ) → IsErrOf answer (Corruption p) → (p ≡ next_of self.old) × IsCorrupt J.Item.spelling (J.Item.admits (J.view (journal_of self.old)).codec) ((V.state vol.old).log (J.view (journal_of self.old)).name) (next_of self.old)) }
+        ensures pruned { IfSome result (λ answer. (p : ℕ) → IsErrOf answer (ItemPruned p) → (p ≡ next_of self.old) × (V.tells → next_of self.old < ((V.state vol.old).log (J.view (journal_of self.old)).name).start)) }
+        ensures out_of_range { IfSome result (λ answer. (p : ℕ) → IsErrOf answer (ItemOutOfRange p) → (p ≡ next_of self.old) × (V.tells → end_of ((V.state vol.old).log (J.view (journal_of self.old)).name) ≤ next_of self.old)) }
+        ensures corrupt { IfSome result (λ answer. (p : ℕ) → IsErrOf answer (Corruption p) → (p ≡ next_of self.old) × (V.tells → IsCorrupt J.Item.spelling (J.Item.admits (J.view (journal_of self.old)).codec) ((V.state vol.old).log (J.view (journal_of self.old)).name) (next_of self.old))) }
         ensures errors { IfSome result (λ answer. IfErr answer IsOfRead) }
         ensures answers { MatchOption result (vol.new ≡ vol.old) (λ answer. Reads V.tells JournalError.Volume (V.state vol.old) (V.state vol.new) answer) }
         ensures reads { IfSome result (λ _. (V.state vol.new).reads ≡ min ((V.state vol.old).reads + 1) (2 ^ 64 - 1)) }

@@ -255,8 +255,8 @@ impl Volume for MemoryVolume {
 
     fn log_read(&mut self, name: &str, position: u64) -> Result<Bytes, VolumeError>
         ensures item { IfOk result (λ item. Unit {0} → IsItemAt ((state_of self.old).log name.now) position item) }
-        ensures pruned { Unit {0} → (p : ℕ) → IsErrOf result (ItemPruned p) → (p ≡ position) × (position < ((state_of self.old).log name.now).start) }
-        ensures out_of_range { Unit {0} → (p : ℕ) → IsErrOf result (ItemOutOfRange p) → (p ≡ position) × (end_of ((state_of self.old).log name.now) ≤ position) }
+        ensures pruned { (p : ℕ) → IsErrOf result (ItemPruned p) → (p ≡ position) × (Unit {0} → position < ((state_of self.old).log name.now).start) }
+        ensures out_of_range { (p : ℕ) → IsErrOf result (ItemOutOfRange p) → (p ≡ position) × (Unit {0} → end_of ((state_of self.old).log name.now) ≤ position) }
         ensures answers { Reads (Unit {0}) Failed (state_of self.old) (state_of self.new) result }
         ensures reads { (state_of self.new).reads ≡ min ((state_of self.old).reads + 1) (2 ^ 64 - 1) }
         ensures calls { calls_of self.new ≡ calls_of self.old }

@@ -28,8 +28,8 @@ pub trait Volume {
     /// The item at a position.
     fn log_read(&mut self, name: &str, position: u64) -> Result<Bytes, VolumeError>
         ensures item { IfOk result (λ item. tells → IsItemAt ((state self.old).log name.now) position item) }
-        ensures pruned { tells → (p : ℕ) → IsErrOf result (ItemPruned p) → (p ≡ position) × (position < ((state self.old).log name.now).start) }
-        ensures out_of_range { tells → (p : ℕ) → IsErrOf result (ItemOutOfRange p) → (p ≡ position) × (end_of ((state self.old).log name.now) ≤ position) }
+        ensures pruned { (p : ℕ) → IsErrOf result (ItemPruned p) → (p ≡ position) × (tells → position < ((state self.old).log name.now).start) }
+        ensures out_of_range { (p : ℕ) → IsErrOf result (ItemOutOfRange p) → (p ≡ position) × (tells → end_of ((state self.old).log name.now) ≤ position) }
         ensures answers { Reads tells Failed (state self.old) (state self.new) result }
         ensures reads { (state self.new).reads ≡ min ((state self.old).reads + 1) (2 ^ 64 - 1) };
 

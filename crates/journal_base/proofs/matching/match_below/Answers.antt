@@ -18,21 +18,21 @@ loop-end-init g c = record {
 pub returns-in_err-item-clause-not_pruned : goal.returns-in_err-item-clause-not_pruned
 returns-in_err-item-clause-not_pruned g c told within p is =
     let at = within_later (g.J.Contiguous.view c.args.journal.now) (g.V.Volume.state c.args.vol.now) (g.V.Volume.state c.loop-end.vol) ((c.loop-end.invariant.so_far.contents told).logs _) within in
-    let why = c.read.ensures.pruned told p (search rules) in
-    omega (arith, why.1, at.start_is, c.bounds-start.ensures.start)
+    let why = c.read.ensures.pruned p (search rules) in
+    omega (arith, why.1 told, at.start_is, c.bounds-start.ensures.start)
 
 pub returns-in_err-item-clause-not_out_of_range : goal.returns-in_err-item-clause-not_out_of_range
 returns-in_err-item-clause-not_out_of_range g c told within p is =
     let at = within_later (g.J.Contiguous.view c.args.journal.now) (g.V.Volume.state c.args.vol.now) (g.V.Volume.state c.loop-end.vol) ((c.loop-end.invariant.so_far.contents told).logs _) within in
-    let why = c.read.ensures.out_of_range told p (search rules) in
-    omega (arith, why.1, at.high, c.requires.within)
+    let why = c.read.ensures.out_of_range p (search rules) in
+    omega (arith, why.1 told, at.high, c.requires.within)
 
 pub returns-in_err-item-clause-corrupt : goal.returns-in_err-item-clause-corrupt
 returns-in_err-item-clause-corrupt g c told p is =
     let name = (g.J.Contiguous.view c.args.journal.now).name in
     let same = (c.loop-end.invariant.so_far.contents told).logs name in
-    let why = c.read.ensures.corrupt told p (search rules) in
-    let there = subst (λ (l : Log). IsCorrupt g.J.Item.Spelled.spelling (g.J.Item.Read.admits (g.J.Contiguous.view c.args.journal.now).codec) l (c.loop-end.end - 1)) same why.1 in
+    let why = c.read.ensures.corrupt p (search rules) in
+    let there = subst (λ (l : Log). IsCorrupt g.J.Item.Spelled.spelling (g.J.Item.Read.admits (g.J.Contiguous.view c.args.journal.now).codec) l (c.loop-end.end - 1)) same (why.1 told) in
     let here = subst (λ (q : ℕ). IsCorrupt g.J.Item.Spelled.spelling (g.J.Item.Read.admits (g.J.Contiguous.view c.args.journal.now).codec) ((g.V.Volume.state c.args.vol.now).log name) q) (sym why.0) there in (
       omega (arith, why.0, c.bounds-start.ensures.start),
       omega (arith, why.0),

@@ -8,22 +8,22 @@ use Rattle.journal_base.proofs.journal.JournalContiguous.read_many.Goals as goal
 
 pub returns-in_err-item-clause-pruned : goal.returns-in_err-item-clause-pruned
 returns-in_err-item-clause-pruned g c told p is =
-    let why = c.read.ensures.pruned told p (search rules) in
+    let why = c.read.ensures.pruned p (search rules) in
     let starts = ap (λ (l : Log). l.start) ((c.loop-position.invariant.so_far.contents told).logs (string_bytes c.args.self.now.name)) in
-    (first_failing _ _ _ _ _ _ _ c.loop-position-test.true why.0 (c.loop-position.invariant.items told), omega (arith, why.0, why.1, starts))
+    (first_failing _ _ _ _ _ _ _ c.loop-position-test.true why.0 (c.loop-position.invariant.items told), omega (arith, why.0, why.1 told, starts))
 
 pub returns-in_err-item-clause-out_of_range : goal.returns-in_err-item-clause-out_of_range
 returns-in_err-item-clause-out_of_range g c told p is =
-    let why = c.read.ensures.out_of_range told p (search rules) in
+    let why = c.read.ensures.out_of_range p (search rules) in
     let ends = ap end_of ((c.loop-position.invariant.so_far.contents told).logs (string_bytes c.args.self.now.name)) in
-    (first_failing _ _ _ _ _ _ _ c.loop-position-test.true why.0 (c.loop-position.invariant.items told), omega (arith, why.0, why.1, ends))
+    (first_failing _ _ _ _ _ _ _ c.loop-position-test.true why.0 (c.loop-position.invariant.items told), omega (arith, why.0, why.1 told, ends))
 
 pub returns-in_err-item-clause-corrupt : goal.returns-in_err-item-clause-corrupt
 returns-in_err-item-clause-corrupt g c told p is =
     let name = string_bytes c.args.self.now.name in
     let same = (c.loop-position.invariant.so_far.contents told).logs name in
-    let why = c.read.ensures.corrupt told p (search rules) in
-    let there = subst (λ (l : Log). IsCorrupt g.T.Spelled.spelling (g.T.Read.admits c.args.self.now.codec) l (get_or c.args.positions.now c.loop-position.position-index 0)) same why.1 in
+    let why = c.read.ensures.corrupt p (search rules) in
+    let there = subst (λ (l : Log). IsCorrupt g.T.Spelled.spelling (g.T.Read.admits c.args.self.now.codec) l (get_or c.args.positions.now c.loop-position.position-index 0)) same (why.1 told) in
     let here = subst (λ (q : ℕ). IsCorrupt g.T.Spelled.spelling (g.T.Read.admits c.args.self.now.codec) ((g.V.Volume.state c.args.vol.now).log name) q) (sym why.0) there in
     (first_failing _ _ _ _ _ _ _ c.loop-position-test.true why.0 (c.loop-position.invariant.items told), here)
 
