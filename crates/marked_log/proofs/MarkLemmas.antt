@@ -1,11 +1,37 @@
 -- A log and a map over an append, a sync and a replacement.
-use Rattle.std.proofs.Common.{◌≡◌, inl, inr, ℕ, List, length, take, sym, ◌∙◌, ap, subst, arith}
+use Rattle.std.proofs.Common.{◌≡◌, ⊎_elim, inl, inr, ℕ, ◌≤◌, List, length, take, sym, ◌∙◌, ap, subst, arith}
+use Rattle.std.proofs.lemmas.Bool.{cases_lt}
 use Rattle.std.proofs.lemmas.List.{take_all, append-nil}
 use Rattle.volume_base.specs.Log.{Log, appended, Grows, Stays, BecomesOneOf}
 use Rattle.volume_base.specs.Moments.{PairHas, PairKeeps}
 use Rattle.volume_base.specs.Volume.{State, Map, LogMoves, MapMoves, OnlyLeft}
-use Rattle.volume_base.proofs.MomentLemmas.{pair_moves_log, pair_moves_map, pair_has_after, pair_keeps_joins}
-use Rattle.marked_log.specs.MarkedLog.{IsUnmarked, IsMarkedAfter}
+use Rattle.volume_base.proofs.MomentLemmas.{iff_then, past_joins, pair_moves_log, pair_moves_map, pair_has_after, pair_keeps_joins}
+use Rattle.marked_log.specs.MarkedLog.{IsUnmarked, IsMarkedAfter, OthersStay}
+
+-- a call on the log, and one on the map
+pub stay_log : (one two : List ℕ) (step : Log → Log → Type 0) (a b : State) → LogMoves one step a b → OthersStay one two a b
+stay_log one two step a b moves = record { past = moves.past; logs = moves.logs; maps = λ t other m lo hi ne. moves.maps t other m lo hi }
+
+pub stay_map : (one two : List ℕ) (step : Map → Map → Type 0) (a b : State) → MapMoves two step a b → OthersStay one two a b
+stay_map one two step a b moves = record { past = moves.past; logs = λ t other log lo hi ne. moves.logs t other log lo hi; maps = moves.maps }
+
+-- one run after another
+pub stay_joins : (one two : List ℕ) (a b c : State) → OthersStay one two a b → OthersStay one two b c → OthersStay one two a c
+stay_joins one two a b c ab bc = record {
+  past = past_joins a b c ab.past bc.past;
+  logs = λ t other log lo hi ne. ⊎_elim
+      (λ early. let le : t ≤ b.clock = omega (arith, early) in iff_then (bc.past.logs t other log le) (ab.logs t other log lo le ne))
+      (λ late. iff_then (bc.logs t other log late hi ne) (ab.logs b.clock other log ab.past.later (omega arith) ne))
+      (cases_lt t b.clock);
+  maps = λ t other m lo hi ne. ⊎_elim
+      (λ early. let le : t ≤ b.clock = omega (arith, early) in iff_then (bc.past.maps t other m le) (ab.maps t other m lo le ne))
+      (λ late. iff_then (bc.maps t other m late hi ne) (ab.maps b.clock other m ab.past.later (omega arith) ne))
+      (cases_lt t b.clock);
+}
+
+-- what was durable in a log is so behind a call on a map
+pub only_left_after : (one two : List ℕ) (step : Map → Map → Type 0) (a b : State) → MapMoves two step a b → OnlyLeft (a.log_left a.clock one) (a.log one) → b.log one ≡ a.log one → OnlyLeft (b.log_left b.clock one) (b.log one)
+only_left_after one two step a b moves only same image left = only image ((moves.logs b.clock one image moves.past.later (omega arith)).0 left) ∙ sym same
 
 -- the log grows, and the map stays
 pub record IsGrowing (contents : Log) (items : List (List ℕ)) (unmarked : Map) (log : Log) (m : Map) : Type 0 where
