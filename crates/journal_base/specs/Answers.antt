@@ -24,7 +24,7 @@ IsOfVolume SizeOverflow = ⊥
 IsOfVolume (Corruption p) = ⊥
 IsOfVolume (Tree cause) = ⊥
 
--- besides, that the end would pass the greatest
+-- that the end would pass the greatest, a failure of the outside, or want of memory
 abbrev pub IsOfSize : JournalError → Type 0
 IsOfSize SizeOverflow = Unit {0}
 IsOfSize Volume = Unit {0}
@@ -35,7 +35,7 @@ IsOfSize EmptyAppend = ⊥
 IsOfSize (Corruption p) = ⊥
 IsOfSize (Tree cause) = ⊥
 
--- besides, that there are no items
+-- that there are no items, that the end would pass the greatest, a failure of the outside, or want of memory
 abbrev pub IsOfAppend : JournalError → Type 0
 IsOfAppend EmptyAppend = Unit {0}
 IsOfAppend SizeOverflow = Unit {0}
@@ -57,7 +57,7 @@ IsOfRead EmptyAppend = ⊥
 IsOfRead SizeOverflow = ⊥
 IsOfRead (Tree cause) = ⊥
 
--- besides what is of the volume, that a size lies below the start
+-- that a size lies below the start, a failure of the outside, or want of memory
 abbrev pub IsOfStart : JournalError → Type 0
 IsOfStart (ItemPruned p) = Unit {0}
 IsOfStart Volume = Unit {0}

@@ -20,10 +20,10 @@ pub trait BackingRecovery: Sized + Drop {
     /// What is opened.
     type Journal;
 
-    /// What it tells of itself.
+    /// Its view: name, size of a blob, codec, bounds, and a kept failure.
     ghost view: { Self → View Self.Item.Cfg };
 
-    /// What the opened journal tells of itself.
+    /// The view of the opened journal.
     ghost opened: { Self.Journal → View Self.Item.Cfg };
 
     /// The start and the end of the view.
@@ -31,7 +31,7 @@ pub trait BackingRecovery: Sized + Drop {
         ensures start { result.0 ≡ (view self.now).start }
         ensures end { result.1 ≡ (view self.now).end };
 
-    /// The item at a position of the view.
+    /// The item at a position of the view. It refuses with `ItemPruned` below the view, with `ItemOutOfRange` at or past its end, and with `Corruption` where the bytes are no item.
     fn read<V: Volume>(&self, vol: &mut V, position: u64) -> Result<Self::Item, JournalError>
         ensures item { IfOk result (λ item. V.tells → IsItemAt ((V.state vol.old).log (view self.now).name) position (Self.Item.spelling item)) }
         ensures admitted { IfOk result (λ item. Self.Item.admits (view self.now).codec item) }
@@ -45,7 +45,7 @@ pub trait BackingRecovery: Sized + Drop {
         ensures reads { (V.state vol.new).reads ≤ (V.state vol.old).reads + 1 }
         ensures counted { OnOk result ((V.state vol.new).reads ≡ min ((V.state vol.old).reads + 1) (2 ^ 64 - 1)) };
 
-    /// The end behind the last item below a ceiling that a predicate answers. It reads each item at most once.
+    /// The end behind the last item below a ceiling that a predicate accepts. It reads each item at most once. It refuses with `Corruption` where it meets bytes that are no item, and with `ItemPruned` a ceiling below the view, or the start where nothing matches and the start isn't 0.
     fn last_matching<V: Volume, P: Fn(&Self::Item) -> bool>(
         &self,
         vol: &mut V,
@@ -63,7 +63,7 @@ pub trait BackingRecovery: Sized + Drop {
         // Each item behind the match was read.
         ensures counted { IfOk result (λ end. min ((V.state vol.old).reads + (min ceiling (view self.now).end - end)) (2 ^ 64 - 1) ≤ (V.state vol.new).reads) };
 
-    /// Leaves an empty log at a position.
+    /// Leaves an empty log at a position. It refuses 2^64 - 1 with `SizeOverflow`.
     fn reset<V: Volume>(self, vol: &mut V, size: u64) -> Result<Self, JournalError>
         ensures overflow { IsErrOf result SizeOverflow ↔ (size ≡ 2 ^ 64 - 1) }
         ensures made { IfOk result (λ made. view made ≡ at_bounds (view self) size size) }
@@ -77,7 +77,7 @@ pub trait BackingRecovery: Sized + Drop {
         ensures errors { IfErr result IsOfSize }
         ensures writes { Writes V.tells Volume (V.state vol.old) (V.state vol.new) result };
 
-    /// Cuts the log to the lesser of its end and a size, makes what is left durable, and opens it.
+    /// Cuts the log to the lesser of its end and a size, makes what is left durable, and opens it. It refuses a size below the log's start with `ItemPruned`.
     fn finish<V: Volume>(self, vol: &mut V, size: u64) -> Result<Self::Journal, JournalError>
         ensures pruned { (p : ℕ) → IsErrOf result (ItemPruned p) → (p ≡ size) × (V.tells → size < ((V.state vol.old).log (view self).name).start) }
         ensures reached { OnOk result (V.tells → ((V.state vol.old).log (view self).name).start ≤ size) }
@@ -96,16 +96,16 @@ pub trait BackingRecovery: Sized + Drop {
 
 /// A journal that is one log, and how it's opened.
 pub trait Backing: Mutable {
-    /// Where it lies.
+    /// The log's name and what its items may be.
     type Config: Drop;
 
-    /// It, while it's being opened.
+    /// The journal while it is being opened.
     type Recovery: BackingRecovery<Item = Self::Item, Journal = Self>;
 
     /// What a configuration tells of the journal.
     ghost config: { Self.Config → View Self.Item.Cfg };
 
-    /// A view of the log that ends at the lesser of its end and a cap.
+    /// A view of the log that ends at the lesser of its end and a cap. It refuses a cap below the log's start with `ItemPruned`.
     fn recover<V: Volume>(
         vol: &mut V,
         cfg: Self::Config,
@@ -121,7 +121,7 @@ pub trait Backing: Mutable {
         ensures answers { Reads V.tells Volume (V.state vol.old) (V.state vol.new) result }
         ensures reads { (V.state vol.new).reads ≡ (V.state vol.old).reads };
 
-    /// Leaves an empty log at a position.
+    /// Leaves an empty log at a position. It refuses 2^64 - 1 with `SizeOverflow`.
     fn clear<V: Volume>(
         vol: &mut V,
         cfg: Self::Config,

@@ -1,4 +1,4 @@
-ghost use Rattle.std.specs.Prelude.{◌≡◌, ◌+◌, ◌-◌, ◌<◌, ◌≤◌, ◌^◌, ℕ, List, min, length, Some, slice_get, IfOk, IfErr, OnOk, IsErrOf};
+ghost use Rattle.std.specs.Prelude.{◌≡◌, ◌⊎◌, ◌+◌, ◌-◌, ◌<◌, ◌≤◌, ◌^◌, ℕ, List, min, length, Some, slice_get, Contains, IfOk, IfErr, OnOk, IsErrOf};
 ghost use Rattle.journal_base.specs.Answers.{IsOfRead, IsOfRange};
 ghost use Rattle.journal_base.specs.Items.{IsCorrupt, Spells};
 ghost use Rattle.journal_base.specs.Reads.{AreItemsAt, IsFirstFailing};
@@ -17,7 +17,7 @@ pub trait Contiguous: Sized + Drop {
     /// What it holds.
     type Item: Write + EncodeSize + Read + Duplicate + Drop;
 
-    /// What it tells of itself.
+    /// Its view: name, size of a blob, codec, bounds, and a kept failure.
     ghost view: { Self → View Self.Item.Cfg };
 
     /// The start and the end.
@@ -25,7 +25,7 @@ pub trait Contiguous: Sized + Drop {
         ensures start { result.0 ≡ (view self.now).start }
         ensures end { result.1 ≡ (view self.now).end };
 
-    /// The item at a position.
+    /// The item at a position. It refuses with `ItemPruned` below the start, with `ItemOutOfRange` at or past the end, and with `Corruption` where the bytes are no item.
     fn read<V: Volume>(&self, vol: &mut V, position: u64) -> Result<Self::Item, JournalError>
         ensures item { IfOk result (λ item. V.tells → IsItemAt ((V.state vol.old).log (view self.now).name) position (Self.Item.spelling item)) }
         ensures admitted { IfOk result (λ item. Self.Item.admits (view self.now).codec item) }
@@ -38,7 +38,7 @@ pub trait Contiguous: Sized + Drop {
         ensures answers { Reads V.tells Volume (V.state vol.old) (V.state vol.new) result }
         ensures reads { (V.state vol.new).reads ≡ min ((V.state vol.old).reads + 1) (2 ^ 64 - 1) };
 
-    /// The items at these positions, in their order, up to the first that can't be read.
+    /// The items at these positions, in their order. The first that can't be read is refused as by `read`.
     fn read_many<V: Volume>(
         &self,
         vol: &mut V,
@@ -48,12 +48,14 @@ pub trait Contiguous: Sized + Drop {
         ensures pruned { V.tells → (p : ℕ) → IsErrOf result (ItemPruned p) → IsFirstFailing Self.Item.spelling (Self.Item.admits (view self.now).codec) ((V.state vol.old).log (view self.now).name) positions.now p × (p < ((V.state vol.old).log (view self.now).name).start) }
         ensures out_of_range { V.tells → (p : ℕ) → IsErrOf result (ItemOutOfRange p) → IsFirstFailing Self.Item.spelling (Self.Item.admits (view self.now).codec) ((V.state vol.old).log (view self.now).name) positions.now p × (end_of ((V.state vol.old).log (view self.now).name) ≤ p) }
         ensures corrupt { V.tells → (p : ℕ) → IsErrOf result (Corruption p) → IsFirstFailing Self.Item.spelling (Self.Item.admits (view self.now).codec) ((V.state vol.old).log (view self.now).name) positions.now p × IsCorrupt Self.Item.spelling (Self.Item.admits (view self.now).codec) ((V.state vol.old).log (view self.now).name) p }
+        // Whatever the volume tells, a refusal names a position that was asked for.
+        ensures asked { (p : ℕ) → (IsErrOf result (ItemPruned p) ⊎ (IsErrOf result (ItemOutOfRange p) ⊎ IsErrOf result (Corruption p))) → Contains positions.now p }
         ensures errors { IfErr result IsOfRead }
         ensures answers { Reads V.tells Volume (V.state vol.old) (V.state vol.new) result }
         ensures reads { (V.state vol.new).reads ≤ (V.state vol.old).reads + length positions.now }
         ensures counted { OnOk result (min ((V.state vol.old).reads + length positions.now) (2 ^ 64 - 1) ≤ (V.state vol.new).reads) };
 
-    /// The items from a position on to another, to be read one by one.
+    /// The items from a position on to another, to be read one by one. It refuses with `ItemPruned` where the one lies below the start, and with `ItemOutOfRange` where the other lies past the end.
     fn replay(&self, from: u64, to: u64) -> Result<Replay<'_, Self>, JournalError>
         ensures pruned { (p : ℕ) → IsErrOf result (ItemPruned p) → (p ≡ from) × (from < (view self.now).start) }
         ensures out_of_range { (p : ℕ) → IsErrOf result (ItemOutOfRange p) → (p ≡ to) × ((view self.now).start ≤ from) × ((view self.now).end < to) }

@@ -32,8 +32,11 @@ impl<T> Kind<T> for Variable {}
 /// Where a journal lies, how many items its blobs have, and what its items may be.
 #[derive(Drop)]
 pub struct JournalConfig<C> {
+    /// The name of its log.
     pub name: String,
+    /// How many items a blob has.
     pub items_per_blob: NonZeroU64,
+    /// What its items may be.
     pub codec: C,
 }
 
@@ -228,7 +231,7 @@ impl<T: Write + EncodeSize + Read + Duplicate + Drop, K: Kind<T>> Mutable for Jo
 }
 
 impl<T: Write + EncodeSize + Read + Duplicate + Drop, K: Kind<T>> Journal<T, K> {
-    /// Leaves an empty log at a position.
+    /// Leaves an empty log at a position. It refuses 2^64 - 1 with `SizeOverflow`.
     pub fn clear_to_size<V: Volume>(self, vol: &mut V, size: u64) -> Result<Self, JournalError>
         ensures overflow { IsErrOf result SizeOverflow ↔ (size ≡ 2 ^ 64 - 1) }
         ensures made { IfOk result (λ made. ⟦<Journal<T, K> as Contiguous>⟧.view made ≡ at_bounds (⟦<Journal<T, K> as Contiguous>⟧.view self) size size) }

@@ -11,7 +11,7 @@ ghost use Rattle.volume_base.specs.declared.error.JournalError.TheVariants.{Item
 use crate::Contiguous;
 use volume_base::{JournalError, Volume};
 
-/// The end behind the last item below a position that a predicate answers. It goes down from there.
+/// The end behind the last item below a position that a predicate accepts. It goes down from there.
 pub(crate) fn match_below<J: Contiguous, V: Volume, P: Fn(&J::Item) -> bool>(
     journal: &J,
     vol: &mut V,

@@ -2,11 +2,11 @@ ghost use Rattle.std.specs.Prelude.{◌≡◌, ◌↔◌, ◌⊎◌, ◌+◌, �
 ghost use Rattle.codec_base.specs.Causes.{Rose};
 ghost use Rattle.journal_base.specs.Blobs.{blob_start};
 ghost use Rattle.journal_base.specs.Items.{Spells};
-ghost use Rattle.journal_base.specs.Tickets.{is_failed};
+ghost use Rattle.journal_base.specs.Tickets.{is_failed, outcome};
 ghost use Rattle.journal_base.specs.Answers.{IsRefusal, IsOfVolume, IsOfSize, IsOfAppend};
 ghost use Rattle.journal_base.specs.View.{at_bounds, after_sync, IsHeld};
 ghost use Rattle.volume_base.specs.Log.{end_of, no_log, appended, pruned_to, Grows, Advances, Vanishes, Stays};
-ghost use Rattle.volume_base.specs.Volume.{OnlyLog, OnlyLeft, LogMoves, Writes};
+ghost use Rattle.volume_base.specs.Volume.{OnlyLog, OnlyLeft, LogMoves, SameContents, StaysSteady, Writes};
 ghost use Rattle.volume_base.specs.declared.error.JournalError.TheVariants.{EmptyAppend, SizeOverflow, Volume};
 
 use crate::{Contiguous, SyncTicket};
@@ -17,7 +17,7 @@ pub trait Mutable: Contiguous {
     /// Whether it is one log alone.
     ghost one_log: { Type 0 };
 
-    /// Adds an item behind the end, and answers its position.
+    /// Adds an item behind the end, and answers its position. It refuses with `SizeOverflow` where the end would pass 2^64 - 1.
     fn append<V: Volume>(self, vol: &mut V, item: &Self::Item) -> Result<(Self, u64), JournalError>
         ensures overflow { V.tells → IsErrOf result SizeOverflow → end_of ((V.state vol.old).log (Self.view self).name) ≡ 2 ^ 64 - 1 }
         ensures fits { OnOk result (V.tells → end_of ((V.state vol.old).log (Self.view self).name) < 2 ^ 64 - 1) }
@@ -33,7 +33,7 @@ pub trait Mutable: Contiguous {
         ensures errors { one_log → IfErr result IsOfSize }
         ensures writes { Writes V.tells Volume (V.state vol.old) (V.state vol.new) result };
 
-    /// Adds items behind the end, by one append, and answers the position of the last.
+    /// Adds items behind the end, and answers the position of the last. It refuses no items with `EmptyAppend`, and with `SizeOverflow` where the end would pass 2^64 - 1.
     fn append_many<V: Volume>(
         self,
         vol: &mut V,
@@ -54,7 +54,7 @@ pub trait Mutable: Contiguous {
         ensures errors { one_log → IfErr result IsOfAppend }
         ensures writes { Writes V.tells Volume (V.state vol.old) (V.state vol.new) result };
 
-    /// After it a crash leaves what the log holds.
+    /// After it a crash leaves what the log holds. Where a failed sync is kept it refuses with `Volume`.
     fn commit<V: Volume>(self, vol: &mut V) -> Result<Self, JournalError>
         ensures kept { (Self.view self).failed ≡ true → IsErrOf result Volume × (vol.new ≡ vol.old) }
         ensures made { IfOk result (λ made. Self.view made ≡ Self.view self) }
@@ -65,7 +65,7 @@ pub trait Mutable: Contiguous {
         ensures errors { one_log → IfErr result IsOfVolume }
         ensures writes { (Self.view self).failed ≡ false → Writes V.tells Volume (V.state vol.old) (V.state vol.new) result };
 
-    /// As `commit`, and what else a journal keeps is durable too.
+    /// As `commit`.
     fn sync<V: Volume>(self, vol: &mut V) -> Result<Self, JournalError>
         ensures kept { (Self.view self).failed ≡ true → IsErrOf result Volume × (vol.new ≡ vol.old) }
         ensures made { IfOk result (λ made. Self.view made ≡ Self.view self) }
@@ -87,9 +87,10 @@ pub trait Mutable: Contiguous {
         ensures others { one_log → V.tells → OnlyLog (Self.view self).name (V.state vol.old) (V.state vol.new) }
         ensures images { one_log → V.tells → LogMoves (Self.view self).name Stays (V.state vol.old) (V.state vol.new) }
         ensures errors { one_log → IfErr result IsOfVolume }
-        ensures writes { (Self.view self).failed ≡ false → Writes V.tells Volume (V.state vol.old) (V.state vol.new) result };
+        // A failed ticket is a failure of the volume, and beside one that is done nothing has failed.
+        ensures writes { (Self.view self).failed ≡ false → Writes V.tells Volume (V.state vol.old) (V.state vol.new) (outcome result) };
 
-    /// Takes whole blobs below a position away, and answers whether the start has moved.
+    /// Takes whole blobs below a position away, and answers whether the start has moved. Where a failed sync is kept it refuses with `Volume`.
     fn prune<V: Volume>(self, vol: &mut V, least: u64) -> Result<(Self, bool), JournalError>
         ensures kept { (Self.view self).failed ≡ true → IsErrOf result Volume × (vol.new ≡ vol.old) }
         ensures made { IfOk result (λ made. Self.view made.0 ≡ at_bounds (Self.view self) (Self.view made.0).start (Self.view made.0).end) }
@@ -104,6 +105,9 @@ pub trait Mutable: Contiguous {
         ensures later { (V.state vol.old).clock ≤ (V.state vol.new).clock }
         ensures faults { (V.state vol.old).faults ≤ (V.state vol.new).faults }
         ensures cause { (Self.view self).failed ≡ false → IsErrOf result Volume → Rose (V.state vol.old).faults (V.state vol.new).faults }
+        ensures unfaulted { OnOk result ((V.state vol.new).faults ≡ (V.state vol.old).faults) }
+        ensures still { V.tells → (V.state vol.new).clock ≡ (V.state vol.old).clock → SameContents (V.state vol.old) (V.state vol.new) }
+        ensures steady { (V.state vol.old).steady → StaysSteady (V.state vol.old) (V.state vol.new) }
         ensures writes { one_log → (Self.view self).failed ≡ false → Writes V.tells Volume (V.state vol.old) (V.state vol.new) result };
 
     /// Takes the log away.
@@ -113,8 +117,5 @@ pub trait Mutable: Contiguous {
         ensures others { one_log → V.tells → OnlyLog (Self.view self).name (V.state vol.old) (V.state vol.new) }
         ensures images { one_log → V.tells → LogMoves (Self.view self).name Vanishes (V.state vol.old) (V.state vol.new) }
         ensures errors { one_log → IfErr result IsOfVolume }
-        ensures later { (V.state vol.old).clock ≤ (V.state vol.new).clock }
-        ensures faults { (V.state vol.old).faults ≤ (V.state vol.new).faults }
-        ensures cause { IsErrOf result Volume → Rose (V.state vol.old).faults (V.state vol.new).faults }
-        ensures writes { one_log → Writes V.tells Volume (V.state vol.old) (V.state vol.new) result };
+        ensures writes { Writes V.tells Volume (V.state vol.old) (V.state vol.new) result };
 }

@@ -122,7 +122,7 @@ impl<T: Write + EncodeSize + Read + Duplicate + Drop, K: Kind<T>> BackingRecover
 }
 
 impl<T: Write + EncodeSize + Read + Duplicate + Drop, K: Kind<T>> Recovery<T, K> {
-    /// Cuts the log to the lesser of the view's end and a size, where its end falls, and the view ends there.
+    /// Cuts the log to the lesser of the view's end and a size, where its end falls, and the view ends there. It refuses a size below the log's start with `ItemPruned`.
     pub fn truncate<V: Volume>(self, vol: &mut V, size: u64) -> Result<Self, JournalError>
         ensures pruned { (p : ℕ) → IsErrOf result (ItemPruned p) → (p ≡ size) × (V.tells → size < ((V.state vol.old).log (⟦<Recovery<T, K> as BackingRecovery>⟧.view self).name).start) }
         ensures reached { OnOk result (V.tells → ((V.state vol.old).log (⟦<Recovery<T, K> as BackingRecovery>⟧.view self).name).start ≤ size) }

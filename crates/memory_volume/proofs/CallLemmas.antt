@@ -33,6 +33,7 @@ module _ (old begun new : MemoryVolume) (call : Entry) (calls : begun.calls.item
     reads = recorded.reads ∙ reads;
     faults = omega (arith, starts.later, faults_are);
     failed = λ is. absurd (let never = is in cc);
+    kept = faults_are ∙ starts.kept;
     steady = stays_steady;
   }
 

@@ -39,6 +39,12 @@ run_appended list items log run = record {
   within = omega (arith, run.within, length-append list items);
 }
 
+take_min : (n : ℕ) (xs : List (List ℕ)) → take (min n (length xs)) xs ≡ take n xs
+take_min n xs = elim (cases_lt n (length xs)) [
+  | inl lt ↦ ap (λ (k : ℕ). take k xs) (let e : min n (length xs) ≡ n = omega arith in e)
+  | inr ge ↦ ap (λ (k : ℕ). take k xs) (let e : min n (length xs) ≡ length xs = omega arith in e) ∙ take_all (length xs) xs (omega arith) ∙ sym (take_all n xs ge)
+]
+
 -- An append. Bounds stay, and the list has the items behind it.
 pub part_grows : (list items : List (List ℕ)) (contents old new : Log) (start end : ℕ) → IsRunOf list contents → Grows contents items old new → IsPartOf list start end old → IsPartOf (list ++ items) start end new
 part_grows list items contents old new start end run (inl same) part = subst (IsPartOf (list ++ items) start end) (sym same) (part_of_longer list items start end old part)
@@ -60,12 +66,6 @@ part_grows list items contents old new start end run (inr (from, count, le, is_b
       start_high = omega (arith, same_start, part.start_high);
       end_low = omega (arith, same_start, long, part.end_low);
     }
-  where
-    take_min : (n : ℕ) (xs : List (List ℕ)) → take (min n (length xs)) xs ≡ take n xs
-    take_min n xs = elim (cases_lt n (length xs)) [
-      | inl lt ↦ ap (λ (k : ℕ). take k xs) (let e : min n (length xs) ≡ n = omega arith in e)
-      | inr ge ↦ ap (λ (k : ℕ). take k xs) (let e : min n (length xs) ≡ length xs = omega arith in e) ∙ take_all (length xs) xs (omega arith) ∙ sym (take_all n xs ge)
-    ]
 
 -- A cut. The least end is at least the lesser.
 pub part_shrinks : (list : List (List ℕ)) (old new : Log) (start end to : ℕ) → Shrinks to old new → IsPartOf list start end old → IsPartOf list start (min end to) new
@@ -81,12 +81,6 @@ part_shrinks list old new start end to (at, le, is) part =
       start_high = omega (arith, same_start, part.start_high);
       end_low = omega (arith, same_start, long, part.end_low, le);
     }
-  where
-    take_min : (n : ℕ) (xs : List (List ℕ)) → take (min n (length xs)) xs ≡ take n xs
-    take_min n xs = elim (cases_lt n (length xs)) [
-      | inl lt ↦ ap (λ (k : ℕ). take k xs) (let e : min n (length xs) ≡ n = omega arith in e)
-      | inr ge ↦ ap (λ (k : ℕ). take k xs) (let e : min n (length xs) ≡ length xs = omega arith in e) ∙ take_all (length xs) xs (omega arith) ∙ sym (take_all n xs ge)
-    ]
 
 -- A prune. The greatest start is at most the greater.
 pub part_advances : (list : List (List ℕ)) (old new : Log) (start end to : ℕ) → Advances to old new → IsPartOf list start end old → IsPartOf list (max start to) end new

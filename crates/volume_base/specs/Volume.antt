@@ -22,7 +22,7 @@ pub record State : Type 1 where
   -- whether a crash at that moment may leave this of the log, or map, of that name
   pub log_left : ℕ → List ℕ → Log → Type 0
   pub map_left : ℕ → List ℕ → Map → Type 0
-  -- how often the outside has failed, and how many items were read
+  -- how often the outside has failed, and how often an item was asked for
   pub faults : ℕ
   pub reads : ℕ
   -- whether nothing is set to fail
@@ -78,13 +78,14 @@ pub record StaysSteady (old new : State) : Type 0 where
   pub faults : new.faults ≡ old.faults
 
 -- What every call that writes says, whatever it answers. A call that leaves the clock leaves the contents,
--- and this fault has its cause in the count.
+-- this fault has its cause in the count, and a call that succeeds counts no fault.
 pub record Writes {T E : Type 0} (tells : Type 0) (fault : E) (old new : State) (result : Result T E) : Type 0 where
   pub later : old.clock ≤ new.clock
   pub still : tells → new.clock ≡ old.clock → SameContents old new
   pub reads : new.reads ≡ old.reads
   pub faults : old.faults ≤ new.faults
   pub failed : IsErrOf result fault → Rose old.faults new.faults
+  pub kept : OnOk result (new.faults ≡ old.faults)
   pub steady : old.steady → StaysSteady old new
 
 -- What one call of a volume that writes says besides: the clock rises on Ok, want of memory leaves it,
@@ -95,11 +96,13 @@ pub record WriteAnswers {T : Type 0} (tells : Type 0) (old new : State) (result 
   pub not_pruned : (p : ℕ) → IsErrOf result (ItemPruned p) → ⊥
   pub not_out_of_range : (p : ℕ) → IsErrOf result (ItemOutOfRange p) → ⊥
 
--- A call that only reads leaves contents, clock and images, whatever it answers, and this fault has its cause in the count.
+-- A call that only reads leaves contents, clock and images, whatever it answers. This fault has its cause in the count,
+-- and a call that succeeds counts no fault.
 pub record Reads {T E : Type 0} (tells : Type 0) (fault : E) (old new : State) (result : Result T E) : Type 0 where
   pub clock : new.clock ≡ old.clock
   pub past : tells → PastStays old new
   pub contents : tells → SameContents old new
   pub faults : old.faults ≤ new.faults
   pub failed : IsErrOf result fault → Rose old.faults new.faults
+  pub kept : OnOk result (new.faults ≡ old.faults)
   pub steady : old.steady → StaysSteady old new

@@ -14,6 +14,7 @@ pub enum VolumeError {
     ItemPruned(u64),
     /// The position lies at or past the log's end.
     ItemOutOfRange(u64),
+    /// There was no room in memory.
     Memory,
 }
 
@@ -49,13 +50,17 @@ pub enum JournalError {
     ItemPruned(u64),
     /// The position lies at or past the end.
     ItemOutOfRange(u64),
+    /// There was no item to append.
     EmptyAppend,
     /// The end would pass 2^64 - 1.
     SizeOverflow,
     /// The bytes at the position aren't an encoding of an item.
     Corruption(u64),
+    /// A call of a tree has failed.
     Tree(TreeCause),
+    /// The outside has failed, or an earlier failure is kept.
     Volume,
+    /// There was no room in memory.
     Memory,
 }
 

@@ -33,7 +33,7 @@ pub trait Volume {
         ensures answers { Reads tells Failed (state self.old) (state self.new) result }
         ensures reads { (state self.new).reads ≡ min ((state self.old).reads + 1) (2 ^ 64 - 1) };
 
-    /// Adds items behind the end. Until a sync a crash leaves any number of them.
+    /// Adds items behind the end. Until a sync a crash leaves any front of them.
     fn log_append(&mut self, name: &str, items: &[Bytes]) -> Result<(), VolumeError>
         requires { tells → end_of ((state self.old).log name.now) + length items.now < 2 ^ 64 }
         ensures appended { OnOk result (tells → (state self.new).log name.now ≡ appended ((state self.old).log name.now) items.now) }
@@ -51,7 +51,7 @@ pub trait Volume {
         ensures writes { Writes tells Failed (state self.old) (state self.new) result }
         ensures answers { WriteAnswers tells (state self.old) (state self.new) result };
 
-    /// Takes the items from a position on away. Until a sync a crash leaves any number of them.
+    /// Takes the items from a position on away. Until a sync a crash leaves any front of them.
     fn log_cut(&mut self, name: &str, end: u64) -> Result<(), VolumeError>
         requires low { tells → ((state self.old).log name.now).start ≤ end }
         requires high { tells → end ≤ end_of ((state self.old).log name.now) }
@@ -61,7 +61,7 @@ pub trait Volume {
         ensures writes { Writes tells Failed (state self.old) (state self.new) result }
         ensures answers { WriteAnswers tells (state self.old) (state self.new) result };
 
-    /// Takes the items below a position away. Until a sync a crash leaves any number of them.
+    /// Takes the items below a position away. Until a sync a crash leaves of them any back part.
     fn log_prune(&mut self, name: &str, start: u64) -> Result<(), VolumeError>
         requires low { tells → ((state self.old).log name.now).start ≤ start }
         requires high { tells → start ≤ end_of ((state self.old).log name.now) }
@@ -89,7 +89,7 @@ pub trait Volume {
         ensures writes { Writes tells Failed (state self.old) (state self.new) result }
         ensures answers { WriteAnswers tells (state self.old) (state self.new) result };
 
-    /// A map.
+    /// The map of this name; an empty one where there is none.
     fn map_get(&mut self, name: &str) -> Result<MetaMap, VolumeError>
         ensures map { IfOk result (λ got. tells → got ≡ (state self.old).map name.now) }
         ensures answers { Reads tells Failed (state self.old) (state self.new) result }

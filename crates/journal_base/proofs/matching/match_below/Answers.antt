@@ -41,7 +41,7 @@ returns-in_err-item-clause-corrupt g c told p is =
     )
 
 pub returns-in_err-item-clause-answers : goal.returns-in_err-item-clause-answers
-returns-in_err-item-clause-answers g c = reads_joins _ _ _ _ _ _ _ c.loop-end.invariant.so_far c.read.ensures.answers (λ is. search rules)
+returns-in_err-item-clause-answers g c = reads_joins _ _ _ _ _ _ _ c.loop-end.invariant.so_far c.read.ensures.answers (λ is. search rules) (search rules)
 
 pub returns-in_err-item-clause-reads : goal.returns-in_err-item-clause-reads
 returns-in_err-item-clause-reads g c = omega (arith, c.bounds-start.ensures.start, c.read.ensures.reads)
@@ -61,7 +61,7 @@ returns-then-predicate-clause-found g c told =
     )
 
 pub returns-then-predicate-clause-answers : goal.returns-then-predicate-clause-answers
-returns-then-predicate-clause-answers g c = reads_joins _ _ _ _ _ _ _ c.loop-end.invariant.so_far c.read.ensures.answers (λ is. search rules)
+returns-then-predicate-clause-answers g c = reads_joins _ _ _ _ _ _ _ c.loop-end.invariant.so_far c.read.ensures.answers (λ is. search rules) c.in_ok-item.ensures.answers.kept
 
 pub returns-then-predicate-clause-reads : goal.returns-then-predicate-clause-reads
 returns-then-predicate-clause-reads g c = omega (arith, c.bounds-start.ensures.start, c.read.ensures.reads)
@@ -72,7 +72,7 @@ loop-end-preserved g c =
     record {
       high = omega arith;
       low = omega arith;
-      so_far = only_read_joins _ _ _ _ _ _ c.loop-end.invariant.so_far c.read.ensures.answers;
+      so_far = only_read_joins _ _ _ _ _ _ c.loop-end.invariant.so_far c.in_ok-item.ensures.answers;
       none = λ told. none_more _ _ _ _ _ _ (c.loop-end.invariant.none told) (record {
         item = c.in_ok-item.item;
         here = subst (λ (l : Log). IsItemAt l (c.loop-end.end - 1) (g.J.Item.Spelled.spelling c.in_ok-item.item)) (same told) (c.in_ok-item.ensures.item told);

@@ -38,7 +38,7 @@ loop-i-preserved g c =
     let place : c.new.result ≡ c.index-positions-i.result = c.new.ensures ∙ c.as_u64-position.ensures in
     let at = slice_get_read c.args.positions.now (length c.args.positions.now) c.loop-i.i c.index-positions-i.result refl c.loop-i-test.true c.index-positions-i.is in
     record {
-      so_far = only_read_joins _ _ _ _ _ _ c.loop-i.invariant.so_far c.get_node.ensures.reads;
+      so_far = only_read_joins _ _ _ _ _ _ c.loop-i.invariant.so_far c.in_ok-node.ensures.reads;
       counted = omega (arith, ap length (c.in_ok-push-in-Some.ensures {u = tt}).items, length-append c.loop-i.nodes.items (c.in-Some.node ∷ []), c.loop-i.invariant.counted);
       nodes = λ tells held.
           let images = same_present (g.V.Volume.state c.args.vol.now) (g.V.Volume.state c.loop-i.vol) (c.loop-i.invariant.so_far.contents tells) in

@@ -35,7 +35,7 @@ loop-position-preserved g c =
     let i = c.loop-position.position-index in
     let pushed : c.push.new.self.items ≡ c.loop-position.items.items ++ c.in_ok-item.item ∷ [] = c.in_ok-push.ensures.items in
     record {
-      so_far = only_read_joins _ _ _ _ _ _ c.loop-position.invariant.so_far c.read.ensures.answers;
+      so_far = only_read_joins _ _ _ _ _ _ c.loop-position.invariant.so_far c.in_ok-item.ensures.answers;
       items = λ told.
           let here = subst (λ (l : Log). IsItemAt l (get_or positions i 0) (g.T.Spelled.spelling c.in_ok-item.item)) ((c.loop-position.invariant.so_far.contents told).logs name) (c.in_ok-item.ensures.item told) in
           let more = items_more _ _ log (take i positions) c.loop-position.items.items (get_or positions i 0) c.in_ok-item.item (c.loop-position.invariant.items told) here c.in_ok-item.ensures.admitted in
