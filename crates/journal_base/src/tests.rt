@@ -183,7 +183,7 @@ fn tour<J: Backing, V: Volume, P: Fn(&J::Item) -> bool>(
 }
 
 #[test]
-fn goes_through_its_calls_at_both_kinds_of_items(rt: HostRuntime) -> Result<(), Fail> {
+fn each_call_answers_at_both_kinds_of_items(rt: HostRuntime) -> Result<(), Fail> {
     let alloc = rt.alloc();
     let mut vol = MemoryVolume::new(alloc);
     let fixed = tour::<FixedJournal<U64>, MemoryVolume, _>(
@@ -331,9 +331,10 @@ fn put_texts(alloc: Global, vol: &mut MemoryVolume, texts: &[&[u8]]) -> Result<(
     for text in texts {
         items.push(Bytes::from_slice(alloc, text)?)?;
     }
-    if items.len() < 100 {
-        vol.put_log("log", 3, &items)?;
+    if items.len() >= 100 {
+        return Err("a long log".into());
     }
+    vol.put_log("log", 3, &items)?;
     Ok(())
 }
 
@@ -396,77 +397,99 @@ fn failing_recovery(alloc: Global, n: u64) -> Result<(MemoryVolume, Recovery<U64
     Ok((vol, recovery))
 }
 
-/// What is answered where the n-th call of the volume fails, by a call that makes `count` of them.
-fn wanted(n: u64, count: u64) -> Option<JournalError> {
+/// The error of a call, and that of a `span` behind it.
+type Errors = (Option<JournalError>, Option<JournalError>);
+
+/// What is answered where the n-th call of the volume fails, by a call that makes `count` of them and then by a `span`.
+fn wanted(n: u64, count: u64) -> Errors {
+    let failed = Some(JournalError::Volume);
     if n <= count {
-        Some(JournalError::Volume)
+        (failed, None)
+    } else if n == count + 1 {
+        (None, failed)
     } else {
-        None
+        (None, None)
     }
 }
 
+/// The error of a call, and that of a `span` which is made behind it.
+fn then_span(
+    alloc: Global,
+    vol: &mut MemoryVolume,
+    error: Option<JournalError>,
+) -> Result<Errors, Fail> {
+    let cfg = config(alloc, ())?;
+    Ok((error, FixedJournal::<U64>::span(vol, &cfg).err()))
+}
+
 /// Ends a journal's work where the n-th call of the volume fails.
-fn kept_with(alloc: Global, call: u64, n: u64) -> Result<Option<JournalError>, Fail> {
+fn kept_with(alloc: Global, call: u64, n: u64) -> Result<Errors, Fail> {
     let (mut vol, journal) = failing(alloc, n)?;
-    Ok(match call {
+    let error = match call {
         0 => journal.commit(&mut vol).err(),
         1 => journal.sync(&mut vol).err(),
         2 => journal.clear_to_size(&mut vol, 9).err(),
         _ => journal.destroy(&mut vol).err(),
-    })
+    };
+    then_span(alloc, &mut vol, error)
 }
 
 /// Writes items, or takes some away, where the n-th call of the volume fails.
-fn changed_with(alloc: Global, call: u64, n: u64) -> Result<Option<JournalError>, Fail> {
+fn changed_with(alloc: Global, call: u64, n: u64) -> Result<Errors, Fail> {
     let (mut vol, journal) = failing(alloc, n)?;
-    Ok(match call {
+    let error = match call {
         0 => journal.append(&mut vol, &U64::new(5)).err(),
         1 => journal.append_many(&mut vol, &numbers(alloc, 2)?).err(),
         _ => journal.prune(&mut vol, 4).err(),
-    })
+    };
+    then_span(alloc, &mut vol, error)
 }
 
 /// Reads two items where the n-th call of the volume fails.
-fn read_with(alloc: Global, n: u64) -> Result<Option<JournalError>, Fail> {
+fn read_with(alloc: Global, n: u64) -> Result<Errors, Fail> {
     let (mut vol, journal) = failing(alloc, n)?;
-    match journal.read(&mut vol, 3) {
-        Ok(_) => Ok(journal.read_many(&mut vol, &[4]).err()),
-        Err(error) => Ok(Some(error)),
-    }
+    let error = match journal.read(&mut vol, 3) {
+        Ok(_) => journal.read_many(&mut vol, &[4]).err(),
+        Err(error) => Some(error),
+    };
+    then_span(alloc, &mut vol, error)
 }
 
 /// Begins to open a journal where the n-th call of the volume fails.
-fn opened_with(alloc: Global, call: u64, n: u64) -> Result<Option<JournalError>, Fail> {
+fn opened_with(alloc: Global, call: u64, n: u64) -> Result<Errors, Fail> {
     let (mut vol, _journal) = failing(alloc, n)?;
     let cfg = config(alloc, ())?;
-    Ok(match call {
+    let error = match call {
         0 => FixedJournal::<U64>::recover(&mut vol, cfg, None).err(),
         1 => FixedJournal::<U64>::clear(&mut vol, cfg, 3).err(),
         _ => FixedJournal::<U64>::span(&mut vol, &cfg).err(),
-    })
+    };
+    then_span(alloc, &mut vol, error)
 }
 
 /// Cuts or empties a log that is being opened, where the n-th call of the volume fails.
-fn cut_with(alloc: Global, call: u64, n: u64) -> Result<Option<JournalError>, Fail> {
+fn cut_with(alloc: Global, call: u64, n: u64) -> Result<Errors, Fail> {
     let (mut vol, recovery) = failing_recovery(alloc, n)?;
-    Ok(match call {
+    let error = match call {
         0 => recovery.truncate(&mut vol, 3).err(),
         1 => recovery.prune(&mut vol, 4).err(),
         _ => recovery.clear_to_size(&mut vol, 3).err(),
-    })
+    };
+    then_span(alloc, &mut vol, error)
 }
 
 /// Looks at a log that is being opened, or ends its opening, where the n-th call of the volume fails.
-fn finished_with(alloc: Global, call: u64, n: u64) -> Result<Option<JournalError>, Fail> {
+fn finished_with(alloc: Global, call: u64, n: u64) -> Result<Errors, Fail> {
     let (mut vol, recovery) = failing_recovery(alloc, n)?;
-    Ok(match call {
+    let error = match call {
         0 => recovery.read(&mut vol, 3).err(),
         1 => recovery
             .last_matching(&mut vol, 5, |item: &U64| item.get() < 4)
             .err(),
         2 => recovery.unbounded(&mut vol).err(),
         _ => recovery.finish(&mut vol, 3).err(),
-    })
+    };
+    then_span(alloc, &mut vol, error)
 }
 
 #[test]

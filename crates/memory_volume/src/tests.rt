@@ -60,9 +60,10 @@ fn append(alloc: Global, vol: &mut MemoryVolume, words: &[&[u8]]) -> Result<(), 
         items.push(Bytes::from_slice(alloc, word)?)?;
     }
     let (_, end) = vol.log_bounds("log")?;
-    if end < 100 && items.len() < 100 {
-        vol.log_append("log", &items)?;
+    if end >= 100 || items.len() >= 100 {
+        return Err("a long log".into());
     }
+    vol.log_append("log", &items)?;
     Ok(())
 }
 
