@@ -5,20 +5,6 @@ use Rattle.std.proofs.lemmas.List.{take-append-drop, drop-drop}
 use Rattle.stream_base.specs.Streams.{ReadsFront}
 use Rattle.std.specs.Io.KnownBytes.{Keeps, Appends, Consumes}
 
-pub Appends-append : (a b c : Option (List ℕ)) (xs ys : List ℕ) → Appends a b xs → Appends b c ys → Appends a c (xs ++ ys)
-Appends-append None b c xs ys p q = tt
-Appends-append (Some xs0) None c xs ys p q = absurd p
-Appends-append (Some xs0) (Some bs) None xs ys p q = absurd q
-Appends-append (Some xs0) (Some bs) (Some cs) xs ys p q = q ∙ ap (λ r. r ++ ys) p ∙ append_assoc xs0 xs ys
-
-pub Appends-nothing : (a : Option (List ℕ)) → Appends a a []
-Appends-nothing None = tt
-Appends-nothing (Some xs) = sym (append_nil xs)
-  where
-    append_nil : (ys : List ℕ) → ys ++ [] ≡ ys
-    append_nil [] = refl
-    append_nil (y ∷ ys) = ap (λ zs. y ∷ zs) (append_nil ys)
-
 pub Appends-then_keeps : (a b c : Option (List ℕ)) (xs : List ℕ) → Appends a b xs → Keeps b c → Appends a c xs
 Appends-then_keeps None b c xs p q = tt
 Appends-then_keeps (Some xs0) None c xs p q = absurd p

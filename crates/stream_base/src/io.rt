@@ -1,5 +1,5 @@
 //! Streams of bytes.
-ghost use Rattle.std.specs.Prelude.{◌≡◌, ℕ, ◌<◌, List, length, OnOk, IfOk};
+ghost use Rattle.std.specs.Prelude.{◌≡◌, ℕ, ◌+◌, ◌-◌, ◌^◌, ◌<◌, List, length, min, OnOk, OnErr, IfOk};
 ghost use Rattle.std.specs.declared.option.Option.{Option};
 ghost use Rattle.std.specs.Io.{ReadsAtMost, WritesAtMost};
 ghost use Rattle.std.specs.Io.KnownBytes.{ReadConsumes, WriteAppends, Keeps};
@@ -13,7 +13,7 @@ pub struct ReadFailed {}
 #[derive(Clone, Copy, Debug, PartialEq, Eq)]
 pub struct WriteFailed {}
 
-/// What can be read.
+/// A stream that gives bytes.
 pub trait Source {
     /// The bytes that are left, where it tells them.
     ghost left: { Self → Option (List ℕ) };
@@ -22,15 +22,17 @@ pub trait Source {
     ghost faults: { Self → ℕ };
 
     /// Reads some bytes into the front of the buffer, and says how many. 0 at a buffer that isn't empty is the end.
+    /// After an error the bytes of the buffer may be any.
     fn read(&mut self, buf: &mut [u8]) -> Result<usize, ReadFailed>
         ensures bound { ReadsAtMost result buf.new }
         ensures bytes { ReadConsumes (left self.old) (left self.new) result buf.new }
         ensures cause { HasCause (faults self.old) (faults self.new) result }
-        // A read that succeeds counts nothing.
+        // A read that fails counts once, and one that succeeds counts nothing.
+        ensures counted { OnErr result (faults self.new ≡ min (faults self.old + 1) (2 ^ 64 - 1)) }
         ensures kept { OnOk result (faults self.new ≡ faults self.old) };
 }
 
-/// What can be written to.
+/// A stream that takes bytes.
 pub trait Sink {
     /// The bytes that were written, where it tells them.
     ghost written: { Self → Option (List ℕ) };
@@ -47,7 +49,8 @@ pub trait Sink {
         ensures some { 0 < length buf.now → IfOk result (λ n. 0 < n) }
         ensures bytes { WriteAppends (written self.old) (written self.new) result buf.now }
         ensures cause { HasCause (faults self.old) (faults self.new) result }
-        // A write that succeeds counts nothing.
+        // A write that fails counts once, and one that succeeds counts nothing.
+        ensures counted { OnErr result (faults self.new ≡ min (faults self.old + 1) (2 ^ 64 - 1)) }
         ensures kept { OnOk result (faults self.new ≡ faults self.old) };
 
     /// Passes on what was written.
@@ -55,5 +58,6 @@ pub trait Sink {
         ensures passed { OnOk result (flushed self.new) }
         ensures bytes { Keeps (written self.old) (written self.new) }
         ensures cause { HasCause (faults self.old) (faults self.new) result }
+        ensures counted { OnErr result (faults self.new ≡ min (faults self.old + 1) (2 ^ 64 - 1)) }
         ensures kept { OnOk result (faults self.new ≡ faults self.old) };
 }

@@ -45,8 +45,7 @@ impl MemorySource {
         ensures set { OnOk result (self.new ≡ record self.old { failing = record self.old.failing { ahead = self.old.failing.ahead ++ n ∷ [] } }) }
         ensures err { OnErr result (self.new ≡ self.old) }
     {
-        self.failing.fail_call(n)?;
-        Ok(())
+        self.failing.fail_call(n)
     }
 }
 
@@ -68,6 +67,7 @@ impl Source for MemorySource {
         ensures planned { IsErr result ↔ Contains self.old.failing.ahead 1 }
         ensures ahead { self.new.failing.ahead ≡ after_call self.old.failing.ahead }
         ensures count { IfOk result (λ n. n ≡ min (length self.old.left) (length buf.old)) }
+        ensures buffer { OnErr result (buf.new ≡ buf.old) }
     {
         if self.failing.next_fails() {
             return Err(ReadFailed {});
@@ -130,8 +130,7 @@ impl MemorySink {
         ensures set { OnOk result (self.new ≡ record self.old { failing = record self.old.failing { ahead = self.old.failing.ahead ++ n ∷ [] } }) }
         ensures err { OnErr result (self.new ≡ self.old) }
     {
-        self.failing.fail_call(n)?;
-        Ok(())
+        self.failing.fail_call(n)
     }
 }
 

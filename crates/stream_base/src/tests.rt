@@ -5,29 +5,46 @@ use std::test::Fail;
 
 #[test]
 fn a_source_fails_where_it_was_set_to(rt: HostRuntime) -> Result<(), Fail> {
-    let text = Bytes::from_slice(rt.alloc(), b"hello")?;
-    let mut source = MemorySource::new(text.duplicate()?);
+    let mut source = MemorySource::new(Bytes::from_slice(rt.alloc(), b"hello")?);
     source.fail_call(2)?;
     let mut piece = [0u8; 2];
     assert!(rt; source.read(&mut piece) == Ok(2));
     assert!(rt; source.read(&mut piece).is_err());
-    let rest = read_all(rt.alloc(), &mut source, 3)?;
-    assert!(rt; rest.as_slice() == b"llo".as_slice());
-    let mut longer = MemorySource::new(text.duplicate()?);
+    assert!(rt; piece == *b"he");
+    assert!(rt; source.read(&mut piece) == Ok(2));
+    assert!(rt; piece == *b"ll");
+    Ok(())
+}
+
+#[test]
+fn a_source_is_read_whole_within_its_limit(rt: HostRuntime) -> Result<(), Fail> {
+    let text = Bytes::from_slice(rt.alloc(), b"hello")?;
+    let mut source = MemorySource::new(text.duplicate()?);
+    let bytes = read_all(rt.alloc(), &mut source, 5)?;
+    assert!(rt; bytes.as_slice() == b"hello".as_slice());
+    let mut longer = MemorySource::new(text);
     assert!(rt;
         matches!(
             &read_all(rt.alloc(), &mut longer, 4),
             Err(ReadAllError::TooLong)
         )
     );
-    let mut failing = MemorySource::new(text);
-    failing.fail_call(2)?;
+    Ok(())
+}
+
+#[test]
+fn reading_the_whole_ends_at_a_failed_read(rt: HostRuntime) -> Result<(), Fail> {
+    let mut source = MemorySource::new(Bytes::from_slice(rt.alloc(), b"hello")?);
+    source.fail_call(2)?;
     assert!(rt;
         matches!(
-            &read_all(rt.alloc(), &mut failing, 5),
+            &read_all(rt.alloc(), &mut source, 5),
             Err(ReadAllError::Failed)
         )
     );
+    // The bytes were all read before, and no other call is set to fail.
+    let rest = read_all(rt.alloc(), &mut source, 5)?;
+    assert!(rt; rest.len() == 0);
     Ok(())
 }
 

@@ -1,5 +1,5 @@
 //! Whole streams.
-ghost use Rattle.std.specs.Prelude.{◌≡◌, ℕ, ◌<◌, ◌≤◌, List, length, OnOk, OnErr, IfOk, IfSome, IsErrOf};
+ghost use Rattle.std.specs.Prelude.{◌≡◌, ℕ, ◌+◌, ◌-◌, ◌^◌, ◌<◌, ◌≤◌, List, length, min, OnOk, OnErr, IfOk, IfSome, IsErrOf};
 ghost use Rattle.std.specs.Io.KnownBytes.{Consumes, IsAtEnd};
 ghost use Rattle.stream_base.specs.declared.whole.ReadAllError.TheVariants.{Failed};
 ghost use Rattle.codec_base.specs.Causes.{HasCause, Rose};
@@ -13,8 +13,11 @@ use std::alloc::Global;
 /// Why a source wasn't read whole.
 #[derive(Clone, Copy, Debug, PartialEq, Eq)]
 pub enum ReadAllError {
+    /// The source has more bytes than the limit.
     TooLong,
+    /// A read failed.
     Failed,
+    /// There is no memory for the bytes.
     Memory,
 }
 
@@ -26,7 +29,7 @@ impl From<ReadFailed> for ReadAllError {
     }
 }
 
-/// Reads a source to its end, up to a limit.
+/// Reads a source to its end, up to a limit. It ends at the first read that fails.
 #[tactic(auto, using(crate::proofs::Known::front_read))]
 pub fn read_all<S: Source>(alloc: Global, source: &mut S, limit: u64) -> Result<Bytes, ReadAllError>
     // It was read to its end, and these are its bytes.
@@ -35,13 +38,14 @@ pub fn read_all<S: Source>(alloc: Global, source: &mut S, limit: u64) -> Result<
     ensures long { IsErrOf result ReadAllError.TooLong → IfSome (S.left source.old) (λ left. limit < length left) }
     ensures failed { IsErrOf result ReadAllError.Failed → Rose (S.faults source.old) (S.faults source.new) }
     ensures later { S.faults source.old ≤ S.faults source.new }
-    // It ends at the first fault: every other answer counts none.
+    // It ends at the first fault: that one alone is counted, and every other answer counts none.
+    ensures first { IsErrOf result ReadAllError.Failed → S.faults source.new ≡ min (S.faults source.old + 1) (2 ^ 64 - 1) }
     ensures kept { (IsErrOf result ReadAllError.Failed → ⊥) → S.faults source.new ≡ S.faults source.old }
     ensures err { OnErr result (ReadsFront (S.left source.old) (S.left source.new)) }
 {
     let mut bytes = Bytes::new(alloc);
     let mut piece = [0u8; 32768];
-    loop {
+    'pieces: loop {
         let count = source.read(&mut piece)?;
         if count == 0 {
             return Ok(bytes);
@@ -55,11 +59,12 @@ pub fn read_all<S: Source>(alloc: Global, source: &mut S, limit: u64) -> Result<
     }
 }
 
-/// Writes all of these bytes.
+/// Writes all of these bytes. It ends at the first write that fails.
 pub fn write_all<K: Sink>(sink: &mut K, bytes: &[u8]) -> Result<(), WriteFailed>
     ensures text { Writes (K.written sink.old) (K.written sink.new) result bytes.now }
     ensures cause { HasCause (K.faults sink.old) (K.faults sink.new) result }
-    // It ends at the first fault.
+    // It ends at the first fault: that one alone is counted, and success counts none.
+    ensures first { OnErr result (K.faults sink.new ≡ min (K.faults sink.old + 1) (2 ^ 64 - 1)) }
     ensures kept { OnOk result (K.faults sink.new ≡ K.faults sink.old) }
 {
     let mut done = 0;

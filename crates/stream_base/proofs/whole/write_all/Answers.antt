@@ -1,15 +1,15 @@
 use Rattle.std.proofs.Common.{◌∙◌, take, drop, arith}
-use Rattle.stream_base.specs.Writing.{writes_err}
+use Rattle.stream_base.specs.Writing.{writes_err, Appends-then}
 use Rattle.std.proofs.Common.{sym}
 use Rattle.std.proofs.lemmas.List.{take-append-drop}
-use Rattle.stream_base.proofs.Known.{Appends-append, Appends-then_keeps, take-then, take-rest}
+use Rattle.stream_base.proofs.Known.{Appends-then_keeps, take-then, take-rest}
 use Rattle.stream_base.proofs.whole.write_all.Goals as goal
 
 pub loop-done-preserved : goal.loop-done-preserved
 loop-done-preserved g c =
     let w = (c.in_ok-done.ensures {u = tt}) in
     record {
-      written = rw take-then (Appends-append _ _ _ _ _ c.loop-done.invariant.written (rw take-rest at w.bytes));
+      written = rw take-then (Appends-then _ _ _ _ _ c.loop-done.invariant.written (rw take-rest at w.bytes));
       kept = w.kept ∙ c.loop-done.invariant.kept;
       within = (let b = w.bound in omega (arith, b));
     }
