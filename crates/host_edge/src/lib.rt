@@ -1,6 +1,7 @@
-//! The adapters of the real thing: they count each failure of the outside, and tell the bytes that the reader or writer below tells.
+//! The adapters of the real thing: each call of theirs that fails is counted once, and they tell the bytes that the reader or writer below tells.
 #![tactic(auto)]
 
+mod faults;
 mod sink;
 mod source;
 

@@ -1,20 +1,20 @@
-ghost use Rattle.std.specs.Prelude.{◌≡◌, ◌≢◌, ◌<◌, ◌≤◌, ◌+◌, ◌-◌, ◌^◌, min, length, IfOk, IsOk, OnOk, OnErr};
+ghost use Rattle.std.specs.Prelude.{◌≡◌, ◌<◌, ◌+◌, ◌-◌, ◌^◌, min, length, Ok, IfOk, OnOk, OnErr};
 ghost use Rattle.std.specs.Io.{WritesAtMost};
 ghost use Rattle.std.specs.Io.KnownBytes.{WriteAppends, Keeps};
-ghost use Rattle.std.specs.IoError.{error_kind};
 ghost use Rattle.codec_base.specs.Causes.{HasCause};
 
+use crate::faults::FaultCount;
 use std::io::{self, ErrorKind};
 use std::marker::Model;
 use stream_base::{Sink, WriteFailed};
 
 /// A sink over a std writer. It tells the bytes that the writer tells, which the standard streams, files and sockets don't.
-/// A call that a signal interrupts is made again, and a writer that takes nothing of a piece that isn't empty has failed.
+/// A call that a signal interrupts is made again, and a write of a piece that isn't empty never answers that nothing was taken.
 #[derive(Drop)]
 pub struct StdSink<W> {
     writer: W,
     waits: bool,
-    faults: u64,
+    faults: FaultCount,
 }
 
 impl<W> Model for StdSink<W> {
@@ -35,41 +35,8 @@ impl<W: io::Write> StdSink<W> {
         StdSink {
             writer,
             waits: false,
-            faults: 0,
+            faults: FaultCount::new(),
         }
-    }
-
-    fn count_fault(&mut self)
-        ensures counted { self.new.faults ≡ min (self.old.faults + 1) (2 ^ 64 - 1) }
-        ensures later { self.old.faults ≤ self.new.faults }
-        ensures writer { self.new.writer ≡ self.old.writer }
-        ensures waits { self.new.waits ≡ self.old.waits }
-    {
-        self.faults = self.faults.saturating_add(1);
-    }
-
-    /// Counts a call that has failed. An interruption is no failure.
-    fn failed(&mut self, _e: &io::Error) -> WriteFailed
-        requires { error_kind _e.now ≢ ErrorKind.Interrupted }
-        ensures counted { self.new.faults ≡ min (self.old.faults + 1) (2 ^ 64 - 1) }
-        ensures later { self.old.faults ≤ self.new.faults }
-        ensures writer { self.new.writer ≡ self.old.writer }
-        ensures waits { self.new.waits ≡ self.old.waits }
-    {
-        self.count_fault();
-        WriteFailed {}
-    }
-
-    /// Counts a call that was interrupted at every try.
-    fn gave_up(&mut self, _tries: u64) -> WriteFailed
-        requires { _tries ≡ 2 ^ 64 - 1 }
-        ensures counted { self.new.faults ≡ min (self.old.faults + 1) (2 ^ 64 - 1) }
-        ensures later { self.old.faults ≤ self.new.faults }
-        ensures writer { self.new.writer ≡ self.old.writer }
-        ensures waits { self.new.waits ≡ self.old.waits }
-    {
-        self.count_fault();
-        WriteFailed {}
     }
 }
 
@@ -93,8 +60,8 @@ impl<W: io::Write> Sink for StdSink<W> {
         // What was written waits for a flush, whatever is answered.
         ensures waits { IfOk result (λ n. 0 < n → IsTrue self.new.waits) }
         ensures still_waits { IsTrue self.old.waits → IsTrue self.new.waits }
-        // Of an empty piece nothing is asked of the writer.
-        ensures empty { length buf.now ≡ 0 → IsOk result × (self.new.writer ≡ self.old.writer) }
+        // Of an empty piece nothing is asked of the writer, and nothing changes.
+        ensures empty { length buf.now ≡ 0 → (result ≡ Ok 0) × (self.new ≡ self.old) }
     {
         if buf.is_empty() {
             return Ok(0);
@@ -103,14 +70,22 @@ impl<W: io::Write> Sink for StdSink<W> {
         let mut tries = 0;
         while tries < u64::MAX {
             match self.writer.write(buf) {
-                Ok(0) => return Err(self.failed(&io::Error::from(ErrorKind::WriteZero))),
+                // A writer that takes nothing has failed.
+                Ok(0) => {
+                    self.faults.failed(&io::Error::from(ErrorKind::WriteZero));
+                    return Err(WriteFailed {});
+                }
                 Ok(count) => return Ok(count),
                 Err(e) if e.kind() == ErrorKind::Interrupted => {}
-                Err(e) => return Err(self.failed(&e)),
+                Err(e) => {
+                    self.faults.failed(&e);
+                    return Err(WriteFailed {});
+                }
             }
             tries += 1;
         }
-        Err(self.gave_up(tries))
+        self.faults.gave_up(tries);
+        Err(WriteFailed {})
     }
 
     fn flush(&mut self) -> Result<(), WriteFailed>
@@ -130,10 +105,14 @@ impl<W: io::Write> Sink for StdSink<W> {
                     return Ok(());
                 }
                 Err(e) if e.kind() == ErrorKind::Interrupted => {}
-                Err(e) => return Err(self.failed(&e)),
+                Err(e) => {
+                    self.faults.failed(&e);
+                    return Err(WriteFailed {});
+                }
             }
             tries += 1;
         }
-        Err(self.gave_up(tries))
+        self.faults.gave_up(tries);
+        Err(WriteFailed {})
     }
 }

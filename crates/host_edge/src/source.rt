@@ -1,9 +1,9 @@
-ghost use Rattle.std.specs.Prelude.{◌≡◌, ◌≢◌, ◌≤◌, ◌+◌, ◌-◌, ◌^◌, min, length, IsOk, OnOk, OnErr};
+ghost use Rattle.std.specs.Prelude.{◌≡◌, ◌+◌, ◌-◌, ◌^◌, min, length, Ok, OnOk, OnErr};
 ghost use Rattle.std.specs.Io.{ReadsAtMost};
 ghost use Rattle.std.specs.Io.KnownBytes.{ReadConsumes};
-ghost use Rattle.std.specs.IoError.{error_kind};
 ghost use Rattle.codec_base.specs.Causes.{HasCause};
 
+use crate::faults::FaultCount;
 use std::io::{self, ErrorKind};
 use std::marker::Model;
 use stream_base::{ReadFailed, Source};
@@ -13,7 +13,7 @@ use stream_base::{ReadFailed, Source};
 #[derive(Drop)]
 pub struct StdSource<R> {
     reader: R,
-    faults: u64,
+    faults: FaultCount,
 }
 
 impl<R> Model for StdSource<R> {
@@ -30,37 +30,10 @@ impl<R: io::Read> StdSource<R> {
         ensures faults { ⟦<StdSource<R> as Source>⟧.faults result ≡ 0 }
         ensures left { ⟦<StdSource<R> as Source>⟧.left result ≡ R.remaining reader }
     {
-        StdSource { reader, faults: 0 }
-    }
-
-    fn count_fault(&mut self)
-        ensures counted { self.new.faults ≡ min (self.old.faults + 1) (2 ^ 64 - 1) }
-        ensures later { self.old.faults ≤ self.new.faults }
-        ensures reader { self.new.reader ≡ self.old.reader }
-    {
-        self.faults = self.faults.saturating_add(1);
-    }
-
-    /// Counts a read that has failed. An interruption is no failure.
-    fn failed(&mut self, _e: &io::Error) -> ReadFailed
-        requires { error_kind _e.now ≢ ErrorKind.Interrupted }
-        ensures counted { self.new.faults ≡ min (self.old.faults + 1) (2 ^ 64 - 1) }
-        ensures later { self.old.faults ≤ self.new.faults }
-        ensures reader { self.new.reader ≡ self.old.reader }
-    {
-        self.count_fault();
-        ReadFailed {}
-    }
-
-    /// Counts a read that was interrupted at every try.
-    fn gave_up(&mut self, _tries: u64) -> ReadFailed
-        requires { _tries ≡ 2 ^ 64 - 1 }
-        ensures counted { self.new.faults ≡ min (self.old.faults + 1) (2 ^ 64 - 1) }
-        ensures later { self.old.faults ≤ self.new.faults }
-        ensures reader { self.new.reader ≡ self.old.reader }
-    {
-        self.count_fault();
-        ReadFailed {}
+        StdSource {
+            reader,
+            faults: FaultCount::new(),
+        }
     }
 }
 
@@ -76,8 +49,8 @@ impl<R: io::Read> Source for StdSource<R> {
         // A read that succeeds counts nothing, whatever interrupted it; one that fails counts once.
         ensures kept { OnOk result (self.new.faults ≡ self.old.faults) }
         ensures counted { OnErr result (self.new.faults ≡ min (self.old.faults + 1) (2 ^ 64 - 1)) }
-        // Where there is no room nothing is asked of the reader.
-        ensures no_room { length buf.old ≡ 0 → IsOk result × (self.new.reader ≡ self.old.reader) }
+        // Where there is no room nothing is asked of the reader, and nothing changes.
+        ensures no_room { length buf.old ≡ 0 → (result ≡ Ok 0) × (self.new ≡ self.old) }
     {
         if buf.is_empty() {
             return Ok(0);
@@ -87,10 +60,14 @@ impl<R: io::Read> Source for StdSource<R> {
             match self.reader.read(buf) {
                 Ok(count) => return Ok(count),
                 Err(e) if e.kind() == ErrorKind::Interrupted => {}
-                Err(e) => return Err(self.failed(&e)),
+                Err(e) => {
+                    self.faults.failed(&e);
+                    return Err(ReadFailed {});
+                }
             }
             tries += 1;
         }
-        Err(self.gave_up(tries))
+        self.faults.gave_up(tries);
+        Err(ReadFailed {})
     }
 }

@@ -7,7 +7,7 @@ decreases-loop-tries g l = 2 ^ 64 - 1 - l.tries
 
 abbrev pub invariant-loop-tries : goal.invariant-loop-tries
 invariant-loop-tries g l = record {
-  kept : Keeps (g.W.Write.contents l.fn.self.writer) (g.W.Write.contents l.self.writer);
-  faults : l.self.faults ≡ l.fn.self.faults;
-  waits : l.self.waits ≡ l.fn.self.waits;
+  kept : Keeps (g.W.Write.contents l.fn.self.writer) (g.W.Write.contents l.self-inside.writer);
+  faults : l.self-inside.faults ≡ l.fn.self.faults;
+  waits : l.self-inside.waits ≡ l.fn.self.waits;
 }

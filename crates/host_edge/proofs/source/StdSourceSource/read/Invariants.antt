@@ -7,6 +7,6 @@ decreases-loop-tries g l = 2 ^ 64 - 1 - l.tries
 
 abbrev pub invariant-loop-tries : goal.invariant-loop-tries
 invariant-loop-tries g l = record {
-  kept : Keeps (g.R.Read.remaining l.fn.self.reader) (g.R.Read.remaining l.self.reader);
-  faults : l.self.faults ≡ l.fn.self.faults;
+  kept : Keeps (g.R.Read.remaining l.fn.self.reader) (g.R.Read.remaining l.self-inside.reader);
+  faults : l.self-inside.faults ≡ l.fn.self.faults;
 }
