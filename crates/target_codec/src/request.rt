@@ -9,14 +9,20 @@ use tree_shape::Location;
 pub enum Request<F> {
     /// Operations with their proof.
     Operations {
+        /// The number of operations of the log that the proof is of.
         size: Location<F>,
+        /// The first operation that is asked for.
         start: Location<F>,
+        /// The most operations that are asked for.
         max_ops: NonZeroU64,
     },
     /// One operation with the nodes before it.
     Boundary {
+        /// The number of operations of the log that the proof is of.
         size: Location<F>,
+        /// The operation that is asked for.
         start: Location<F>,
+        /// The most operations that are asked for.
         max_ops: NonZeroU64,
     },
 }

@@ -34,9 +34,11 @@ pub struct CompactTarget<F, D> {
 /// Why a target can't be synced to.
 #[derive_where(Clone, Copy, Debug, PartialEq, Eq)]
 pub enum EngineError<F> {
-    /// The bounds of the range that isn't one of a tree.
+    /// The size is 0 or above `MAX_LEAVES`; the bounds are 0 and that size.
     InvalidTarget {
+        /// 0, in operations.
         lower_bound_pos: Location<F>,
+        /// The size, in operations.
         upper_bound_pos: Location<F>,
     },
 }

@@ -1,4 +1,4 @@
-//! Rows from outside, and each call that takes memory once.
+//! Examples written out by hand, and each call that takes memory once.
 use crate::{CompactTarget, EngineError, Request, Response, Target, advance_laws, equality_laws};
 use codec_base::{CodecError, EncodeSize, InvalidAt, ListOf, decode, encode};
 use std::alloc::Global;
@@ -27,17 +27,27 @@ fn targets_advance(rt: HostRuntime) -> Result<(), Fail> {
         assert!(rt; target.advances(&from) == want);
     }
     advance_laws::<Mmr, Sha256Digest>();
+    Ok(())
+}
+
+#[test]
+fn targets_go_both_ways(rt: HostRuntime) -> Result<(), Fail> {
+    let mut want = [7u8; 34];
+    want[32] = 10;
+    want[33] = 100;
+    let root = decode::<Sha256Digest>(rt.alloc(), &[7; 32], &())?;
+    let target = Target::<Mmr, Sha256Digest>::new(root, Location::new(10), Location::new(100));
+    let bytes = encode(rt.alloc(), &target)?;
+    assert!(rt; bytes.as_slice() == want.as_slice());
+    assert!(rt; target.encode_size() == 34);
+    assert!(rt; decode::<Target<Mmr, Sha256Digest>>(rt.alloc(), &want, &())? == target);
     equality_laws::<Mmr, Sha256Digest>();
-    let bytes = encode(rt.alloc(), &from)?;
-    assert!(rt; bytes.len() == 34);
-    assert!(rt; from.encode_size() == 34);
-    assert!(rt; decode::<Target<Mmr, Sha256Digest>>(rt.alloc(), bytes.as_slice(), &())? == from);
     Ok(())
 }
 
 #[test]
 fn targets_are_refused_by_their_first_fault(rt: HostRuntime) {
-    // Roots of zeros, and behind them 5 and 5, 0 and 2^62 + 1, and 0.
+    // Roots of zeros, and behind them 5 and 5, 0 and 2^62 + 1, 2^62 + 1 twice, and 0.
     let mut empty = [0u8; 34];
     empty[32] = 5;
     empty[33] = 5;
@@ -49,6 +59,14 @@ fn targets_are_refused_by_their_first_fault(rt: HostRuntime) {
     long[41] = 0x40;
     let end = decode::<Target<Mmb, Sha256Digest>>(rt.alloc(), &long, &());
     assert!(rt; end == Err(CodecError::Invalid(InvalidAt::Target)));
+    let mut both = [0x80u8; 50];
+    both[..32].copy_from_slice(&[0u8; 32]);
+    both[32] = 0x81;
+    both[40] = 0x40;
+    both[41] = 0x81;
+    both[49] = 0x40;
+    let first = decode::<Target<Mmb, Sha256Digest>>(rt.alloc(), &both, &());
+    assert!(rt; first == Err(CodecError::Invalid(InvalidAt::NonEmptyRange)));
     let size = decode::<CompactTarget<Mmb, Sha256Digest>>(rt.alloc(), &[0u8; 33], &());
     assert!(rt; size == Err(CodecError::Invalid(InvalidAt::CompactTarget)));
 }
