@@ -152,7 +152,6 @@ impl<F: Family, V: Codec> Read for Operation<F, V> {
     ghost lawful = { λ cfg. through_lawful parts of_parts of_parts_of (parts_of_parts _ _ _ _) V.Codec.spelling (V.Codec.admits cfg) (V.Codec.reads cfg) (V.Codec.lawful cfg) };
 
     fn read(alloc: Global, buf: &mut Cursor<'_>, cfg: &V::ReadCfg) -> Result<Self, CodecError> {
-        let operation = V::read_operation(alloc, buf, cfg)?;
-        Ok(operation)
+        V::read_operation(alloc, buf, cfg)
     }
 }

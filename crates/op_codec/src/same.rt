@@ -3,7 +3,7 @@ ghost use Rattle.std.specs.Bool.{Decides};
 
 use codec_base::{Bytes, U64};
 
-/// What is compared so that equal values are one.
+/// Equality that holds of a value and itself alone.
 pub trait Same: PartialEq {
     /// The comparison tells whether two values are one.
     ghost decides: { (a b : Self) → Decides (Self.eq a b) (a ≡ b) };

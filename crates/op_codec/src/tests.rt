@@ -1,5 +1,7 @@
-//! Rows from outside, and each call that takes memory once.
-use crate::{FixedEncoding, Key, OperationTrait, VariableEncoding, immutable, keyless};
+//! Examples written out by hand, and each call that takes memory once.
+use crate::{
+    Committable, FixedEncoding, Floored, Key, OperationTrait, VariableEncoding, immutable, keyless,
+};
 use codec_base::{
     Bytes, CodecError, Duplicate, EncodeSize, FixedSize, InvalidAt, LengthCfg, Read, U64, Write,
     decode, encode,
@@ -128,6 +130,73 @@ fn operations_of_a_mountain_belt_go_both_ways(rt: HostRuntime) -> Result<(), Fai
     Ok(())
 }
 
+/// The floor that an operation tells.
+fn told_floor<T: Floored<Mmr>>(op: &T) -> Option<u64> {
+    match op.has_floor() {
+        None => None,
+        Some(floor) => Some(floor.as_u64()),
+    }
+}
+
+/// Whether an operation tells that it is a commit.
+fn told_commit<T: Committable>(op: &T) -> bool {
+    op.is_commit()
+}
+
+/// Whether an operation tells a key of these raw bytes, or none.
+fn tells_key<T: OperationTrait<Mmr>>(op: &T, want: Option<&[u8]>) -> bool {
+    match (op.key(), want) {
+        (Some(key), Some(want)) => key.raw() == want,
+        (None, None) => true,
+        _ => false,
+    }
+}
+
+/// Whether an operation gives a key of these raw bytes, or none.
+fn gives_key<T: OperationTrait<Mmr>>(op: T, want: Option<&[u8]>) -> bool {
+    match (op.into_key(), want) {
+        (Some(key), Some(want)) => key.raw() == want,
+        (None, None) => true,
+        _ => false,
+    }
+}
+
+/// Whether an operation tells that it takes its key away, and whether that it gives its key a value.
+fn told_changes<T: OperationTrait<Mmr>>(op: &T) -> (bool, bool) {
+    (op.is_delete(), op.is_update())
+}
+
+#[test]
+fn keyless_operations_tell_their_parts(rt: HostRuntime) {
+    let append: Numbers = keyless::Operation::Append(U64::new(5));
+    assert!(rt; told_floor(&append) == None);
+    assert!(rt; !told_commit(&append));
+    assert!(rt; append.into_value() == Some(U64::new(5)));
+    let commit: Numbers = keyless::Operation::Commit(Some(U64::new(6)), Location::new(7));
+    assert!(rt; told_floor(&commit) == Some(7));
+    assert!(rt; told_commit(&commit));
+    assert!(rt; commit.into_value() == Some(U64::new(6)));
+    let bare: Numbers = keyless::Operation::Commit(None, Location::new(8));
+    assert!(rt; bare.into_value() == None);
+}
+
+#[test]
+fn immutable_operations_tell_their_parts(rt: HostRuntime) {
+    let key: Option<&[u8]> = Some(&[0, 0, 0, 0, 0, 0, 0, 1]);
+    let set: KeyedNumbers = immutable::Operation::Set(U64::new(1), U64::new(2));
+    assert!(rt; told_floor(&set) == None);
+    assert!(rt; !set.is_commit());
+    assert!(rt; tells_key(&set, key));
+    assert!(rt; told_changes(&set) == (false, true));
+    assert!(rt; gives_key(set, key));
+    let commit: KeyedNumbers = immutable::Operation::Commit(Some(U64::new(6)), Location::new(7));
+    assert!(rt; told_floor(&commit) == Some(7));
+    assert!(rt; commit.is_commit());
+    assert!(rt; tells_key(&commit, None));
+    assert!(rt; told_changes(&commit) == (false, false));
+    assert!(rt; gives_key(commit, None));
+}
+
 /// What a hasher makes of a value.
 fn hash_of<T: Hash>(value: &T) -> u64 {
     let mut hasher = DefaultHasher::new();
@@ -175,20 +244,30 @@ fn operations_are_ordered_and_hashed_by_their_fields(rt: HostRuntime) {
 #[test]
 fn fixed_encodings_are_refused_by_their_first_fault(rt: HostRuntime) {
     let none = ((), ());
-    let mut tagged = [0u8; 18];
-    tagged[0] = 0xff;
-    let tag = decode::<KeyedNumbers>(rt.alloc(), &tagged, &none);
+    // The whole length goes before the tag, and the tag before all the rest.
+    for bytes in [[0], [0xff]] {
+        let short = decode::<KeyedNumbers>(rt.alloc(), &bytes, &none);
+        assert!(rt; short == Err(CodecError::EndOfBuffer));
+    }
+    let tag = decode::<KeyedNumbers>(rt.alloc(), &[0xff; 18], &none);
     assert!(rt; tag == Err(CodecError::InvalidEnum(255)));
-    let short = decode::<KeyedNumbers>(rt.alloc(), &[0], &none);
-    assert!(rt; short == Err(CodecError::EndOfBuffer));
-    let mut padded = [0u8; 18];
-    padded[2] = 1;
-    let padding = decode::<Numbers>(rt.alloc(), &padded, &());
-    assert!(rt; padding == Err(CodecError::Invalid(InvalidAt::Padding)));
-    let mut flagged = [0u8; 18];
-    flagged[1] = 2;
-    let flag = decode::<Numbers>(rt.alloc(), &flagged, &());
-    assert!(rt; flag == Err(CodecError::Invalid(InvalidAt::Option)));
+    // Of commits: the option byte, the first of eight zeros, the first byte of the floor.
+    let refused = [
+        (2, 0, 0, InvalidAt::Option),
+        (0, 1, 0, InvalidAt::Padding),
+        (0, 0, 0xff, InvalidAt::Location),
+        (2, 1, 0, InvalidAt::Option),
+        (2, 0, 0xff, InvalidAt::Option),
+        (0, 1, 0xff, InvalidAt::Padding),
+    ];
+    for (option, zero, floor, want) in refused {
+        let mut bytes = [0u8; 18];
+        bytes[1] = option;
+        bytes[2] = zero;
+        bytes[10] = floor;
+        let refusal = decode::<Numbers>(rt.alloc(), &bytes, &());
+        assert!(rt; refusal == Err(CodecError::Invalid(want)));
+    }
 }
 
 #[test]

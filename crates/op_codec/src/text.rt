@@ -22,8 +22,7 @@ fn encoded_digits<T: Write>(alloc: Global, value: &T) -> Result<String, CodecErr
     ensures memory { IsOkUnless result CodecError.Memory }
 {
     let bytes = encode(alloc, value)?;
-    let digits = digits_of(alloc, bytes.as_slice())?;
-    Ok(digits)
+    digits_of(alloc, bytes.as_slice())
 }
 
 /// The text of an append.
