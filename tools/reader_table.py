@@ -1,4 +1,5 @@
-"""How often each answer comes when all byte strings of up to three bytes are decoded, by each reader.
+"""How often each answer comes when all byte strings of up to three bytes, bare or between zeros, are decoded by the
+readers of varints, byte lists, options, lists, operations and targets.
 
 Computed from the formats alone, by readers that share nothing with the program's. A reader is what waits for the next
 byte: a function that is given it and gives the next reader, or an answer. Where two bytes lead to the same reader,

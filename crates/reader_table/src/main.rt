@@ -1,4 +1,4 @@
-//! Prints how often each answer comes when all byte strings of up to three bytes are decoded, by each reader.
+//! Prints how often each answer comes when all byte strings of up to three bytes, bare or between zeros, are decoded by the readers of varints, byte lists, options, lists, operations and targets.
 #![tactic(auto)]
 
 ghost use Rattle.std.specs.Prelude.{◌≤◌};
@@ -20,11 +20,13 @@ type KeyedWords = immutable::Operation<Mmb, Bytes, VariableEncoding<u8>>;
 
 type KeyedBits = immutable::Operation<Mmr, U64, FixedEncoding<u8>>;
 
-/// The most zeros before the bytes that vary, and the most bytes with those and with the zeros behind them.
+/// The most zeros before the bytes that vary.
 const BEFORE: usize = 32;
 
+/// The most bytes up to the end of those that vary.
 const VARIED: usize = BEFORE + 3;
 
+/// The most bytes with the zeros behind those that vary.
 const ALL: usize = VARIED + 9;
 
 /// Decodes each string of this many bytes, with so many zeros before them and behind.
