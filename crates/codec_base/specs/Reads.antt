@@ -6,7 +6,8 @@ use Rattle.codec_base.specs.declared.error.CodecError.TheVariants.{EndOfBuffer, 
 use Rattle.codec_base.specs.Codec.{Reading, IsBytes, IsLawful, Gives, Fails}
 use Rattle.codec_base.specs.Parts.{whole}
 use Rattle.codec_base.specs.Laws.{done, ok_is}
-use Rattle.codec_base.specs.PartsLaws.{whole_exact, whole_again, append_nil}
+use Rattle.std.proofs.lemmas.List.{append-nil}
+use Rattle.codec_base.specs.PartsLaws.{whole_exact, whole_again}
 
 abbrev failed : {A : Type 0} → CodecError → Result A CodecError
 failed e = Err e
@@ -32,7 +33,7 @@ module _ {A : Type 0} (spelling : A → List ℕ) (admits : A → Type 0) (reads
       let w : whole (reads bytes) ≡ Ok x = ap (λ (b : List ℕ). whole (reads b)) e ∙ whole_again spelling admits reads lawful x allowed in
       rw w at h
 
-  -- ---- the laws of the documents
+  -- ---- the laws of spellings
 
   -- no byte string is the spelling of two values
   pub one_value : (x y : A) → admits x → admits y → spelling x ≡ spelling y → x ≡ y
@@ -47,7 +48,7 @@ module _ {A : Type 0} (spelling : A → List ℕ) (admits : A → Type 0) (reads
   pub no_front : (x y : A) (more : List ℕ) → admits x → admits y → spelling y ≡ spelling x ++ more → (x ≡ y) × (more ≡ [])
   no_front x y more hx hy e =
       let a = lawful.again x more hx in
-      let b = rw append_nil at (lawful.again y [] hy) in
+      let b = rw append-nil at (lawful.again y [] hy) in
       let c = ap reads e in
       let d : done (x, more) ≡ done (y, []) = sym a ∙ sym c ∙ b in
       let p = ok_is (x, more) (y, []) d in

@@ -10,7 +10,7 @@ pub trait Spelled {
     ghost spelling: { Self → List ℕ };
 }
 
-/// What can be written.
+/// What can be written as its spelling.
 pub trait Write: Spelled {
     /// Adds the spelling.
     fn write(&self, out: &mut Bytes) -> Result<(), CodecError>
@@ -26,7 +26,7 @@ pub trait EncodeSize: Spelled {
         ensures { result ≡ held (length (Self.spelling self.now)) };
 }
 
-/// What can be read.
+/// What can be read from its spelling.
 pub trait Read: Spelled + Sized {
     /// What is allowed.
     type Cfg: Drop;

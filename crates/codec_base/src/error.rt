@@ -7,15 +7,25 @@ use std::alloc::{AllocError, AllocFailed};
 /// What is invalid in a byte string.
 #[derive(Clone, Copy, Debug, PartialEq, Eq, Hash)]
 pub enum InvalidAt {
+    /// A varint of more groups than its number needs, or of a number past 2^64 - 1.
     Varint,
+    /// An option byte other than 0 and 1.
     Option,
+    /// More bytes or items than are allowed.
     Length,
+    /// A byte other than 0 where zeros stand.
     Padding,
+    /// A location above `MAX_LEAVES`.
     Location,
+    /// A range whose start isn't below its end.
     NonEmptyRange,
+    /// A target whose end is above `MAX_LEAVES`.
     Target,
+    /// A compact target whose size is 0 or above `MAX_LEAVES`.
     CompactTarget,
+    /// A witness that stands for no state.
     Witness,
+    /// Bytes behind the value.
     ExtraData,
 }
 

@@ -56,8 +56,7 @@ impl Spelled for U64 {
 
 impl Write for U64 {
     fn write(&self, out: &mut Bytes) -> Result<(), CodecError> {
-        self.get().write(out)?;
-        Ok(())
+        self.get().write(out)
     }
 }
 

@@ -12,8 +12,7 @@ impl Spelled for u8 {
 
 impl Write for u8 {
     fn write(&self, out: &mut Bytes) -> Result<(), CodecError> {
-        out.push(*self)?;
-        Ok(())
+        out.push(*self)
     }
 }
 
@@ -55,8 +54,7 @@ impl Spelled for u64 {
 
 impl Write for u64 {
     fn write(&self, out: &mut Bytes) -> Result<(), CodecError> {
-        out.extend_from_slice(&self.to_be_bytes())?;
-        Ok(())
+        out.extend_from_slice(&self.to_be_bytes())
     }
 }
 

@@ -13,13 +13,16 @@ use std::alloc::Global;
 /// The longest byte list that is allowed.
 #[derive(Clone, Copy, Debug, PartialEq, Eq)]
 pub struct LengthCfg {
+    /// The most bytes.
     pub max: u64,
 }
 
 /// The longest list that is allowed, and what its items may be.
 #[derive(Drop)]
 pub struct ListCfg<C> {
+    /// The most items.
     pub max: u64,
+    /// What is allowed of each item.
     pub item: C,
 }
 

@@ -22,8 +22,7 @@ fn groups_of(buf: &mut Cursor<'_>, more: u8, low: u8) -> Result<u64, CodecError>
         let high = groups_of(buf, more - 1, 1)?;
         return Ok(u64::from(byte - 128) + 128 * high);
     }
-    let value = last_of(byte, more, low)?;
-    Ok(value)
+    last_of(byte, more, low)
 }
 
 /// The number of a group that is the last.
@@ -54,8 +53,7 @@ fn put_groups(value: u64, more: u8, out: &mut Bytes) -> Result<(), CodecError>
     ensures memory { IsOkUnless result CodecError.Memory }
 {
     if value < 128 {
-        out.push(value as u8)?;
-        return Ok(());
+        return out.push(value as u8);
     }
     let length = out.len();
     out.push((value % 128) as u8 + 128)?;
@@ -95,8 +93,7 @@ pub fn write_varint(value: u64, out: &mut Bytes) -> Result<(), CodecError>
     ensures err { OnErr result (out.new ≡ out.old) }
     ensures memory { IsOkUnless result CodecError.Memory }
 {
-    put_groups(value, 9, out)?;
-    Ok(())
+    put_groups(value, 9, out)
 }
 
 /// The length of a number's spelling.
