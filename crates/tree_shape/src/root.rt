@@ -25,10 +25,16 @@ fn forward<H: Hasher>(hasher: &Standard<H>, first: H::Digest, others: &[H::Diges
 fn backward<H: Hasher>(hasher: &Standard<H>, first: H::Digest, others: &[H::Digest]) -> H::Digest
     ensures { result ≡ fold_backward H.hash first others.now }
 {
-    match others {
-        [] => first,
-        [second, rest @ ..] => hasher.fold(&first, &backward(hasher, *second, rest)),
+    if others.is_empty() {
+        return first;
     }
+    let mut i = others.len() - 1;
+    let mut folded = others[i];
+    while i > 0 {
+        i -= 1;
+        folded = hasher.fold(&others[i], &folded);
+    }
+    hasher.fold(&first, &folded)
 }
 
 fn bag<H: Hasher>(hasher: &Standard<H>, first: H::Digest, others: &[H::Digest]) -> H::Digest
