@@ -1,6 +1,5 @@
-//! Values from outside: roots made with another program's SHA-256, and the rows of the families' table.
+//! Values from outside: roots made with another program's SHA-256, and rows of the families' table.
 use super::*;
-use codec_base::{decode, encode};
 use std::test::Fail;
 
 /// Leaves, inactive peaks, whether the fold is from the left, root.
@@ -142,4 +141,30 @@ fn roots_of_the_examples(rt: HostRuntime) -> Result<(), Fail> {
     }
     inactive_law::<Mmb>();
     Ok(())
+}
+
+/// The numbers of nodes of 0 to 5 leaves, in the mountain range and in the belt.
+const SIZES: [(u64, u64); 6] = [(0, 0), (1, 1), (3, 3), (4, 4), (7, 6), (8, 8)];
+
+/// Leaves of the belt, and the heights of their peaks, the oldest first.
+const HEIGHTS: [(u64, &[u32]); 3] = [(3, &[1, 0]), (5, &[2, 0]), (11, &[3, 1, 0])];
+
+#[test]
+fn rows_of_the_table(rt: HostRuntime) {
+    for leaves in 0..6 {
+        let (range, belt) = SIZES[leaves];
+        assert_eq!(rt; Mmr::size(leaves as u64), range);
+        assert_eq!(rt; Mmb::size(leaves as u64), belt);
+    }
+    for (leaves, heights) in HEIGHTS {
+        assert!(rt; leaves <= 11);
+        let count = Mmb::peak_count(leaves);
+        assert_eq!(rt; count as usize, heights.len());
+        for i in 0..count {
+            assert_eq!(rt;
+                Mmb::peak_height(leaves, count - 1 - i),
+                heights[i as usize]
+            );
+        }
+    }
 }
