@@ -3,6 +3,7 @@ use Rattle.std.specs.Prelude.{◌≡◌, ℕ, ◌<◌, List, length, Option, Som
 use Rattle.tree_shape.specs.Hashing.{Hashing}
 use Rattle.tree_shape.specs.Shape.{Shape}
 use Rattle.tree_shape.specs.Slow.{nodes}
+use Rattle.volume_base.specs.declared.error.JournalError.TheVariants as journal
 use Rattle.tree_store.specs.declared.error.Error.{Error}
 use Rattle.tree_store.specs.declared.error.Error.TheVariants.{Volume, Memory, Journal, ElementPruned}
 
@@ -11,10 +12,12 @@ pub record IsTreeOf {D : Type 0} (s : Shape) (h : Hashing D) (leaves : List D) (
   pub count : n ≡ length leaves
   pub right : (p : ℕ) (d : D) → g p ≡ Some d → slice_get (nodes s h leaves) p ≡ Some d
 
--- a read was refused for want of memory, or by the volume, or by the journal below
+-- a read was refused for want of memory, or by the volume, or by the journal below; the first two are never wrapped
 abbrev pub IsReadFault : {F : Type 0} → Error F → Type 0
 IsReadFault Volume = Unit {0}
 IsReadFault Memory = Unit {0}
+IsReadFault (Journal journal.Volume) = ⊥
+IsReadFault (Journal journal.Memory) = ⊥
 IsReadFault (Journal error) = Unit {0}
 IsReadFault _ = ⊥
 

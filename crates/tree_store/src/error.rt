@@ -9,7 +9,9 @@ use volume_base::JournalError;
 /// What is wrong with the data of a stored tree.
 #[derive(Clone, Copy, Debug, PartialEq, Eq)]
 pub enum TreeData {
+    /// The pruning boundary isn't one.
     Boundary,
+    /// The digest at a position can't be read.
     Digest,
 }
 
@@ -45,7 +47,7 @@ pub enum Error<F> {
     UnsortedLocation(Location<F>),
     /// The node isn't there.
     MissingNode(Position<F>),
-    /// The number of pins isn't that of the peaks.
+    /// The number of pins isn't that of the peaks, or that of a proof's digests isn't that of its cover's nodes.
     InvalidPinnedNodes,
     /// The batch doesn't go on from this tree.
     StaleBatch,
@@ -56,9 +58,13 @@ pub enum Error<F> {
         /// The number of nodes of the tree.
         actual: Position<F>,
     },
+    /// The data of a stored tree is wrong.
     DataCorrupted(TreeData),
+    /// The journal below refused, not for want of memory and not by its volume.
     Journal(JournalError),
+    /// The volume failed.
     Volume,
+    /// There is no memory.
     Memory,
 }
 

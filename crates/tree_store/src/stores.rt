@@ -49,7 +49,7 @@ pub trait Storage<F: Family> {
         ensures size { result ≡ length (made F.shape (leaves self.now)) }
         ensures few { leaves self.now ≤ 2 ^ 62 };
 
-    /// The node at a position, where there is one.
+    /// The node at a position, where there is one. Nothing is promised at or past the size.
     fn get_node<V: Volume>(
         &self,
         vol: &mut V,
