@@ -6,7 +6,7 @@ use Rattle.std.proofs.lemmas.Bool.Decides.{eqb_tells, leb_tells}
 use Rattle.std.proofs.lemmas.Option.{slice_get-map}
 use Rattle.tree_shape.specs.Hashing.{Hashing}
 use Rattle.tree_shape.specs.Shape.{Shape, made, IsLawful}
-use Rattle.tree_shape.specs.Kept.{PeakIn, AtHand}
+use Rattle.tree_shape.specs.Kept.{PeakIn, IsPeakOrLater}
 use Rattle.tree_shape.specs.Slow.{node, node_of, peak_digests}
 use Rattle.tree_core.proofs.MemLemmas.{get-take}
 use Rattle.tree_core.specs.Pruned.{peaks_at, peak_found, held_at}
@@ -65,7 +65,7 @@ get_is_some (x ∷ xs) zero lt = refl
 get_is_some (x ∷ xs) (suc i) lt = get_is_some xs i (omega arith)
 
 -- what is at hand is held
-pub is_held : {D : Type 0} (s : Shape) (b : ℕ) (ps since : List D) (x k : ℕ) → IsLawful s → length ps ≡ length (s.heights b) → AtHand s b x k
+pub is_held : {D : Type 0} (s : Shape) (b : ℕ) (ps since : List D) (x k : ℕ) → IsLawful s → length ps ≡ length (s.heights b) → IsPeakOrLater s b x k
     → s.position x k < length (made s b) + length since → IsSome (held_at s b ps since x k)
 is_held s b ps since x k w l a lt = elim (le_tells (length (made s b)) (s.position x k)) [
   | inl t ↦ rw t.0 (get_is_some since (s.position x k - length (made s b)) (omega (arith, t.1)))
@@ -78,7 +78,7 @@ is_held s b ps since x k w l a lt = elim (le_tells (length (made s b)) (s.positi
 -- and is the slow node
 pub held_right : {D : Type 0} (s : Shape) (h : Hashing D) (leaves : List D) (b : ℕ) (ps since : List D) (cs : List (ℕ × ℕ)) (x k : ℕ) → IsLawful s
     → ps ≡ peaks_at s h leaves b → since ≡ map (node_of s h leaves) (take (length since) cs)
-    → AtHand s b x k → s.position x k < length (made s b) + length since
+    → IsPeakOrLater s b x k → s.position x k < length (made s b) + length since
     → (length (made s b) ≤ s.position x k → slice_get cs (s.position x k - length (made s b)) ≡ Some (x, k))
     → held_at s b ps since x k ≡ Some (node s h leaves x k)
 held_right s h leaves b ps since cs x k w ep told a lt at = elim (le_tells (length (made s b)) (s.position x k)) [

@@ -8,7 +8,7 @@ use Rattle.tree_shape.specs.Hashing.{Hashing, node_input}
 use Rattle.tree_shape.specs.Shape.{Shape, made, Stands, ChildrenStand, PeaksStand, IsLawful}
 use Rattle.tree_shape.specs.Places.{get-append}
 use Rattle.tree_shape.specs.MmrPlaces.{append_nil}
-use Rattle.tree_shape.specs.Kept.{PeakIn, PeakOf, AtHand, KeepsPeaks}
+use Rattle.tree_shape.specs.Kept.{PeakIn, PeakOf, IsPeakOrLater, KeepsPeaks}
 use Rattle.tree_shape.specs.Slow.{leaf_at, node, node_of, nodes, peak_digests}
 use Rattle.tree_shape.proofs.NeededLemmas.{first, second, side_of, leaf_position, at_hand_back}
 use Rattle.tree_core.proofs.MemLemmas.{node-append, map-nodes-append}
@@ -111,7 +111,7 @@ same_later s h M N b j w q leaves peaks (suc k) x i e =
           ap (λ d. h.digest (node_input h (s.position x (suc k)) d (node s h M (x + 2 ^ k) k))) left ∙ ap (λ d. h.digest (node_input h (s.position x (suc k)) (node s h N x k) d)) right
     ]
   where
-    child : ((y m : ℕ) → slice_get (made_from s b j) m ≡ Some (y, k) → node s h M y k ≡ node s h N y k) → (y : ℕ) → Stands (made s (b + j)) (s.position y k) y k → AtHand s b y k → node s h M y k ≡ node s h N y k
+    child : ((y m : ℕ) → slice_get (made_from s b j) m ≡ Some (y, k) → node s h M y k ≡ node s h N y k) → (y : ℕ) → Stands (made s (b + j)) (s.position y k) y k → IsPeakOrLater s b y k → node s h M y k ≡ node s h N y k
     child later y stands a = elim a [
       | inl late ↦ later y (s.position y k - length (made s b)) (since_stands s b j (s.position y k) y k (let l = leaf_position s w b in omega (arith, late, l)) stands)
       | inr peak ↦ peaks y k peak
@@ -148,13 +148,13 @@ pub peaks_after : {D : Type 0} (s : Shape) (h : Hashing D) (M N : List D) (b j :
     → peaks_at s h M (b + j) ≡ peaks_at s h N (b + j)
 peaks_after s h M N b j w q leaves peaks = along (b + j) (s.heights (b + j)) (w.peaks (b + j)) (λ x k p. at_hand_back s w q b j x k (inr p))
   where
-    one : (x k : ℕ) → Stands (made s (b + j)) (s.position x k) x k → AtHand s b x k → node s h M x k ≡ node s h N x k
+    one : (x k : ℕ) → Stands (made s (b + j)) (s.position x k) x k → IsPeakOrLater s b x k → node s h M x k ≡ node s h N x k
     one x k stands a = elim a [
       | inl late ↦ same_later s h M N b j w q leaves (peaks_same s h M N b (s.heights b) peaks) k x (s.position x k - length (made s b)) (since_stands s b j (s.position x k) x k (let l = leaf_position s w b in omega (arith, late, l)) stands)
       | inr peak ↦ peaks_same s h M N b (s.heights b) peaks x k peak
     ]
 
-    along : (e : ℕ) (hs : List ℕ) → PeaksStand s (made s (b + j)) e hs → ((x k : ℕ) → PeakIn e hs x k → AtHand s b x k) → peak_digests s h M e hs ≡ peak_digests s h N e hs
+    along : (e : ℕ) (hs : List ℕ) → PeaksStand s (made s (b + j)) e hs → ((x k : ℕ) → PeakIn e hs x k → IsPeakOrLater s b x k) → peak_digests s h M e hs ≡ peak_digests s h N e hs
     along e [] p near = refl
     along e (c ∷ cs) p near = rw (one (e - 2 ^ c) c p.1 (near (e - 2 ^ c) c (inl (refl, refl))), along (e - 2 ^ c) cs p.2 (λ x k i. near x k (inr i))) refl
 

@@ -7,7 +7,7 @@ use Rattle.std.proofs.Math.Seq.{take-length, take-append_seam}
 use Rattle.tree_shape.specs.Places.{get-behind}
 use Rattle.tree_shape.specs.Hashing.{Hashing, node_input}
 use Rattle.tree_shape.specs.Shape.{Shape, made, Stands, ChildrenStand, PeaksStand, IsLawful}
-use Rattle.tree_shape.specs.Kept.{PeakIn, PeakOf, AtHand, KeepsPeaks}
+use Rattle.tree_shape.specs.Kept.{PeakIn, PeakOf, IsPeakOrLater, KeepsPeaks}
 use Rattle.tree_shape.specs.Slow.{node, node_of}
 use Rattle.tree_core.proofs.MemLemmas.{take-next}
 use Rattle.tree_shape.proofs.NodeLemmas.{node-from_halves}
@@ -28,7 +28,7 @@ parent_since s b j i x k len e q =
     rw (add-one, q, r) (get_past (made_from s b j) ((b + j, 0) ∷ s.parents (b + j)) (suc i) ∙ sym e)
 
 pub record Child (s : Shape) (b j len y c : ℕ) : Type 0 where
-  pub hand : AtHand s b y c
+  pub hand : IsPeakOrLater s b y c
   pub before : s.position y c < length (made s b) + len
   pub stands : length (made s b) ≤ s.position y c → slice_get (made_from s b (j + 1)) (s.position y c - length (made s b)) ≡ Some (y, c)
 

@@ -12,7 +12,7 @@ use Rattle.std.proofs.lemmas.Option.{slice_get_within}
 use Rattle.tree_shape.specs.Hashing.{Hashing}
 use Rattle.tree_shape.specs.Shape.{Shape, made, Stands, PeaksStand, peaks, peaks_down, IsLawful}
 use Rattle.tree_shape.specs.Slow.{leaf, node_of}
-use Rattle.tree_shape.specs.Kept.{PeakOf, PeakIn, AtHand, KeepsPeaks}
+use Rattle.tree_shape.specs.Kept.{PeakOf, PeakIn, IsPeakOrLater, KeepsPeaks}
 use Rattle.tree_shape.specs.Needed.{IsNeeded}
 use Rattle.tree_shape.specs.Pins.{base}
 use Rattle.tree_shape.specs.Places.{get-behind}
@@ -158,7 +158,7 @@ module _ (s : Shape) (w : IsLawful s) (q : KeepsPeaks s) (n a : ℕ) (few : a �
   AreMade ps = AllByRecursion (λ p. Made p.0 p.1) ps
 
   -- what is at hand and ends by a is made of pins
-  at-hand-made : (i x k : ℕ) → Stands (made s n) i x k → x + 2 ^ k ≤ a → AtHand s a x k → Made x k
+  at-hand-made : (i x k : ℕ) → Stands (made s n) i x k → x + 2 ^ k ≤ a → IsPeakOrLater s a x k → Made x k
   at-hand-made i x zero st le hand = elim hand [
     | inr peak ↦ ap not (peak-tells a hs x 0 peak)
     | inl late ↦ absurd (let before = made_le s (suc x) a (omega (arith, le)) in omega (arith, late, leaf_position s w x, leaf_position s w a, leaf-within s x, before))

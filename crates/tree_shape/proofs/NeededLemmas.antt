@@ -5,7 +5,7 @@ use Rattle.std.proofs.lemmas.Bool.{cases_lt}
 use Rattle.std.proofs.lemmas.Option.{some_pair_parts, slice_get_within}
 use Rattle.tree_shape.specs.Shape.{Shape, made, Stands, IsLawful}
 use Rattle.tree_shape.specs.Places.{get-append, get-behind}
-use Rattle.tree_shape.specs.Kept.{PeakOf, AtHand, KeepsPeaks}
+use Rattle.tree_shape.specs.Kept.{PeakOf, IsPeakOrLater, KeepsPeaks}
 use Rattle.tree_shape.specs.Needed.{IsNeeded, IsChildPast}
 
 -- a place of a joined list is one of the first list or of the second
@@ -46,8 +46,8 @@ pub made_le : (s : Shape) (b n : ℕ) → b ≤ n → length (made s b) ≤ leng
 made_le s b n le = let q : b + (n - b) ≡ n = omega arith in let e : length (made s (b + (n - b))) ≡ length (made s n) = ap (λ m. length (made s m)) q in omega (arith, e, made_longer s b (n - b))
 
 -- what is a peak later, or stands late, is at hand before
-pub at_hand_back : (s : Shape) → IsLawful s → KeepsPeaks s → (b t x k : ℕ) → AtHand s (b + t) x k → AtHand s b x k
-at_hand_back s w q b zero x k a = let P : ℕ → Type 0 = λ n. AtHand s n x k in let e : b + 0 ≡ b = omega arith in subst P e a
+pub at_hand_back : (s : Shape) → IsLawful s → KeepsPeaks s → (b t x k : ℕ) → IsPeakOrLater s (b + t) x k → IsPeakOrLater s b x k
+at_hand_back s w q b zero x k a = let P : ℕ → Type 0 = λ n. IsPeakOrLater s n x k in let e : b + 0 ≡ b = omega arith in subst P e a
 at_hand_back s w q b (suc t) x k a = elim a [
   | inl late ↦ inl (let pb = leaf_position s w b in let pn = leaf_position s w (b + suc t) in let le = made_le s b (b + suc t) (omega arith) in omega (arith, late, pb, pn, le))
   | inr peak ↦ let P : ℕ → Type 0 = λ n. PeakOf s n x k in let e : b + suc t ≡ suc (b + t) = omega arith in at_hand_back s w q b t x k (q.peaks (b + t) x k (subst P e peak))
@@ -84,13 +84,13 @@ stands_here s m j x k e = past (made s m)
 made_here : (s : Shape) → IsLawful s → (m j x k : ℕ) → slice_get (s.parents m) j ≡ Some (x, k) → x + 2 ^ k ≤ suc m
 made_here s w m j x k e = (w.well_made (suc m)).within (length (made s m) + suc j) x k (stands_here s m j x k e)
 
-child_at_hand : (s : Shape) → IsLawful s → KeepsPeaks s → (m j y x k : ℕ) → slice_get (s.parents m) j ≡ Some (y, suc k) → (x ≡ y) ⊎ (x ≡ y + 2 ^ k) → AtHand s m x k
-child_at_hand s w q m j y x k e side = let P : ℕ → Type 0 = λ z. AtHand s m z k in elim side [
+child_at_hand : (s : Shape) → IsLawful s → KeepsPeaks s → (m j y x k : ℕ) → slice_get (s.parents m) j ≡ Some (y, suc k) → (x ≡ y) ⊎ (x ≡ y + 2 ^ k) → IsPeakOrLater s m x k
+child_at_hand s w q m j y x k e side = let P : ℕ → Type 0 = λ z. IsPeakOrLater s m z k in elim side [
   | inl l ↦ subst P (sym l) (q.left m j y k e)
   | inr r ↦ subst P (sym r) (q.right m j y k e)
 ]
 
-pub needed : (s : Shape) → IsLawful s → KeepsPeaks s → (n b x h : ℕ) → b ≤ n → IsNeeded s n b x h → AtHand s b x h
+pub needed : (s : Shape) → IsLawful s → KeepsPeaks s → (n b x h : ℕ) → b ≤ n → IsNeeded s n b x h → IsPeakOrLater s b x h
 needed s w q n b x h le need = elim need [
   | inl peak ↦ back n le (inr peak)
   | inr c ↦ elim (made_by s n c.place c.start h c.parent) [
@@ -98,8 +98,8 @@ needed s w q n b x h le need = elim need [
   ]
 ]
   where
-    back : (m : ℕ) → b ≤ m → AtHand s m x h → AtHand s b x h
-    back m bm a = let P : ℕ → Type 0 = λ n. AtHand s n x h in let e : m ≡ b + (m - b) = omega arith in at_hand_back s w q b (m - b) x h (subst P e a)
+    back : (m : ℕ) → b ≤ m → IsPeakOrLater s m x h → IsPeakOrLater s b x h
+    back m bm a = let P : ℕ → Type 0 = λ n. IsPeakOrLater s n x h in let e : m ≡ b + (m - b) = omega arith in at_hand_back s w q b (m - b) x h (subst P e a)
 
 -- by the position where b leaves end
 pub needed_from : (s : Shape) → IsLawful s → KeepsPeaks s → (n b x h : ℕ) → b ≤ n → IsNeeded s n b x h → (length (made s b) ≤ s.position x h) ⊎ PeakOf s b x h
@@ -119,11 +119,11 @@ came_after s w b m j x k e late = elim (cases_lt m b) [
   | inr le ↦ le
 ]
 
-at_hand_before : (s : Shape) → IsLawful s → KeepsPeaks s → (b m x k : ℕ) → b ≤ m → AtHand s m x k → AtHand s b x k
-at_hand_before s w q b m x k le a = let P : ℕ → Type 0 = λ n. AtHand s n x k in let e : m ≡ b + (m - b) = omega arith in at_hand_back s w q b (m - b) x k (subst P e a)
+at_hand_before : (s : Shape) → IsLawful s → KeepsPeaks s → (b m x k : ℕ) → b ≤ m → IsPeakOrLater s m x k → IsPeakOrLater s b x k
+at_hand_before s w q b m x k le a = let P : ℕ → Type 0 = λ n. IsPeakOrLater s n x k in let e : m ≡ b + (m - b) = omega arith in at_hand_back s w q b (m - b) x k (subst P e a)
 
 -- so its halves are at hand there
-pub late_halves : (s : Shape) → IsLawful s → KeepsPeaks s → (n b i x k : ℕ) → Stands (made s n) i x (suc k) → s.position b 0 ≤ s.position x (suc k) → AtHand s b x k × AtHand s b (x + 2 ^ k) k
+pub late_halves : (s : Shape) → IsLawful s → KeepsPeaks s → (n b i x k : ℕ) → Stands (made s n) i x (suc k) → s.position b 0 ≤ s.position x (suc k) → IsPeakOrLater s b x k × IsPeakOrLater s b (x + 2 ^ k) k
 late_halves s w q n b i x k st late = elim (made_by s n i x k st) [
   | by m j lt e ↦ let after = came_after s w b m j x (suc k) e late in (at_hand_before s w q b m x k after (q.left m j x k e), at_hand_before s w q b m (x + 2 ^ k) k after (q.right m j x k e))
 ]

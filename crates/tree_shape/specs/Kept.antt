@@ -11,12 +11,12 @@ abbrev pub PeakOf : Shape → ℕ → ℕ → ℕ → Type 0
 PeakOf s n x h = PeakIn n (s.heights n) x h
 
 -- it is a peak of n leaves, or stands behind their nodes
-abbrev pub AtHand : Shape → ℕ → ℕ → ℕ → Type 0
-AtHand s n x h = (s.position n 0 ≤ s.position x h) ⊎ PeakOf s n x h
+abbrev pub IsPeakOrLater : Shape → ℕ → ℕ → ℕ → Type 0
+IsPeakOrLater s n x h = (s.position n 0 ≤ s.position x h) ⊎ PeakOf s n x h
 
 pub record KeepsPeaks (s : Shape) : Type 0 where
   -- a peak after an append is new, or was a peak before
-  pub peaks : (n x h : ℕ) → PeakOf s (suc n) x h → AtHand s n x h
+  pub peaks : (n x h : ℕ) → PeakOf s (suc n) x h → IsPeakOrLater s n x h
   -- an append reads peaks and what it has made
-  pub left : (n i x k : ℕ) → slice_get (s.parents n) i ≡ Some (x, suc k) → AtHand s n x k
-  pub right : (n i x k : ℕ) → slice_get (s.parents n) i ≡ Some (x, suc k) → AtHand s n (x + 2 ^ k) k
+  pub left : (n i x k : ℕ) → slice_get (s.parents n) i ≡ Some (x, suc k) → IsPeakOrLater s n x k
+  pub right : (n i x k : ℕ) → slice_get (s.parents n) i ≡ Some (x, suc k) → IsPeakOrLater s n (x + 2 ^ k) k

@@ -9,7 +9,7 @@ use Rattle.tree_shape.specs.Shape.{made, PeaksStand}
 use Rattle.tree_shape.specs.Mmb.{merged, merge, mmb_heights, mmb_size, mmb_position, mmb}
 use Rattle.tree_shape.specs.MmbPlaces.{HasForm, mmb_heights_have_form, mmb_lawful}
 use Rattle.tree_shape.specs.MmrKept.{at_end}
-use Rattle.tree_shape.specs.Kept.{PeakIn, PeakOf, AtHand, KeepsPeaks}
+use Rattle.tree_shape.specs.Kept.{PeakIn, PeakOf, IsPeakOrLater, KeepsPeaks}
 
 -- there is room for these peaks below e
 Fits : ℕ → List ℕ → Type 0
@@ -102,7 +102,7 @@ before_append : (n : ℕ) → Fits (suc n - 2 ^ 0) (mmb_heights n)
 before_append n = let F : ℕ → Type 0 = λ j. Fits j (mmb_heights n) in let e : n ≡ suc n - 2 ^ 0 = omega arith in subst F e (mmb_fits n)
 
 -- a peak of n leaves, or leaf n
-with_leaf : (n x h : ℕ) → PeakIn (suc n) (0 ∷ mmb_heights n) x h → AtHand mmb n x h
+with_leaf : (n x h : ℕ) → PeakIn (suc n) (0 ∷ mmb_heights n) x h → IsPeakOrLater mmb n x h
 with_leaf n x h p =
     let e : suc n - 2 ^ 0 ≡ n = omega arith in
     elim p [
@@ -110,14 +110,14 @@ with_leaf n x h p =
       | inr old ↦ inr (at_end (suc n - 2 ^ 0) n (mmb_heights n) x h e old)
     ]
 
-peaks_kept : (n x h : ℕ) → PeakOf mmb (suc n) x h → AtHand mmb n x h
+peaks_kept : (n x h : ℕ) → PeakOf mmb (suc n) x h → IsPeakOrLater mmb n x h
 unfolding mmb_heights
 peaks_kept n x h p = elim (merged_peaks n (suc n) 0 (mmb_heights n) x h (omega arith) (mmb_heights_have_form n) (omega arith) (before_append n) p) [
   | inl new ↦ inl new
   | inr old ↦ with_leaf n x h old
 ]
 
-children_kept : (n i x k : ℕ) → slice_get (mmb.parents n) i ≡ Some (x, suc k) → AtHand mmb n x k × AtHand mmb n (x + 2 ^ k) k
+children_kept : (n i x k : ℕ) → slice_get (mmb.parents n) i ≡ Some (x, suc k) → IsPeakOrLater mmb n x k × IsPeakOrLater mmb n (x + 2 ^ k) k
 children_kept n i x k s =
     let one : n + 1 ≡ suc n = omega arith in
     let r = merge_children (suc n) 0 (mmb_heights n) i x k (omega arith) (before_append n) (ap (λ m. slice_get (merge m 0 (mmb_heights n)) i) (sym one) ∙ s) in

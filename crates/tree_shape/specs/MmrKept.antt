@@ -6,7 +6,7 @@ use Rattle.std.proofs.lemmas.Option.{some_pair_parts}
 use Rattle.tree_shape.specs.Shape.{made, PeaksStand}
 use Rattle.tree_shape.specs.Mmr.{joined, joins, mmr_heights, mmr_size, mmr}
 use Rattle.tree_shape.specs.MmrPlaces.{mmr_lawful}
-use Rattle.tree_shape.specs.Kept.{PeakIn, PeakOf, AtHand, KeepsPeaks}
+use Rattle.tree_shape.specs.Kept.{PeakIn, PeakOf, IsPeakOrLater, KeepsPeaks}
 
 -- there is room for these peaks below e
 pub Fits : ℕ → List ℕ → Type 0
@@ -91,7 +91,7 @@ mmr_fits n = peaks_fit (made mmr n) n (mmr_heights n) (mmr_lawful.peaks n)
 before_append : (n : ℕ) → Fits (suc n - 2 ^ 0) (mmr_heights n)
 before_append n = let F : ℕ → Type 0 = λ j. Fits j (mmr_heights n) in let e : n ≡ suc n - 2 ^ 0 = omega arith in subst F e (mmr_fits n)
 
-peaks_kept : (n x h : ℕ) → PeakOf mmr (suc n) x h → AtHand mmr n x h
+peaks_kept : (n x h : ℕ) → PeakOf mmr (suc n) x h → IsPeakOrLater mmr n x h
 unfolding mmr_heights
 peaks_kept n x h p =
     let e : suc n - 2 ^ 0 ≡ n = omega arith in
