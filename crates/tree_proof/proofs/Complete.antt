@@ -10,13 +10,13 @@ use Rattle.tree_shape.specs.Hashing.{Hashing, node_input}
 use Rattle.tree_shape.specs.Shape.{Shape, peaks}
 use Rattle.tree_shape.specs.Slow.{leaf, leaf_at, leaf_digests, node, node_of}
 use Rattle.tree_shape.specs.Root.{root}
-use Rattle.tree_proof.specs.Cover.{Met, meets, cover_in, cover_over}
+use Rattle.tree_proof.specs.Cover.{Opened, meets, cover_in, cover_over}
 use Rattle.tree_proof.specs.Check.{next_of, joined_by, rebuilt, rebuilt_over, all_used, wholly_rebuilt, item_leaf, Checks}
 use Rattle.tree_proof.specs.SlowProof.{IsRange, slow_proof}
 use Rattle.tree_proof.proofs.RebuildLemmas.{meets_leaf, append_nil}
 
 -- of a tree that has the leaves that are met and hashes each node that is met from its halves
-module _ {D : Type 0} (s : Shape) (h : Hashing D) (met : Met) (leaf_of : ℕ → D) (tree : ℕ → ℕ → D) (right : (x : ℕ) → met x 0 ≡ true → leaf_of x ≡ tree x 0)
+module _ {D : Type 0} (s : Shape) (h : Hashing D) (met : Opened) (leaf_of : ℕ → D) (tree : ℕ → ℕ → D) (right : (x : ℕ) → met x 0 ≡ true → leaf_of x ≡ tree x 0)
     (joins : (x k : ℕ) → met x (suc k) ≡ true → h.digest (node_input h (s.position x (suc k)) (tree x k) (tree (x + 2 ^ k) k)) ≡ tree x (suc k)) where
   abbrev at_node : ℕ × ℕ → D
   at_node p = tree p.0 p.1
@@ -78,7 +78,7 @@ module _ {D : Type 0} (s : Shape) (h : Hashing D) (met : Met) (leaf_of : ℕ →
       ap (option_and_then (λ q. all_used q.0 q.1)) f
 
 -- such a tree is that of a list
-pub wholly_rebuilt-cover : {D : Type 0} (s : Shape) (h : Hashing D) (leaves : List D) (met : Met) (leaf_of : ℕ → D) → ((x : ℕ) → met x 0 ≡ true → leaf_of x ≡ leaf_at h leaves x)
+pub wholly_rebuilt-cover : {D : Type 0} (s : Shape) (h : Hashing D) (leaves : List D) (met : Opened) (leaf_of : ℕ → D) → ((x : ℕ) → met x 0 ≡ true → leaf_of x ≡ leaf_at h leaves x)
     → (ps : List (ℕ × ℕ)) → wholly_rebuilt s h met leaf_of ps (map (node_of s h leaves) (cover_over met ps)) ≡ Some (map (node_of s h leaves) ps)
 unfolding node
 wholly_rebuilt-cover s h leaves met leaf_of right ps = tree_rebuilt s h met leaf_of (node s h leaves) right (λ x k m. refl) ps

@@ -6,7 +6,7 @@ use Rattle.tree_shape.specs.Hashing.{Hashing}
 use Rattle.tree_shape.specs.Shape.{Shape, peaks}
 use Rattle.tree_shape.specs.Root.{root_over}
 use Rattle.tree_proof.specs.declared.proof.Proof.{Proof}
-use Rattle.tree_proof.specs.Cover.{Met, meets, cover_in, cover_over, cover}
+use Rattle.tree_proof.specs.Cover.{Opened, meets, cover_in, cover_over, cover}
 use Rattle.tree_proof.specs.Check.{next_of, joined_by, rebuilt, before, rebuilt_over, all_used, wholly_rebuilt, item_leaf, Checks}
 
 -- the value of a step that gave one
@@ -18,7 +18,7 @@ pub some_map : {A B : Type 0} (f : A → B) (r : Option A) (y : B) → option_ma
 some_map f None y e = absurd (cc)
 some_map f (Some x) y e = (x, refl, cc)
 
-module _ {D : Type 0} (s : Shape) (h : Hashing D) (met : Met) (leaf_of : ℕ → D) where
+module _ {D : Type 0} (s : Shape) (h : Hashing D) (met : Opened) (leaf_of : ℕ → D) where
   abbrev some_pair : D → List D → Option (D × List D)
   some_pair d ds = Some (d, ds)
 

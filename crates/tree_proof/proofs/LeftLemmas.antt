@@ -7,7 +7,7 @@ use Rattle.std.proofs.lemmas.List.Elements.{filter-append}
 use Rattle.std.proofs.lemmas.Nat.{pow_pos}
 use Rattle.tree_shape.specs.Shape.{Shape, peaks, ends_by}
 use Rattle.tree_shape.proofs.NodeLemmas.{low_height}
-use Rattle.tree_proof.specs.Cover.{Met, meets, cover_in, cover_over}
+use Rattle.tree_proof.specs.Cover.{Opened, meets, cover_in, cover_over}
 use Rattle.tree_proof.specs.Pinned.{left_of}
 use Rattle.tree_proof.specs.Left.{left_in}
 use Rattle.tree_proof.proofs.CoverSteps.{cover_in-outside, cover_in-halves}
@@ -46,7 +46,7 @@ left-halves a x k half old mid more lt past pos e l r =
 -- ---- they are those of the cover
 
 -- nothing from a leaf on ends before it
-nothing-left : (met : Met) (a x k : ℕ) → a ≤ x → left_of a (cover_in met x k) ≡ []
+nothing-left : (met : Opened) (a x k : ℕ) → a ≤ x → left_of a (cover_in met x k) ≡ []
 unfolding cover_in
 nothing-left met a x zero le = at (met x 0)
   where

@@ -8,13 +8,13 @@ use Rattle.tree_shape.specs.Hashing.{Hashing, node_input}
 use Rattle.tree_shape.specs.Shape.{Shape, made, PeaksStand, peaks, peaks_down}
 use Rattle.tree_shape.specs.Slow.{leaf, leaf_at, leaf_digests, node, node_of}
 use Rattle.tree_shape.specs.Root.{root, root_over}
-use Rattle.tree_proof.specs.Cover.{Met}
+use Rattle.tree_proof.specs.Cover.{Opened}
 use Rattle.tree_proof.specs.Inputs.{Clash, input_of, element_of, slow_inputs, tree_inputs}
 use Rattle.tree_proof.proofs.Complete.{length-leaf_digests, leaf_digests-at}
 use Rattle.tree_proof.proofs.Clashes.{leaf_input_is, AllIn, OrClash, and_then, same_or_clash, in_first, in_rest, in_left, in_right, roots_is}
 use Rattle.tree_proof.proofs.Soundness.{sized_node, node_input_is, Shown, both_shown, Within, sized_nodes, covered, peaks_within, all_reverse, few_peaks}
 
-abbrev everywhere : Met
+abbrev everywhere : Opened
 everywhere x k = true
 
 module _ {D : Type 0} (s : Shape) (h : Hashing D) (inputs : List (List ℕ)) (size : ℕ) (exact : (a b : D) → h.bytes a ≡ h.bytes b → a ≡ b) (one_size : (m : List ℕ) → length (h.bytes (h.digest m)) ≡ size)

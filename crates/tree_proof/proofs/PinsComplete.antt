@@ -20,7 +20,7 @@ use Rattle.tree_shape.proofs.NodeLemmas.{length-peaks}
 use Rattle.tree_shape.proofs.NeededLemmas.{leaf_position, made_le, needed, late_halves}
 use Rattle.tree_shape.proofs.PinLemmas.{base-next, base-end}
 use Rattle.tree_proof.specs.declared.proof.Proof.{Proof}
-use Rattle.tree_proof.specs.Cover.{Met, meets, cover_in, cover_over, cover}
+use Rattle.tree_proof.specs.Cover.{Opened, meets, cover_in, cover_over, cover}
 use Rattle.tree_proof.specs.Check.{next_of, joined_by, rebuilt, before, rebuilt_over, all_used, wholly_rebuilt}
 use Rattle.tree_proof.specs.Pinned.{is_peak, above_pins, left_of, HasPins}
 use Rattle.tree_proof.specs.Left.{left_in}
@@ -182,7 +182,7 @@ module _ (s : Shape) (w : IsLawful s) (q : KeepsPeaks s) (n a : â„•) (few : a â‰
   both-tile e f g ps qs l r = (tiles-append e f g ps qs l.0 r.0, all_split (IsPin a hs) ps qs l.1 r.1)
 
   -- no leaf is asked for, so it is the same where none is met
-  abbrev pub above : Met
+  abbrev pub above : Opened
   above x zero = false
   above x (suc k) = above_pins s a x (suc k)
 

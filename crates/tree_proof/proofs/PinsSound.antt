@@ -11,7 +11,7 @@ use Rattle.tree_shape.specs.Slow.{leaf, leaf_digests, node_of}
 use Rattle.tree_shape.specs.Root.{root}
 use Rattle.tree_shape.specs.Kept.{KeepsPeaks}
 use Rattle.tree_proof.specs.declared.proof.Proof.{Proof}
-use Rattle.tree_proof.specs.Cover.{Met, meets, cover, cover_over}
+use Rattle.tree_proof.specs.Cover.{Opened, meets, cover, cover_over}
 use Rattle.tree_proof.specs.Check.{rebuilt_over, all_used, wholly_rebuilt, Checks}
 use Rattle.tree_proof.specs.Inputs.{slow_inputs, tree_inputs, from_some, leaf_by, rebuilt_inputs, rebuilt_over_inputs, proof_inputs, pin_inputs, ShowsPins}
 use Rattle.tree_proof.specs.Left.{left_in}
@@ -42,7 +42,7 @@ module _ {D : Type 0} (s : Shape) (w : IsLawful s) (q : KeepsPeaks s) (h : Hashi
   abbrev no_item : ℕ → List ℕ
   no_item x = []
 
-  abbrev hashed_above : Met
+  abbrev hashed_above : Opened
   hashed_above = above s w q (length elements) a few
 
   abbrev slow_of : ℕ × ℕ → List (List ℕ)
@@ -136,7 +136,7 @@ module _ {F D : Type 0} (s : Shape) (w : IsLawful s) (q : KeepsPeaks s) (h : Has
   abbrev slow : ℕ × ℕ → D
   slow = node_of s h (leaf_digests s h elements)
 
-  abbrev met : Met
+  abbrev met : Opened
   met = meets a (a + length items)
 
   in_tree : AllIn h inputs size exact one_size tree

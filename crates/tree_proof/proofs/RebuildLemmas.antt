@@ -4,7 +4,7 @@ use Rattle.std.specs.Option.{option_and_then}
 use Rattle.std.proofs.lemmas.Bool.Decides.{nat_tests}
 use Rattle.tree_shape.specs.Hashing.{Hashing, node_input}
 use Rattle.tree_shape.specs.Shape.{Shape}
-use Rattle.tree_proof.specs.Cover.{Met, meets}
+use Rattle.tree_proof.specs.Cover.{Opened, meets}
 use Rattle.tree_proof.specs.Check.{next_of, joined_by, rebuilt, before, rebuilt_over, all_used, wholly_rebuilt}
 
 pub meets_leaf : (a b x k : ℕ) → k ≡ 0 → meets a b x k ≡ true → (a ≤ x) × (x < b)
@@ -20,7 +20,7 @@ prepended-before : {D : Type 0} (acc : List D) (d : D) (r : Option (List D × Li
 prepended-before acc d None = refl
 prepended-before acc d (Some r) = ap (λ xs. Some (xs, r.1)) (sym (append_assoc acc (d ∷ []) r.0))
 
-module _ {D : Type 0} (s : Shape) (h : Hashing D) (met : Met) (leaf_of : ℕ → D) where
+module _ {D : Type 0} (s : Shape) (h : Hashing D) (met : Opened) (leaf_of : ℕ → D) where
   pub rebuilt-outside : (x k : ℕ) (ds : List D) → met x k ≡ false → rebuilt s h met leaf_of x k ds ≡ next_of ds
   unfolding rebuilt
   rebuilt-outside x zero ds e = rw e refl
@@ -84,7 +84,7 @@ some_left acc [] r e lt = absurd (omega arith)
 some_left acc (d ∷ ds) r e lt = rw (sym e) refl
 
 -- each node gives one digest
-module _ {D : Type 0} (s : Shape) (h : Hashing D) (met : Met) (leaf_of : ℕ → D) where
+module _ {D : Type 0} (s : Shape) (h : Hashing D) (met : Opened) (leaf_of : ℕ → D) where
   one_more : (x : D) (r : Option (List D × List D)) (n : ℕ) (rs : List D × List D) → ((qs : List D × List D) → r ≡ Some qs → length qs.0 ≡ n) → option_and_then (before x) r ≡ Some rs → length rs.0 ≡ suc n
   one_more x None n rs f e = absurd (cc)
   one_more x (Some qs) n rs f e =

@@ -7,7 +7,7 @@ use Rattle.std.proofs.lemmas.Nat.{pow_pos}
 use Rattle.tree_shape.specs.Shape.{Shape, made, PeaksStand}
 use Rattle.tree_shape.specs.Pins.{base}
 use Rattle.tree_shape.proofs.PinLemmas.{base-next, base-end}
-use Rattle.tree_proof.specs.Cover.{Met, cover_in, cover_over, cover}
+use Rattle.tree_proof.specs.Cover.{Opened, cover_in, cover_over, cover}
 use Rattle.tree_proof.specs.Pinned.{left_of}
 use Rattle.tree_proof.proofs.PeakLemmas.{peaks_left, peaks_left-next, peaks_left-all}
 
@@ -20,7 +20,7 @@ pub lower : (d e : ℕ) (ps : List (ℕ × ℕ)) → d ≤ e → RisesFrom e ps 
 lower d e [] le r = tt
 lower d e (p ∷ ps) le r = (let q = r.0 in omega (arith, q, le), r.1)
 
-module _ (met : Met) where
+module _ (met : Opened) where
   abbrev Rises : ℕ → ℕ → Type 0
   Rises x k = (rest : List (ℕ × ℕ)) → RisesFrom (x + 2 ^ k) rest → RisesFrom x (cover_in met x k ++ rest)
 

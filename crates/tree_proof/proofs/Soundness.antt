@@ -15,7 +15,7 @@ use Rattle.tree_shape.specs.Slow.{leaf, leaf_at, leaf_digests, node, node_of}
 use Rattle.tree_shape.specs.Root.{root, root_over}
 use Rattle.tree_shape.proofs.NodeLemmas.{node-leaf}
 use Rattle.tree_proof.specs.declared.proof.Proof.{Proof}
-use Rattle.tree_proof.specs.Cover.{Met, meets, cover_in, cover_over, cover}
+use Rattle.tree_proof.specs.Cover.{Opened, meets, cover_in, cover_over, cover}
 use Rattle.tree_proof.specs.Check.{next_of, joined_by, rebuilt, before, rebuilt_over, all_used, wholly_rebuilt, item_leaf, Checks}
 use Rattle.tree_proof.specs.Inputs.{input_of, element_of, slow_inputs, tree_inputs, from_some, leaf_by, rebuilt_inputs, rebuilt_over_inputs, item_of, proof_inputs, root_inputs, ShowsElements}
 use Rattle.tree_proof.proofs.Complete.{length-leaf_digests, leaf_digests-at}
@@ -27,7 +27,7 @@ not_both : (t : Bool) → t ≡ true → t ≡ false → ⊥
 not_both t a b = absurd (let e : true ≡ false = sym a ∙ b in cc)
 
 module _ {D : Type 0} (s : Shape) (h : Hashing D) (inputs : List (List ℕ)) (size : ℕ) (exact : (a b : D) → h.bytes a ≡ h.bytes b → a ≡ b) (one_size : (m : List ℕ) → length (h.bytes (h.digest m)) ≡ size)
-    (elements : List (List ℕ)) (met : Met) (item : ℕ → List ℕ) (under : (x k y : ℕ) → x ≤ y → y < x + 2 ^ k → met y 0 ≡ true → met x k ≡ true) where
+    (elements : List (List ℕ)) (met : Opened) (item : ℕ → List ℕ) (under : (x k y : ℕ) → x ≤ y → y < x + 2 ^ k → met y 0 ≡ true → met x k ≡ true) where
   abbrev leaves : List D
   leaves = leaf_digests s h elements
 

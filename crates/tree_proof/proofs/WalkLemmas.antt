@@ -2,11 +2,11 @@
 use Rattle.std.proofs.Common.{◌≡◌, ℕ, ◌<◌, ◌≤◌, List, [], ◌∷◌, ◌++◌, length, drop, Some, None, refl, sym, ◌∙◌, ap, arith, length-drop}
 use Rattle.tree_shape.specs.Hashing.{Hashing}
 use Rattle.tree_shape.specs.Shape.{Shape}
-use Rattle.tree_proof.specs.Cover.{Met}
+use Rattle.tree_proof.specs.Cover.{Opened}
 use Rattle.tree_proof.specs.Check.{rebuilt, rebuilt_over, wholly_rebuilt}
 use Rattle.tree_proof.proofs.RebuildLemmas.{prepended, prepended-nothing, over-none, over-some, used_up, some_left}
 
-module _ {D : Type 0} (s : Shape) (h : Hashing D) (met : Met) (leaf_of : ℕ → D) (all : List (ℕ × ℕ)) (digests : List D) where
+module _ {D : Type 0} (s : Shape) (h : Hashing D) (met : Opened) (leaf_of : ℕ → D) (all : List (ℕ × ℕ)) (digests : List D) where
   -- the nodes so far, and those of the rest that the digests from here on give, are all of them
   abbrev pub Told : List D → List (ℕ × ℕ) → List D → Type 0
   Told acc rest ds = prepended acc (rebuilt_over s h met leaf_of rest ds) ≡ rebuilt_over s h met leaf_of all digests

@@ -7,7 +7,7 @@ use Rattle.tree_shape.specs.Shape.{Shape, peaks}
 use Rattle.tree_shape.specs.Slow.{leaf}
 use Rattle.tree_shape.specs.Root.{root_over}
 use Rattle.tree_proof.specs.declared.proof.Proof.{Proof}
-use Rattle.tree_proof.specs.Cover.{Met, meets}
+use Rattle.tree_proof.specs.Cover.{Opened, meets}
 
 -- the first of the digests that are left
 abbrev pub next_of : {D : Type 0} → List D → Option (D × List D)
@@ -19,7 +19,7 @@ abbrev pub joined_by : {D : Type 0} → Shape → Hashing D → ℕ → ℕ → 
 joined_by s h x k left right = Some (h.digest (node_input h (s.position x (suc k)) left right.0), right.1)
 
 -- a node, and the digests that are left: a leaf that is met is what `leaf_of` says, a node that isn't met is the next digest
-unfoldable pub rebuilt : {D : Type 0} → Shape → Hashing D → Met → (ℕ → D) → ℕ → ℕ → List D → Option (D × List D)
+unfoldable pub rebuilt : {D : Type 0} → Shape → Hashing D → Opened → (ℕ → D) → ℕ → ℕ → List D → Option (D × List D)
 rebuilt s h met leaf_of x zero ds = if met x 0 then Some (leaf_of x, ds) else next_of ds
 rebuilt s h met leaf_of x (suc k) ds =
     if met x (suc k)
@@ -31,7 +31,7 @@ abbrev pub before : {D : Type 0} → D → List D × List D → Option (List D �
 before d rest = Some (d ∷ rest.0, rest.1)
 
 -- these nodes, and the digests that are left
-unfoldable pub rebuilt_over : {D : Type 0} → Shape → Hashing D → Met → (ℕ → D) → List (ℕ × ℕ) → List D → Option (List D × List D)
+unfoldable pub rebuilt_over : {D : Type 0} → Shape → Hashing D → Opened → (ℕ → D) → List (ℕ × ℕ) → List D → Option (List D × List D)
 rebuilt_over s h met leaf_of [] ds = Some ([], ds)
 rebuilt_over s h met leaf_of (p ∷ ps) ds = option_and_then (λ first. option_and_then (before first.0) (rebuilt_over s h met leaf_of ps first.1)) (rebuilt s h met leaf_of p.0 p.1 ds)
 
@@ -45,7 +45,7 @@ all_used ds [] = Some ds
 all_used ds (e ∷ es) = None
 
 -- these nodes, rebuilt with all of the digests
-abbrev pub wholly_rebuilt : {D : Type 0} → Shape → Hashing D → Met → (ℕ → D) → List (ℕ × ℕ) → List D → Option (List D)
+abbrev pub wholly_rebuilt : {D : Type 0} → Shape → Hashing D → Opened → (ℕ → D) → List (ℕ × ℕ) → List D → Option (List D)
 wholly_rebuilt s h met leaf_of ps ds = option_and_then (λ r. all_used r.0 r.1) (rebuilt_over s h met leaf_of ps ds)
 
 -- the root over the peaks of the proof's leaves, rebuilt from its digests and the items from leaf a on

@@ -8,7 +8,7 @@ use Rattle.tree_shape.specs.Shape.{Shape, peaks}
 use Rattle.tree_shape.specs.Slow.{leaf, leaf_digests, node, node_of}
 use Rattle.tree_shape.specs.Root.{fold_forward, fold_backward, folded_bytes, root_input}
 use Rattle.tree_proof.specs.declared.proof.Proof.{Proof}
-use Rattle.tree_proof.specs.Cover.{Met, meets}
+use Rattle.tree_proof.specs.Cover.{Opened, meets}
 use Rattle.tree_proof.specs.Check.{rebuilt, wholly_rebuilt, item_leaf}
 use Rattle.tree_proof.specs.Pinned.{above_pins, left_cover}
 
@@ -79,7 +79,7 @@ module _ {D : Type 0} (s : Shape) (h : Hashing D) where
   from_some f (Some x) = f x
 
   -- in rebuilding one node from these digests, the node's last
-  unfoldable pub rebuilt_inputs : Met → (ℕ → List ℕ) → ℕ → ℕ → List D → List (List ℕ)
+  unfoldable pub rebuilt_inputs : Opened → (ℕ → List ℕ) → ℕ → ℕ → List D → List (List ℕ)
   rebuilt_inputs met item x zero ds = if met x 0 then (input_of item x ∷ []) else []
   rebuilt_inputs met item x (suc k) ds =
       if met x (suc k)
@@ -89,7 +89,7 @@ module _ {D : Type 0} (s : Shape) (h : Hashing D) where
       else []
 
   -- in rebuilding these nodes one after another
-  unfoldable pub rebuilt_over_inputs : Met → (ℕ → List ℕ) → List (ℕ × ℕ) → List D → List (List ℕ)
+  unfoldable pub rebuilt_over_inputs : Opened → (ℕ → List ℕ) → List (ℕ × ℕ) → List D → List (List ℕ)
   rebuilt_over_inputs met item [] ds = []
   rebuilt_over_inputs met item (p ∷ ps) ds =
       rebuilt_inputs met item p.0 p.1 ds ++ from_some (λ first. rebuilt_over_inputs met item ps first.1) (rebuilt s h met (leaf_by item) p.0 p.1 ds)

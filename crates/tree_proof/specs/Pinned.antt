@@ -4,7 +4,7 @@ use Rattle.tree_shape.specs.Hashing.{Hashing}
 use Rattle.tree_shape.specs.Shape.{Shape, ends_by}
 use Rattle.tree_shape.specs.Slow.{leaf}
 use Rattle.tree_proof.specs.declared.proof.Proof.{Proof}
-use Rattle.tree_proof.specs.Cover.{Met, meets, cover}
+use Rattle.tree_proof.specs.Cover.{Opened, meets, cover}
 use Rattle.tree_proof.specs.Check.{wholly_rebuilt}
 
 -- whether a node is one of the peaks of these heights, the newest of which ends at e
@@ -13,7 +13,7 @@ is_peak e [] x k = false
 is_peak e (j ∷ js) x k = ((x == e - 2 ^ j) && (k == j)) || is_peak (e - 2 ^ j) js x k
 
 -- it is no pin, so it is made from its halves
-abbrev pub above_pins : Shape → ℕ → Met
+abbrev pub above_pins : Shape → ℕ → Opened
 above_pins s a x k = not (is_peak a (s.heights a) x k)
 
 -- the nodes that end at or below a

@@ -1,6 +1,6 @@
 //! What is known of a tree besides digests.
 ghost use Rattle.std.specs.Prelude.{◌≡◌, ◌≤◌, ◌<◌, ◌+◌, ◌^◌, ℕ, true, length};
-ghost use Rattle.tree_proof.specs.Cover.{Met, meets};
+ghost use Rattle.tree_proof.specs.Cover.{Opened, meets};
 ghost use Rattle.tree_proof.specs.Check.{item_leaf};
 
 use codec_base::Bytes;
@@ -9,7 +9,7 @@ use tree_shape::{Family, Hasher, Position, Standard, width};
 /// Leaves that are known.
 pub trait Known<F: Family, H: Hasher> {
     /// Whether a node is made from what is known, by its first leaf and height.
-    ghost met: { Self → Met };
+    ghost met: { Self → Opened };
 
     /// The digest of a leaf that is known.
     ghost leaf_of: { Self → ℕ → H.Digest };

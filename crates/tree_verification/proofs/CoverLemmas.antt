@@ -7,7 +7,7 @@ use Rattle.std.proofs.lemmas.Option.{slice_get_within}
 use Rattle.tree_shape.specs.Shape.{Shape, made, peaks, peaks_down, Stands, PeaksStand, IsWellMade, IsLawful}
 use Rattle.tree_shape.specs.Pins.{position_of}
 use Rattle.tree_shape.proofs.SizeLemmas.{size_grow}
-use Rattle.tree_proof.specs.Cover.{Met, cover_in, cover_over, cover}
+use Rattle.tree_proof.specs.Cover.{Opened, cover_in, cover_over, cover}
 
 pub all-append : {X : Type 0} (P : X → Type 0) (xs ys : List X) → AllByRecursion P xs → AllByRecursion P ys → AllByRecursion P (xs ++ ys)
 all-append P [] ys a b = b
@@ -29,7 +29,7 @@ IsPlaced s cs p = Stands cs (s.position p.0 p.1) p.0 p.1
 abbrev pub ArePlaced : Shape → List (ℕ × ℕ) → List (ℕ × ℕ) → Type 0
 ArePlaced s cs ps = AllByRecursion (IsPlaced s cs) ps
 
-module _ (s : Shape) (cs : List (ℕ × ℕ)) (met : Met) where
+module _ (s : Shape) (cs : List (ℕ × ℕ)) (met : Opened) where
   leaf-placed : (x : ℕ) → Stands cs (s.position x 0) x 0 → (m : Bool) → ArePlaced s cs (cond m [] ((x, 0) ∷ []))
   leaf-placed x st true = tt
   leaf-placed x st false = (st, tt)
@@ -54,12 +54,12 @@ pub peaks-placed : (s : Shape) (cs : List (ℕ × ℕ)) (e : ℕ) (hs : List ℕ
 peaks-placed s cs e [] p = tt
 peaks-placed s cs e (k ∷ ks) p = (p.1, peaks-placed s cs (e - 2 ^ k) ks p.2)
 
-pub cover-placed : (s : Shape) (met : Met) (n : ℕ) → IsLawful s → ArePlaced s (made s n) (cover s met n)
+pub cover-placed : (s : Shape) (met : Opened) (n : ℕ) → IsLawful s → ArePlaced s (made s n) (cover s met n)
 cover-placed s met n w =
     over-placed s (made s n) met n (w.well_made n) (peaks s n) (all-reverse (IsPlaced s (made s n)) (peaks_down n (s.heights n)) (peaks-placed s (made s n) n (s.heights n) (w.peaks n)))
 
 -- the positions are below the size of a tree that has these leaves
-pub cover-below : (s : Shape) (met : Met) (n m : ℕ) → IsLawful s → n ≤ m → All (λ p. p < length (made s m)) (map (position_of s) (cover s met n))
+pub cover-below : (s : Shape) (met : Opened) (n m : ℕ) → IsLawful s → n ≤ m → All (λ p. p < length (made s m)) (map (position_of s) (cover s met n))
 cover-below s met n m w le =
     let grow = size_grow s n m le in
     all-gives (IsPlaced s (made s n)) (λ p. p < length (made s m)) (position_of s)

@@ -5,13 +5,13 @@ use Rattle.tree_shape.specs.Hashing.{Hashing}
 use Rattle.tree_shape.specs.Shape.{Shape}
 use Rattle.tree_shape.specs.Slow.{leaf, leaf_at, leaf_digests, node}
 use Rattle.tree_proof.specs.declared.proof.Proof.{Proof}
-use Rattle.tree_proof.specs.Cover.{Met, meets, cover, cover_digests}
+use Rattle.tree_proof.specs.Cover.{Opened, meets, cover, cover_digests}
 use Rattle.tree_proof.specs.Check.{item_leaf}
 use Rattle.tree_proof.proofs.Complete.{range_leaf}
 use Rattle.tree_verification.specs.Told.{told_nodes, in_tree, IsHashed, IsTold, entries, TellsExactly}
 
 module _ {D : Type 0} (s : Shape) (h : Hashing D) (leaves : List D) where
-  slow-hashed : (met : Met) (leaf_of : ℕ → D) → ((x : ℕ) → met x 0 ≡ true → leaf_of x ≡ leaf_at h leaves x) → IsHashed s h met leaf_of (node s h leaves)
+  slow-hashed : (met : Opened) (leaf_of : ℕ → D) → ((x : ℕ) → met x 0 ≡ true → leaf_of x ≡ leaf_at h leaves x) → IsHashed s h met leaf_of (node s h leaves)
   unfolding node
   slow-hashed met leaf_of right = record { leaves = λ x m. sym (right x m); parents = λ x k m. refl }
 

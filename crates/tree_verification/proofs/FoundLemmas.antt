@@ -11,7 +11,7 @@ use Rattle.tree_shape.specs.Hashing.{Hashing}
 use Rattle.tree_shape.specs.Shape.{Shape, made, IsLawful}
 use Rattle.tree_shape.specs.Slow.{node, node_of, nodes}
 use Rattle.tree_store.specs.Stores.{IsTreeOf}
-use Rattle.tree_proof.specs.Cover.{Met}
+use Rattle.tree_proof.specs.Cover.{Opened}
 use Rattle.tree_verification.specs.Told.{told_nodes, entries, TellsExactly, found}
 use Rattle.tree_verification.proofs.KeyLemmas.{key_same, key_itself}
 use Rattle.tree_verification.proofs.CoverLemmas.{IsPlaced, ArePlaced, all-gives}
@@ -79,7 +79,7 @@ module _ {D : Type 0} (s : Shape) (cs : List (ℕ × ℕ)) (tree : ℕ → ℕ �
       one p d (inr c) = c
 
 -- where they are slow nodes of a list, the tree is the list's
-pub tree-of-told : {D : Type 0} (s : Shape) (h : Hashing D) (all : List D) (met : Met) (n : ℕ) (told : ℕ → Option D) → IsLawful s → length all ≡ n
+pub tree-of-told : {D : Type 0} (s : Shape) (h : Hashing D) (all : List D) (met : Opened) (n : ℕ) (told : ℕ → Option D) → IsLawful s → length all ≡ n
     → TellsExactly told (entries s (node s h all) (told_nodes s met n)) → IsTreeOf s h all n told
 tree-of-told {D} s h all met n told w l t = record {
   count = sym l;

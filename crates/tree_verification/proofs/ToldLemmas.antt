@@ -5,7 +5,7 @@ use Rattle.std.proofs.lemmas.Bool.Decides.{eqb_tells}
 use Rattle.std.proofs.lemmas.List.{map-append}
 use Rattle.tree_shape.specs.Hashing.{Hashing, node_input}
 use Rattle.tree_shape.specs.Shape.{Shape}
-use Rattle.tree_proof.specs.Cover.{Met, cover_in, cover_over, cover}
+use Rattle.tree_proof.specs.Cover.{Opened, cover_in, cover_over, cover}
 use Rattle.tree_proof.proofs.PeakLemmas.{peaks_left, all_left, none_left}
 use Rattle.tree_proof.proofs.CoverSteps.{cover_in-outside, cover_in-leaf, cover_in-halves}
 use Rattle.tree_verification.specs.Told.{told_in, told_over, told_nodes, in_tree, IsHashed, entries, found, Puts}
@@ -13,33 +13,33 @@ use Rattle.tree_verification.proofs.FoundLemmas.{found-append}
 
 -- ---- how many nodes the cover has inside one node, by cases
 
-pub count-outside : (met : Met) (x k : ℕ) → met x k ≡ false → length (cover_in met x k) ≡ 1
+pub count-outside : (met : Opened) (x k : ℕ) → met x k ≡ false → length (cover_in met x k) ≡ 1
 count-outside met x k out = ap length (cover_in-outside met x k out)
 
-pub count-leaf : (met : Met) (x k : ℕ) → met x k ≡ true → k ≡ 0 → length (cover_in met x k) ≡ 0
+pub count-leaf : (met : Opened) (x k : ℕ) → met x k ≡ true → k ≡ 0 → length (cover_in met x k) ≡ 0
 count-leaf met x k inside z = ap length (cover_in-leaf met x k inside z)
 
-pub count-halves : (met : Met) (x k half : ℕ) → met x k ≡ true → 0 < k → half ≡ 2 ^ (k - 1) → length (cover_in met x k) ≡ length (cover_in met x (k - 1)) + length (cover_in met (x + half) (k - 1))
+pub count-halves : (met : Opened) (x k half : ℕ) → met x k ≡ true → 0 < k → half ≡ 2 ^ (k - 1) → length (cover_in met x k) ≡ length (cover_in met x (k - 1)) + length (cover_in met (x + half) (k - 1))
 count-halves met x k half inside lt he = ap length (cover_in-halves met x k half inside lt he) ∙ length-append (cover_in met x (k - 1)) (cover_in met (x + half) (k - 1))
 
 -- ---- the nodes that are told inside one node, by cases
 
-told_in-outside : (met : Met) (x k : ℕ) → met x k ≡ false → told_in met x k ≡ (x, k) ∷ []
+told_in-outside : (met : Opened) (x k : ℕ) → met x k ≡ false → told_in met x k ≡ (x, k) ∷ []
 unfolding told_in
 told_in-outside met x zero e = refl
 told_in-outside met x (suc k) e = rw e refl
 
-told_in-leaf : (met : Met) (x k : ℕ) → k ≡ 0 → told_in met x k ≡ (x, k) ∷ []
+told_in-leaf : (met : Opened) (x k : ℕ) → k ≡ 0 → told_in met x k ≡ (x, k) ∷ []
 unfolding told_in
 told_in-leaf met x zero z = refl
 told_in-leaf met x (suc k) z = absurd (omega arith)
 
-told_in-halves : (met : Met) (x k half : ℕ) → met x k ≡ true → 0 < k → half ≡ 2 ^ (k - 1) → told_in met x k ≡ (told_in met x (k - 1) ++ told_in met (x + half) (k - 1)) ++ ((x, k) ∷ [])
+told_in-halves : (met : Opened) (x k half : ℕ) → met x k ≡ true → 0 < k → half ≡ 2 ^ (k - 1) → told_in met x k ≡ (told_in met x (k - 1) ++ told_in met (x + half) (k - 1)) ++ ((x, k) ∷ [])
 unfolding told_in
 told_in-halves met x zero half e lt he = absurd (omega arith)
 told_in-halves met x (suc k) half e lt he = let one : suc k - 1 ≡ k = omega arith in rw (e, he, one) refl
 
-module _ {D : Type 0} (s : Shape) (h : Hashing D) (met : Met) (leaf_of : ℕ → D) (tree : ℕ → ℕ → D) where
+module _ {D : Type 0} (s : Shape) (h : Hashing D) (met : Opened) (leaf_of : ℕ → D) (tree : ℕ → ℕ → D) where
   found-three : (p : ℕ) (o : Option D) (ls bs cs : List (ℕ × ℕ)) → found p o (entries s tree ((ls ++ bs) ++ cs)) ≡ found p (found p (found p o (entries s tree ls)) (entries s tree bs)) (entries s tree cs)
   found-three p o ls bs cs =
       let f : ℕ × ℕ → ℕ × D = λ q. (s.position q.0 q.1, tree q.0 q.1) in
@@ -134,14 +134,14 @@ module _ {D : Type 0} (s : Shape) (h : Hashing D) (met : Met) (leaf_of : ℕ →
   left_none n left nodes ds l z p = ap (λ ps. found p (nodes p) (entries s tree (told_over met ps))) (sym (none_left s n left z)) ∙ l.told p
 
 -- the nodes of the cover inside the peaks that are left
-pub count-next : (s : Shape) (met : Met) (n left later x k : ℕ) → peaks_left s n left ≡ (x, k) ∷ peaks_left s n later
+pub count-next : (s : Shape) (met : Opened) (n left later x k : ℕ) → peaks_left s n left ≡ (x, k) ∷ peaks_left s n later
     → length (cover_over met (peaks_left s n left)) ≡ length (cover_in met x k) + length (cover_over met (peaks_left s n later))
 count-next s met n left later x k are = ap (λ ps. length (cover_over met ps)) are ∙ length-append (cover_in met x k) (cover_over met (peaks_left s n later))
 
-pub count-first : (s : Shape) (met : Met) (n left : ℕ) → left ≡ length (s.heights n) → length (cover_over met (peaks_left s n left)) ≡ length (cover s met n)
+pub count-first : (s : Shape) (met : Opened) (n left : ℕ) → left ≡ length (s.heights n) → length (cover_over met (peaks_left s n left)) ≡ length (cover s met n)
 count-first s met n left e = ap (λ ps. length (cover_over met ps)) (all_left s n left e)
 
-pub count-none : (s : Shape) (met : Met) (n left : ℕ) → left ≡ 0 → length (cover_over met (peaks_left s n left)) ≡ 0
+pub count-none : (s : Shape) (met : Opened) (n left : ℕ) → left ≡ 0 → length (cover_over met (peaks_left s n left)) ≡ 0
 count-none s met n left z = ap (λ ps. length (cover_over met ps)) (none_left s n left z)
 
 -- what is left behind two halves

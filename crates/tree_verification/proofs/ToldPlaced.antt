@@ -1,11 +1,11 @@
 -- The nodes that are told stand in the tree.
 use Rattle.std.proofs.Common.{ℕ, zero, suc, ◌+◌, ◌^◌, Bool, true, false, cond, List, [], ◌∷◌, ◌++◌}
 use Rattle.tree_shape.specs.Shape.{Shape, made, peaks, peaks_down, Stands, IsWellMade, IsLawful}
-use Rattle.tree_proof.specs.Cover.{Met}
+use Rattle.tree_proof.specs.Cover.{Opened}
 use Rattle.tree_verification.specs.Told.{told_in, told_over, told_nodes}
 use Rattle.tree_verification.proofs.CoverLemmas.{all-append, all-reverse, IsPlaced, ArePlaced, peaks-placed}
 
-module _ (s : Shape) (cs : List (ℕ × ℕ)) (met : Met) where
+module _ (s : Shape) (cs : List (ℕ × ℕ)) (met : Opened) where
   halves-placed : (x k : ℕ) → Stands cs (s.position x (suc k)) x (suc k) → ArePlaced s cs (told_in met x k) → ArePlaced s cs (told_in met (x + 2 ^ k) k)
       → (m : Bool) → ArePlaced s cs (cond m ((told_in met x k ++ told_in met (x + 2 ^ k) k) ++ ((x, suc k) ∷ [])) ((x, suc k) ∷ []))
   halves-placed x k st l r true = all-append (IsPlaced s cs) (told_in met x k ++ told_in met (x + 2 ^ k) k) ((x, suc k) ∷ []) (all-append (IsPlaced s cs) (told_in met x k) (told_in met (x + 2 ^ k) k) l r) (st, tt)
@@ -22,6 +22,6 @@ module _ (s : Shape) (cs : List (ℕ × ℕ)) (met : Met) where
   over-placed e w [] a = tt
   over-placed e w (p ∷ ps) a = all-append (IsPlaced s cs) (told_in met p.0 p.1) (told_over met ps) (inside-placed e w p.0 p.1 a.0) (over-placed e w ps a.1)
 
-pub told-placed : (s : Shape) (met : Met) (n : ℕ) → IsLawful s → ArePlaced s (made s n) (told_nodes s met n)
+pub told-placed : (s : Shape) (met : Opened) (n : ℕ) → IsLawful s → ArePlaced s (made s n) (told_nodes s met n)
 told-placed s met n w =
     over-placed s (made s n) met n (w.well_made n) (peaks s n) (all-reverse (IsPlaced s (made s n)) (peaks_down n (s.heights n)) (peaks-placed s (made s n) n (s.heights n) (w.peaks n)))

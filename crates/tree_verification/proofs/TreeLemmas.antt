@@ -7,7 +7,7 @@ use Rattle.std.proofs.lemmas.Nat.{pow_pos}
 use Rattle.tree_shape.specs.Hashing.{Hashing, node_input}
 use Rattle.tree_shape.specs.Shape.{Shape, made, peaks, PeaksStand}
 use Rattle.tree_proof.specs.declared.proof.Proof.{Proof}
-use Rattle.tree_proof.specs.Cover.{Met, meets, cover_in, cover_over, cover}
+use Rattle.tree_proof.specs.Cover.{Opened, meets, cover_in, cover_over, cover}
 use Rattle.tree_proof.specs.Check.{wholly_rebuilt, item_leaf}
 use Rattle.tree_proof.proofs.Complete.{tree_rebuilt}
 use Rattle.tree_proof.proofs.Rises.{RisesFrom, cover-rises}
@@ -45,7 +45,7 @@ cover-digests none e (p ∷ ps) (d ∷ ds) r l =
     ap (λ c. c ∷ map (λ (q : ℕ × ℕ). cond (p.0 == q.0) d (cover_digest none ps ds q.0)) ps) (same-test p.0 d (cover_digest none ps ds p.0))
     ∙ ap (λ cs. d ∷ cs) (skipped p.0 (p.0 + 2 ^ p.1) d (cover_digest none ps ds) ps (omega (arith, pow_pos p.1)) r.1 ∙ cover-digests none (p.0 + 2 ^ p.1) ps ds r.1 (omega (arith, l)))
 
-module _ {D : Type 0} (s : Shape) (h : Hashing D) (met : Met) (leaf_of other : ℕ → D) where
+module _ {D : Type 0} (s : Shape) (h : Hashing D) (met : Opened) (leaf_of other : ℕ → D) where
   -- a leaf that is met, or what two halves give, or else the other digest that begins there
   abbrev given : ℕ → ℕ → D
   given x zero = cond (met x 0) (leaf_of x) (other x)

@@ -3,13 +3,13 @@ use Rattle.std.proofs.Common.{◌≡◌, ℕ, ◌+◌, ◌-◌, ◌^◌, ◌<◌
 use Rattle.std.proofs.lemmas.List.{map-append}
 use Rattle.tree_shape.specs.Shape.{Shape}
 use Rattle.tree_shape.specs.Pins.{position_of}
-use Rattle.tree_proof.specs.Cover.{Met, cover_in, cover_over}
+use Rattle.tree_proof.specs.Cover.{Opened, cover_in, cover_over}
 use Rattle.tree_proof.proofs.PeakLemmas.{peaks_left, peaks_left-all}
 use Rattle.tree_proof.proofs.RebuildLemmas.{append_nil}
 use Rattle.tree_proof.proofs.CoverSteps.{cover_in-halves}
 use Rattle.tree_verification.specs.Ranges.{cover_positions}
 
-module _ (s : Shape) (met : Met) where
+module _ (s : Shape) (met : Opened) where
   pub found_both : (acc mid more : List ℕ) (x k half : ℕ) → met x k ≡ true → 0 < k → half ≡ 2 ^ (k - 1)
       → mid ≡ acc ++ map (position_of s) (cover_in met x (k - 1)) → more ≡ mid ++ map (position_of s) (cover_in met (x + half) (k - 1)) → more ≡ acc ++ map (position_of s) (cover_in met x k)
   found_both acc mid more x k half e lt he l r =

@@ -4,21 +4,21 @@ use Rattle.tree_shape.specs.Hashing.{Hashing}
 use Rattle.tree_shape.specs.Shape.{Shape}
 use Rattle.tree_shape.specs.Pins.{position_of}
 use Rattle.tree_proof.specs.declared.proof.Proof.{Proof}
-use Rattle.tree_proof.specs.Cover.{Met, cover, cover_digests}
+use Rattle.tree_proof.specs.Cover.{Opened, cover, cover_digests}
 use Rattle.tree_store.specs.Stores.{IsTreeOf, IsUnread}
 use Rattle.tree_store.specs.declared.error.Error.{Error}
 use Rattle.tree_store.specs.declared.error.Error.TheVariants.{Empty, LocationOverflow, RangeOutOfBounds}
 
 -- where the nodes of the cover stand, in its order
-abbrev pub cover_positions : Shape → Met → ℕ → List ℕ
+abbrev pub cover_positions : Shape → Opened → ℕ → List ℕ
 cover_positions s met n = map (position_of s) (cover s met n)
 
 -- the proof of what is met in the tree of a list of leaf digests
-abbrev pub proof_of : {F D : Type 0} → Shape → Hashing D → List D → ℕ → Met → Proof F D
+abbrev pub proof_of : {F D : Type 0} → Shape → Hashing D → List D → ℕ → Opened → Proof F D
 proof_of s h all inactive met = record { leaves = length all; inactive_peaks = inactive; digests = cover_digests s h all met (length all) }
 
 -- of so many leaves and inactive peaks, with as many digests as the cover has nodes
-pub record HasForm {F D : Type 0} (s : Shape) (n inactive : ℕ) (met : Met) (proof : Proof F D) : Type 0 where
+pub record HasForm {F D : Type 0} (s : Shape) (n inactive : ℕ) (met : Opened) (proof : Proof F D) : Type 0 where
   pub leaves : proof.leaves ≡ n
   pub folded : proof.inactive_peaks ≡ inactive
   pub counted : length proof.digests ≡ length (cover s met n)
@@ -34,7 +34,7 @@ abbrev pub leaf_answer : {F : Type 0} → ℕ → ℕ → Result (Unit {0}) (Err
 leaf_answer n l = if nat_lt l (2 ^ 62) then range_answer n n l (l + 1) else Err (LocationOverflow l)
 
 -- what a proof from memory that tells these nodes of a tree of n leaves answers: the refusal that no read decides, or else the proof, or the first node of the cover that isn't there
-pub record Proves {F D : Type 0} (s : Shape) (answer : Result (Unit {0}) (Error F)) (n inactive : ℕ) (met : Met) (told : ℕ → Option D) (result : Result (Proof F D) (Error F)) : Type 0 where
+pub record Proves {F D : Type 0} (s : Shape) (answer : Result (Unit {0}) (Error F)) (n inactive : ℕ) (met : Opened) (told : ℕ → Option D) (result : Result (Proof F D) (Error F)) : Type 0 where
   pub refused : (e : Error F) → answer ≡ Err e → result ≡ Err e
   pub within : IfOk result (λ proof. answer ≡ Ok tt)
   pub form : IfOk result (HasForm s n inactive met)

@@ -7,23 +7,23 @@ use Rattle.std.specs.Ordering.{nat_cmp}
 use Rattle.tree_shape.specs.Hashing.{Hashing, node_input}
 use Rattle.tree_shape.specs.Shape.{Shape, peaks}
 use Rattle.tree_proof.specs.declared.proof.Proof.{Proof}
-use Rattle.tree_proof.specs.Cover.{Met, meets, cover}
+use Rattle.tree_proof.specs.Cover.{Opened, meets, cover}
 use Rattle.tree_proof.specs.Check.{item_leaf}
 use Rattle.tree_store.specs.declared.error.Error.{Error}
 use Rattle.tree_store.specs.declared.error.Error.TheVariants.{Empty, LocationOverflow, RangeOutOfBounds, InvalidPinnedNodes}
 
 -- the nodes that are told inside one node, each behind its halves: those of the cover, and each that is met
-unfoldable pub told_in : Met → ℕ → ℕ → List (ℕ × ℕ)
+unfoldable pub told_in : Opened → ℕ → ℕ → List (ℕ × ℕ)
 told_in met x zero = (x, 0) ∷ []
 told_in met x (suc k) = if met x (suc k) then ((told_in met x k ++ told_in met (x + 2 ^ k) k) ++ ((x, suc k) ∷ [])) else ((x, suc k) ∷ [])
 
 -- inside these nodes, one after another
-abbrev pub told_over : Met → List (ℕ × ℕ) → List (ℕ × ℕ)
+abbrev pub told_over : Opened → List (ℕ × ℕ) → List (ℕ × ℕ)
 told_over met [] = []
 told_over met (p ∷ ps) = told_in met p.0 p.1 ++ told_over met ps
 
 -- in a tree of n leaves
-abbrev pub told_nodes : Shape → Met → ℕ → List (ℕ × ℕ)
+abbrev pub told_nodes : Shape → Opened → ℕ → List (ℕ × ℕ)
 told_nodes s met n = told_over met (peaks s n)
 
 -- ---- a tree, given as the digest of each node by its first leaf and height
@@ -32,7 +32,7 @@ abbrev pub in_tree : {D : Type 0} → (ℕ → ℕ → D) → ℕ × ℕ → D
 in_tree tree p = tree p.0 p.1
 
 -- the leaves that are met have these digests, and each node that is met is hashed from its halves
-pub record IsHashed {D : Type 0} (s : Shape) (h : Hashing D) (met : Met) (leaf_of : ℕ → D) (tree : ℕ → ℕ → D) : Type 0 where
+pub record IsHashed {D : Type 0} (s : Shape) (h : Hashing D) (met : Opened) (leaf_of : ℕ → D) (tree : ℕ → ℕ → D) : Type 0 where
   pub leaves : (x : ℕ) → met x 0 ≡ true → tree x 0 ≡ leaf_of x
   pub parents : (x k : ℕ) → met x (suc k) ≡ true → tree x (suc k) ≡ h.digest (node_input h (s.position x (suc k)) (tree x k) (tree (x + 2 ^ k) k))
 
@@ -75,7 +75,7 @@ found p o [] = o
 found p o (e ∷ es) = found p (if is_at (nat_cmp e.0) p then Some e.1 else o) es
 
 -- the nodes of a tree that are told inside one node were put to the old ones, of the digests the cover inside it was taken, and d is the node's
-pub record Puts {D : Type 0} (s : Shape) (met : Met) (tree : ℕ → ℕ → D) (x k : ℕ) (old new : ℕ → Option D) (d : D) (left rest : List D) : Type 0 where
+pub record Puts {D : Type 0} (s : Shape) (met : Opened) (tree : ℕ → ℕ → D) (x k : ℕ) (old new : ℕ → Option D) (d : D) (left rest : List D) : Type 0 where
   pub digest : d ≡ tree x k
   pub taken : left ≡ rest
   pub nodes : (p : ℕ) → new p ≡ found p (old p) (entries s tree (told_in met x k))

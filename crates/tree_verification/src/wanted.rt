@@ -1,6 +1,6 @@
 //! What is to be proved, as the walk over the peaks asks for it.
 ghost use Rattle.std.specs.Prelude.{◌≡◌, ◌≤◌, ◌<◌, ◌+◌, ◌^◌, AllPairs};
-ghost use Rattle.tree_proof.specs.Cover.{Met, meets, holds_one};
+ghost use Rattle.tree_proof.specs.Cover.{Opened, meets, holds_one};
 
 use crate::order::first_from;
 use tree_shape::{Location, width};
@@ -8,7 +8,7 @@ use tree_shape::{Location, width};
 /// Leaves that are to be proved.
 pub(crate) trait Wanted {
     /// Whether one of them stands under a node, by its first leaf and height.
-    ghost met: { Self → Met };
+    ghost met: { Self → Opened };
 
     /// What finding them rests on.
     ghost ready: { Self → Type 0 };
