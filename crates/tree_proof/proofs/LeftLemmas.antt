@@ -1,6 +1,6 @@
 -- The nodes of a cover that stand left of its range.
 use Rattle.std.proofs.Common.{◌≡◌, ℕ, zero, suc, ◌+◌, ◌-◌, ◌^◌, ◌<◌, ◌≤◌, Bool, true, false, cond, List, [], ◌∷◌, ◌++◌, length, refl, sym, ◌∙◌, ap, subst, arith, append_assoc}
-use Rattle.std.specs.Prelude.{All, nat_le}
+use Rattle.std.specs.Prelude.{All, nat_le, if◌then◌else◌}
 use Rattle.std.specs.List.{AllByRecursion}
 use Rattle.std.proofs.lemmas.Bool.Decides.{nat_tests}
 use Rattle.std.proofs.lemmas.List.Elements.{filter-append}
@@ -9,12 +9,16 @@ use Rattle.tree_shape.specs.Shape.{Shape, peaks, ends_by}
 use Rattle.tree_shape.proofs.NodeLemmas.{low_height}
 use Rattle.tree_proof.specs.Cover.{Opened, meets, cover_in, cover_over}
 use Rattle.tree_proof.specs.Pinned.{left_of}
-use Rattle.tree_proof.specs.Left.{left_in}
 use Rattle.tree_proof.proofs.CoverSteps.{cover_in-outside, cover_in-halves}
 use Rattle.tree_proof.proofs.PeakLemmas.{peaks_left, all_left, none_left}
 use Rattle.tree_proof.proofs.RebuildLemmas.{append_nil}
 
 -- ---- one node, by cases
+
+-- the nodes under one node that end by a and aren't under another such node
+unfoldable pub left_in : ℕ → ℕ → ℕ → List (ℕ × ℕ)
+left_in a x zero = if nat_le (x + 1) a then ((x, 0) ∷ []) else []
+left_in a x (suc k) = if nat_le (x + 2 ^ suc k) a then ((x, suc k) ∷ []) else (if nat_le a x then [] else (left_in a x k ++ left_in a (x + 2 ^ k) k))
 
 pub left-here : (a x k : ℕ) → x + 2 ^ k ≤ a → left_in a x k ≡ (x, k) ∷ []
 unfolding left_in
@@ -96,6 +100,12 @@ module _ (a b : ℕ) (some : a < b) where
       at true n t u l r = ended x (suc k) (grind (arith, nat_tests))
       at false true t u l r = past x (suc k) (grind (arith, nat_tests)) (grind (arith, nat_tests))
       at false false t u l r = halves x k (grind (arith, nat_tests)) (grind (arith, nat_tests)) l r
+
+pub to-cover : (a x k : ℕ) (old new : List (ℕ × ℕ)) → new ≡ old ++ left_in a x k → (b : ℕ) → a < b → new ≡ old ++ left_of a (cover_in (meets a b) x k)
+to-cover a x k old new e b some = e ∙ ap (λ ps. old ++ ps) (sym (left-is a b some x k))
+
+pub of-cover : (a x k : ℕ) (old new : List (ℕ × ℕ)) → ((b : ℕ) → a < b → new ≡ old ++ left_of a (cover_in (meets a b) x k)) → new ≡ old ++ left_in a x k
+of-cover a x k old new e = let some : a < a + 1 = omega arith in e (a + 1) some ∙ ap (λ ps. old ++ ps) (left-is a (a + 1) some x k)
 
 -- under these nodes, one after another
 abbrev pub left_over : ℕ → List (ℕ × ℕ) → List (ℕ × ℕ)

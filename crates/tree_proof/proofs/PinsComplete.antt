@@ -23,10 +23,9 @@ use Rattle.tree_proof.specs.declared.proof.Proof.{Proof}
 use Rattle.tree_proof.specs.Cover.{Opened, meets, cover_in, cover_over, cover}
 use Rattle.tree_proof.specs.Check.{next_of, joined_by, rebuilt, before, rebuilt_over, all_used, wholly_rebuilt}
 use Rattle.tree_proof.specs.Pinned.{is_peak, above_pins, left_of, HasPins}
-use Rattle.tree_proof.specs.Left.{left_in}
 use Rattle.tree_proof.proofs.Complete.{wholly_rebuilt-cover}
 use Rattle.tree_proof.proofs.RebuildLemmas.{append_nil}
-use Rattle.tree_proof.proofs.LeftLemmas.{left-here, left-none, left-both, left_over, left-cover}
+use Rattle.tree_proof.proofs.LeftLemmas.{left_in, left-here, left-none, left-both, left_over, left-cover}
 use Rattle.tree_proof.proofs.Rises.{cover-rises, left-leads}
 use Rattle.tree_proof.proofs.Soundness.{all_split, all_reverse}
 use Rattle.tree_proof.proofs.PeakLemmas.{peaks_left, peaks_left-next, peaks_left-all}

@@ -14,11 +14,10 @@ use Rattle.tree_proof.specs.declared.proof.Proof.{Proof}
 use Rattle.tree_proof.specs.Cover.{Opened, meets, cover, cover_over}
 use Rattle.tree_proof.specs.Check.{rebuilt_over, all_used, wholly_rebuilt, Checks}
 use Rattle.tree_proof.specs.Inputs.{slow_inputs, tree_inputs, from_some, leaf_by, rebuilt_inputs, rebuilt_over_inputs, proof_inputs, pin_inputs, ShowsPins}
-use Rattle.tree_proof.specs.Left.{left_in}
 use Rattle.tree_proof.specs.Pinned.{above_pins, left_of, HasPins}
 use Rattle.tree_proof.proofs.CoverCount.{some_bind}
 use Rattle.tree_proof.proofs.RebuildLemmas.{append_nil}
-use Rattle.tree_proof.proofs.LeftLemmas.{left-here, left-none, left_over, left-cover, over-ends}
+use Rattle.tree_proof.proofs.LeftLemmas.{left_in, left-here, left-none, left_over, left-cover, over-ends}
 use Rattle.tree_proof.proofs.Rises.{cover-rises, left-leads}
 use Rattle.tree_proof.proofs.PinsComplete.{Made, AreMade, above, Left, left-are-made, pins-cover, same-rebuilt, same-wholly, left-split}
 use Rattle.tree_proof.proofs.Clashes.{EachSized, AllIn, OrClash, and_then, in_left, in_right, in_rest}

@@ -3,4 +3,3 @@ pub mod Check
 pub mod SlowProof
 pub mod Inputs
 pub mod Pinned
-pub mod Left

@@ -1,13 +1,12 @@
 //! The nodes of a cover that stand left of its range.
 ghost use Rattle.std.specs.Prelude.{◌≡◌, ◌≤◌, ◌<◌, ◌+◌, ◌^◌, ◌++◌, ℕ, All, OnOk, IfOk};
-ghost use Rattle.tree_proof.specs.Cover.{meets, cover};
+ghost use Rattle.tree_proof.specs.Cover.{meets, cover_in, cover};
 ghost use Rattle.tree_proof.specs.Pinned.{left_of};
-ghost use Rattle.tree_proof.specs.Left.{left_in};
 
 use std::alloc::{AllocError, Global};
 use tree_shape::{Family, half_width, width};
 
-/// Adds those under a node that end at or below so many leaves, from the left.
+/// Adds those of the cover of a range from so many leaves on, inside a node, that stand left of it.
 fn push_left(
     nodes: &mut Vec<(u64, u32)>,
     leaves: u64,
@@ -16,7 +15,7 @@ fn push_left(
 ) -> Result<(), AllocError>
     requires few { x + 2 ^ height ≤ 2 ^ 62 }
     requires low { height < 63 }
-    ensures { OnOk result (nodes.new.items ≡ nodes.old.items ++ left_in leaves x height) }
+    ensures { OnOk result ((end : ℕ) → leaves < end → nodes.new.items ≡ nodes.old.items ++ left_of leaves (cover_in (meets leaves end) x height)) }
 {
     if x + width(height) <= leaves {
         nodes.push((x, height))?;

@@ -1,5 +1,5 @@
 use Rattle.std.proofs.Common.{◌+◌, ◌^◌, ◌<◌, ◌≤◌, ◌++◌, sym, ◌∙◌, ap, arith}
-use Rattle.tree_proof.proofs.LeftLemmas.{left-here, left-none, left-halves}
+use Rattle.tree_proof.proofs.LeftLemmas.{left-here, left-none, left-halves, to-cover, of-cover}
 use Rattle.tree_proof.proofs.RebuildLemmas.{append_nil}
 use Rattle.tree_proof.proofs.left.+push_left.Goals as goal
 use Rattle.tree_proof.proofs.left.+push_left.Goals.{then-leaves-x-via-then-leaves-x, then-leaves-x-via-else-leaves-x+then-height-eq0}
@@ -7,7 +7,7 @@ use Rattle.tree_proof.proofs.left.+push_left.Goals.{then-leaves-x-via-then-leave
 pub returns-then-x-width : goal.returns-then-x-width
 returns-then-x-width t c =
     let le : c.args.x + 2 ^ c.args.height ≤ c.args.leaves = omega (arith, c.width.ensures, c.if-x-width.true) in
-    (c.in_ok-push.ensures {u = tt}).items ∙ ap (λ ps. c.args.nodes.now.items ++ ps) (sym (left-here c.args.leaves c.args.x c.args.height le))
+    to-cover c.args.leaves c.args.x c.args.height _ _ ((c.in_ok-push.ensures {u = tt}).items ∙ ap (λ ps. c.args.nodes.now.items ++ ps) (sym (left-here c.args.leaves c.args.x c.args.height le)))
 
 pub returns-then-leaves-x : goal.returns-then-leaves-x
 returns-then-leaves-x t c =
@@ -16,9 +16,11 @@ returns-then-leaves-x t c =
       | then-leaves-x-via-then-leaves-x w ↦ w.if-leaves-x.true
       | then-leaves-x-via-else-leaves-x+then-height-eq0 w ↦ omega (arith, lt, ap (λ k. 2 ^ k) w.if-height-eq0.true)
     ] in
-    sym (ap (λ ps. c.args.nodes.now.items ++ ps) (left-none c.args.leaves c.args.x c.args.height lt le) ∙ append_nil c.args.nodes.now.items)
+    to-cover c.args.leaves c.args.x c.args.height _ _ (sym (ap (λ ps. c.args.nodes.now.items ++ ps) (left-none c.args.leaves c.args.x c.args.height lt le) ∙ append_nil c.args.nodes.now.items))
 
 pub returns : goal.returns
 returns t c =
     let lt : c.args.leaves < c.args.x + 2 ^ c.args.height = omega (arith, c.width.ensures, c.if-x-width.false) in
-    left-halves c.args.leaves c.args.x c.args.height c.half_width-half.result c.args.nodes.now.items _ _ lt c.if-leaves-x.false (omega arith) c.half_width-half.ensures.half c.in_ok-push_left.ensures c.in_ok-push_left-2.ensures
+    to-cover c.args.leaves c.args.x c.args.height _ _
+    (left-halves c.args.leaves c.args.x c.args.height c.half_width-half.result c.args.nodes.now.items _ _ lt c.if-leaves-x.false (omega arith) c.half_width-half.ensures.half
+    (of-cover c.args.leaves _ _ _ _ c.in_ok-push_left.ensures) (of-cover c.args.leaves _ _ _ _ c.in_ok-push_left-2.ensures))

@@ -1,7 +1,7 @@
 use Rattle.std.proofs.Common.{◌∙◌, arith}
 use Rattle.tree_shape.specs.Shape.{peaks}
 use Rattle.tree_proof.proofs.PeakLemmas.{next_of_left, first_walk}
-use Rattle.tree_proof.proofs.LeftLemmas.{gone_first, gone_next, gone_all, left-cover, left-small}
+use Rattle.tree_proof.proofs.LeftLemmas.{of-cover, gone_first, gone_next, gone_all, left-cover, left-small}
 use Rattle.tree_proof.proofs.left.left_nodes.Goals as goal
 
 pub loop-i-init : goal.loop-i-init
@@ -42,7 +42,7 @@ loop-i-preserved g c =
     let st = next_of_left s n c.loop-i.x c.peak_count-count.result c.loop-i.i c.peak_height-height.result (g.met.F.Family.lawful.peaks n) c.loop-i.invariant.walk c.loop-i-test.true c.peak_height-height.ensures in
     record {
       walk = rw c.width-x.ensures st.next;
-      gone = gone_next s n c.args.start _ _ _ _ _ _ c.loop-i.invariant.gone st.are c.in_ok-push_left.ensures;
+      gone = gone_next s n c.args.start _ _ _ _ _ _ c.loop-i.invariant.gone st.are (of-cover c.args.start _ _ _ _ c.in_ok-push_left.ensures);
     }
 
 pub returns-clause-nodes : goal.returns-clause-nodes
