@@ -135,9 +135,13 @@ fn pins_hash_to_the_cover(rt: HostRuntime) -> Result<(), Fail> {
 }
 
 #[test]
-fn laws_are_called(_rt: HostRuntime) {
+fn laws_hold_at_both_families(_rt: HostRuntime) {
     slow_proof_law::<Mmr, Sha256Hasher>();
+    slow_proof_law::<Mmb, Sha256Hasher>();
+    cover_count_law::<Mmr, Sha256Hasher>();
     cover_count_law::<Mmb, Sha256Hasher>();
+    slow_pins_law::<Mmr, Sha256Hasher>();
     slow_pins_law::<Mmb, Sha256Hasher>();
+    one_root_law::<Mmr, Sha256Hasher>();
     one_root_law::<Mmb, Sha256Hasher>();
 }
