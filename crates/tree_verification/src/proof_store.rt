@@ -39,7 +39,8 @@ impl<F: Family, D: Digest> ProofStore<F, D> {
     ghost use Rattle.tree_store.specs.Stores.{IsTreeOf};
     ghost use Rattle.tree_verification.specs.Told.{told_nodes, IsTold, entries, TellsExactly, told_at, told_answer};
 
-    /// The nodes that the proof and its elements from `start` on tell, whatever root they have.
+    /// The nodes that the proof and its elements from `start` on tell, whatever root they have. Refuses, in this order: `Empty`,
+    /// `LocationOverflow`, `RangeOutOfBounds`, `InvalidPinnedNodes`, `Memory`.
     pub fn new<H: Hasher<Digest = D>>(
         alloc: Global,
         proof: &Proof<F, D>,

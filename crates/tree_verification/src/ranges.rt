@@ -47,7 +47,8 @@ pub(crate) fn prove<F: Family, S: Storage<F>, V: Volume, W: Wanted>(
     })
 }
 
-/// The proof of the leaves from `start` up to `end`, in the tree that the store had at so many leaves.
+/// The proof of the leaves from `start` up to `end`, in the tree that the store had at so many leaves. Refuses, in this order:
+/// `Empty`, `LocationOverflow`, `RangeOutOfBounds` of the leaves and then of the end; then as the store's reads do.
 pub fn historical_range_proof<F: Family, S: Storage<F>, V: Volume>(
     alloc: Global,
     vol: &mut V,
@@ -79,7 +80,8 @@ pub fn historical_range_proof<F: Family, S: Storage<F>, V: Volume>(
     prove(alloc, vol, store, leaves, &range, inactive_peaks)
 }
 
-/// The proof of the leaves from `start` up to `end`, in the tree that the store has.
+/// The proof of the leaves from `start` up to `end`, in the tree that the store has. Refuses, in this order: `Empty`,
+/// `LocationOverflow`, `RangeOutOfBounds`; then as the store's reads do.
 pub fn range_proof<F: Family, S: Storage<F>, V: Volume>(
     alloc: Global,
     vol: &mut V,

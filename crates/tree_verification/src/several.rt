@@ -19,7 +19,8 @@ use tree_shape::{Family, Location};
 use tree_store::{Error, Storage};
 use volume_base::Volume;
 
-/// The proof of these leaves, each past the one before it, in the tree that the store has.
+/// The proof of these leaves, each past the one before it, in the tree that the store has. Refuses, in this
+/// order: `Empty`, `UnsortedLocation` or `DuplicateLocation`, `RangeOutOfBounds`; then as the store's reads do.
 pub fn multi_proof<F: Family, S: Storage<F>, V: Volume>(
     alloc: Global,
     vol: &mut V,
