@@ -79,7 +79,8 @@ impl<F: Family, D: Digest> Mem<F, D> {
         })
     }
 
-    /// A tree that is pruned at a number of leaves: its peaks there, the oldest first, and its nodes from there on.
+    /// A tree that is pruned at a number of leaves: its peaks there, the oldest first, and its nodes from there on. Refuses, in
+    /// this order: `LocationOverflow`, `InvalidPinnedNodes`, `MissingNode`, `Memory`.
     pub fn init(
         alloc: Global,
         nodes: Vec<D>,
@@ -164,7 +165,8 @@ impl<F: Family, D: Digest> Mem<F, D> {
         Ok(root_from::<F, H, Mem<F, D>>(self, hasher, self.leaves, inactive_peaks))
     }
 
-    /// The proof of one leaf.
+    /// The proof of one leaf. Refuses, in this order: `LocationOverflow`, `RangeOutOfBounds`; then `ElementPruned` of the first
+    /// node that is wanting, or `Memory`.
     pub fn proof(&self, loc: Location<F>, inactive_peaks: u64) -> Result<Proof<F, D>, Error<F>>
         requires { inactive_peaks ≤ length (F.shape.heights self.now.leaves) }
         ensures proves { Proves F.shape (leaf_answer self.now.leaves loc) self.now.leaves inactive_peaks (meets loc (loc + 1)) (node_at self.now) result }
@@ -172,10 +174,11 @@ impl<F: Family, D: Digest> Mem<F, D> {
         // From the boundary on no node is wanting.
         ensures kept { self.now.boundary ≤ loc → OnlyRefusedBy (leaf_answer self.now.leaves loc) result }
     {
-        proof_from_memory(self.alloc, self, self.leaves(), loc, inactive_peaks)
+        proof_from_memory(self.alloc, self, loc, inactive_peaks)
     }
 
-    /// The proof of the leaves from `start` up to `end`.
+    /// The proof of the leaves from `start` up to `end`. Refuses, in this order: `Empty`, `LocationOverflow`,
+    /// `RangeOutOfBounds`; then `ElementPruned` of the first node that is wanting, or `Memory`.
     pub fn range_proof(
         &self,
         start: Location<F>,
@@ -188,10 +191,10 @@ impl<F: Family, D: Digest> Mem<F, D> {
         // From the boundary on no node is wanting.
         ensures kept { self.now.boundary ≤ start → OnlyRefusedBy (range_answer self.now.leaves self.now.leaves start end) result }
     {
-        range_proof_from_memory(self.alloc, self, self.leaves(), start, end, inactive_peaks)
+        range_proof_from_memory(self.alloc, self, start, end, inactive_peaks)
     }
 
-    /// Prunes to a number of leaves. It takes no memory.
+    /// Prunes to a number of leaves. Refuses, in this order: `LocationOverflow`, `LeafOutOfBounds`. It takes no memory.
     pub fn prune(&mut self, loc: Location<F>) -> Result<(), Error<F>>
         ensures answer { result ≡ prune_answer self.old.leaves loc }
         ensures err { OnErr result (self.new ≡ self.old) }
@@ -294,7 +297,8 @@ impl<F: Family, D: Digest> Mem<F, D> {
         Ok(MerkleizedBatch::seal(self.alloc, boundary, segments, self.leaves, self.leaves))
     }
 
-    /// Appends what the batch has behind the mark of this tree.
+    /// Appends what the batch has behind the mark of this tree. Refuses, in this order: `AncestorDropped` of a batch that began at
+    /// this tree but no longer has what stands behind it, `StaleBatch` of another that doesn't fit; or with `Memory`.
     pub fn apply_batch(&mut self, batch: &MerkleizedBatch<F, D>) -> Result<(), Error<F>>
         ensures longer { OnOk result (IsLonger F.shape batch.now.leaves self.old self.new) }
         ensures fits { OnOk result ((h : Hashing D) (all : List D) → IsOf F.shape h all self.old → (i : ℕ) × Fits F.shape h all self.old.leaves batch.now i) }

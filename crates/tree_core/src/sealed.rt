@@ -122,6 +122,8 @@ impl<F: Family, D: Digest> MerkleizedBatch<F, D> {
     }
 
     /// The proof of one leaf of the tree with this batch, over a tree that has what stands before the batch's nodes.
+    /// Refuses, in this order: `LocationOverflow`, `RangeOutOfBounds`; then `ElementPruned` of the first node that is wanting, or
+    /// `Memory`.
     pub fn proof(
         &self,
         base: &Mem<F, D>,
@@ -139,10 +141,12 @@ impl<F: Family, D: Digest> MerkleizedBatch<F, D> {
         // Its leaves tell that the tree is sound.
         let _stored = base.leaves();
         let nodes = Overlay { base, batch: self };
-        proof_from_memory(self.alloc, &nodes, self.leaves(), loc, inactive_peaks)
+        proof_from_memory(self.alloc, &nodes, loc, inactive_peaks)
     }
 
     /// The proof of the leaves from `start` up to `end` of the tree with this batch, over a tree that has what stands before the batch's nodes.
+    /// Refuses, in this order: `Empty`, `LocationOverflow`, `RangeOutOfBounds`; then `ElementPruned` of the first node that is
+    /// wanting, or `Memory`.
     pub fn range_proof(
         &self,
         base: &Mem<F, D>,
@@ -161,14 +165,7 @@ impl<F: Family, D: Digest> MerkleizedBatch<F, D> {
         // Its leaves tell that the tree is sound.
         let _stored = base.leaves();
         let nodes = Overlay { base, batch: self };
-        range_proof_from_memory(
-            self.alloc,
-            &nodes,
-            self.leaves(),
-            start,
-            end,
-            inactive_peaks,
-        )
+        range_proof_from_memory(self.alloc, &nodes, start, end, inactive_peaks)
     }
 
     /// A child, with this batch's segments and its own.

@@ -11,7 +11,7 @@ use crate::wanted::{LeafRange, Wanted};
 use codec_base::ListOf;
 use std::alloc::Global;
 use tree_proof::Proof;
-use tree_shape::{Location, MAX_LEAVES, Position};
+use tree_shape::{Family, Location, MAX_LEAVES, Position};
 use tree_store::{Error, Readable};
 
 /// The nodes at these positions. The first without one is named.
@@ -57,20 +57,30 @@ fn prove_from_memory<R: Readable, W: Wanted>(
     })
 }
 
-/// The proof of the leaves from `start` up to `end`, in the tree of so many leaves that memory has.
+/// The number of leaves that memory has.
+fn leaves_in<R: Readable>(nodes: &R) -> u64
+    ensures leaves { result ≡ R.leaves nodes.now }
+    ensures few { R.leaves nodes.now ≤ 2 ^ 62 }
+{
+    match R::Family::leaves_at(nodes.size()) {
+        Some(leaves) => leaves.as_u64(),
+        None => unreachable!(),
+    }
+}
+
+/// The proof of the leaves from `start` up to `end`. Refuses, in this order: `Empty`, `LocationOverflow`,
+/// `RangeOutOfBounds`; then `ElementPruned` of the first node of the cover that isn't there, or `Memory`.
 pub fn range_proof_from_memory<R: Readable>(
     alloc: Global,
     nodes: &R,
-    leaves: Location<R::Family>,
     start: Location<R::Family>,
     end: Location<R::Family>,
     inactive_peaks: u64,
 ) -> Result<Proof<R::Family, R::Digest>, Error<R::Family>>
-    requires few { leaves ≤ 2 ^ 62 }
-    requires peaks { inactive_peaks ≤ length (R.Family.shape.heights leaves) }
-    ensures { Proves R.Family.shape (range_answer leaves leaves start end) leaves inactive_peaks (meets start end) (R.told nodes.now) result }
+    requires { inactive_peaks ≤ length (R.Family.shape.heights (R.leaves nodes.now)) }
+    ensures { Proves R.Family.shape (range_answer (R.leaves nodes.now) (R.leaves nodes.now) start end) (R.leaves nodes.now) inactive_peaks (meets start end) (R.told nodes.now) result }
 {
-    let leaves = leaves.as_u64();
+    let leaves = leaves_in(nodes);
     let range = LeafRange {
         start: start.as_u64(),
         end: end.as_u64(),
@@ -79,22 +89,21 @@ pub fn range_proof_from_memory<R: Readable>(
     prove_from_memory(alloc, nodes, leaves, &range, inactive_peaks)
 }
 
-/// The proof of one leaf.
+/// The proof of one leaf. Refuses, in this order: `LocationOverflow`, `RangeOutOfBounds`; then `ElementPruned` of the first
+/// node of the cover that isn't there, or `Memory`.
 pub fn proof_from_memory<R: Readable>(
     alloc: Global,
     nodes: &R,
-    leaves: Location<R::Family>,
     loc: Location<R::Family>,
     inactive_peaks: u64,
 ) -> Result<Proof<R::Family, R::Digest>, Error<R::Family>>
-    requires few { leaves ≤ 2 ^ 62 }
-    requires peaks { inactive_peaks ≤ length (R.Family.shape.heights leaves) }
-    ensures { Proves R.Family.shape (leaf_answer leaves loc) leaves inactive_peaks (meets loc (loc + 1)) (R.told nodes.now) result }
+    requires { inactive_peaks ≤ length (R.Family.shape.heights (R.leaves nodes.now)) }
+    ensures { Proves R.Family.shape (leaf_answer (R.leaves nodes.now) loc) (R.leaves nodes.now) inactive_peaks (meets loc (loc + 1)) (R.told nodes.now) result }
 {
     let start = loc.as_u64();
     if start >= MAX_LEAVES {
         return Err(Error::LocationOverflow(loc));
     }
     let end = Location::new(start + 1);
-    range_proof_from_memory(alloc, nodes, leaves, loc, end, inactive_peaks)
+    range_proof_from_memory(alloc, nodes, loc, end, inactive_peaks)
 }

@@ -1,12 +1,12 @@
-use Rattle.std.proofs.Common.{ℕ, subst}
+use Rattle.std.proofs.Common.{refl, subst}
 use Rattle.tree_verification.specs.Ranges.{range_answer}
-use Rattle.tree_core.specs.Reading.{OnlyRefusedBy}
+use Rattle.tree_core.specs.Tree.{Tree, IsStored}
 use Rattle.tree_core.proofs.CoveredLemmas.{kept-in}
 use Rattle.tree_core.proofs.mem.Mem.range_proof.Goals as goal
 
 pub returns-clause-kept : goal.returns-clause-kept
 returns-clause-kept g c from =
-    let n = c.leaves.result in
-    let result = c.range_proof_from_memory.result in
-    subst (λ (m : ℕ). OnlyRefusedBy (range_answer {F = g.row.F.Denot} m m c.args.start c.args.end) result) c.leaves.ensures.leaves
-    (kept-in g.F.Family.shape c.args.self.now n c.args.inactive_peaks c.args.start c.args.end (range_answer n n c.args.start c.args.end) result g.met.F.Family.lawful g.met.F.Family.keeps c.leaves.ensures.sound c.leaves.ensures.leaves from c.range_proof_from_memory.ensures)
+    let s = g.F.Family.shape in
+    let t = c.args.self.now in
+    let stored = subst (λ (u : Tree g.row.D.Denot). IsStored s c.self.inside.pins u) c.self.view_is c.self.invariant in
+    kept-in s t t.leaves c.args.inactive_peaks c.args.start c.args.end (range_answer t.leaves t.leaves c.args.start c.args.end) c.range_proof_from_memory.result g.met.F.Family.lawful g.met.F.Family.keeps stored.sound refl from c.range_proof_from_memory.ensures

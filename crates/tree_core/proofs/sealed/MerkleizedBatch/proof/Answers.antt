@@ -1,8 +1,7 @@
-use Rattle.std.proofs.Common.{ℕ, ◌+◌, subst}
+use Rattle.std.proofs.Common.{◌+◌, refl, subst}
 use Rattle.tree_proof.specs.Cover.{meets}
 use Rattle.tree_verification.specs.Ranges.{leaf_answer, proof_of}
 use Rattle.tree_core.specs.Batches.{Sealed, IsSoundSealed}
-use Rattle.tree_core.specs.Reading.{OnlyRefusedBy}
 use Rattle.tree_core.proofs.CoveredLemmas.{kept-over, leaf-within}
 use Rattle.tree_core.proofs.OverlayLemmas.{overlay-proof}
 use Rattle.tree_core.proofs.sealed.MerkleizedBatch.proof.Goals as goal
@@ -11,13 +10,11 @@ pub returns-clause-batch : goal.returns-clause-batch
 returns-clause-batch g c =
     let s = g.F.Family.shape in
     let sound = subst (λ (b : Sealed g.row.D.Denot). IsSoundSealed s b) c.self.view_is c.self.invariant in
-    overlay-proof s c.args.self.now c.args.base.now _ (λ h all. proof_of s h all c.args.inactive_peaks (meets c.args.loc (c.args.loc + 1))) c.proof_from_memory.result g.met.F.Family.lawful sound c.leaves.ensures.leaves c.proof_from_memory.ensures.proof
+    overlay-proof s c.args.self.now c.args.base.now _ (λ h all. proof_of s h all c.args.inactive_peaks (meets c.args.loc (c.args.loc + 1))) c.proof_from_memory.result g.met.F.Family.lawful sound refl c.proof_from_memory.ensures.proof
 
 pub returns-clause-kept : goal.returns-clause-kept
 returns-clause-kept g c from reach =
     let s = g.F.Family.shape in
-    let n = c.leaves.result in
-    let result = c.proof_from_memory.result in
+    let n = c.args.self.now.leaves in
     let sound = subst (λ (b : Sealed g.row.D.Denot). IsSoundSealed s b) c.self.view_is c.self.invariant in
-    subst (λ (m : ℕ). OnlyRefusedBy (leaf_answer {F = g.row.F.Denot} m c.args.loc) result) c.leaves.ensures.leaves
-    (kept-over s c.args.self.now c.args.base.now n c.args.inactive_peaks c.args.loc (c.args.loc + 1) (leaf_answer n c.args.loc) result g.met.F.Family.lawful g.met.F.Family.keeps sound c.leaves-stored.ensures.sound c.leaves.ensures.leaves (leaf-within n c.args.loc) from reach c.proof_from_memory.ensures)
+    kept-over s c.args.self.now c.args.base.now n c.args.inactive_peaks c.args.loc (c.args.loc + 1) (leaf_answer n c.args.loc) c.proof_from_memory.result g.met.F.Family.lawful g.met.F.Family.keeps sound c.leaves-stored.ensures.sound refl (leaf-within n c.args.loc) from reach c.proof_from_memory.ensures

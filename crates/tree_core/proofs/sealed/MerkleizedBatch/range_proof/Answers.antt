@@ -1,8 +1,7 @@
-use Rattle.std.proofs.Common.{ℕ, subst}
+use Rattle.std.proofs.Common.{refl, subst}
 use Rattle.tree_proof.specs.Cover.{meets}
 use Rattle.tree_verification.specs.Ranges.{range_answer, proof_of}
 use Rattle.tree_core.specs.Batches.{Sealed, IsSoundSealed}
-use Rattle.tree_core.specs.Reading.{OnlyRefusedBy}
 use Rattle.tree_core.proofs.CoveredLemmas.{kept-over, range-within}
 use Rattle.tree_core.proofs.OverlayLemmas.{overlay-proof}
 use Rattle.tree_core.proofs.sealed.MerkleizedBatch.range_proof.Goals as goal
@@ -11,13 +10,11 @@ pub returns-clause-batch : goal.returns-clause-batch
 returns-clause-batch g c =
     let s = g.F.Family.shape in
     let sound = subst (λ (b : Sealed g.row.D.Denot). IsSoundSealed s b) c.self.view_is c.self.invariant in
-    overlay-proof s c.args.self.now c.args.base.now _ (λ h all. proof_of s h all c.args.inactive_peaks (meets c.args.start c.args.end)) c.range_proof_from_memory.result g.met.F.Family.lawful sound c.leaves.ensures.leaves c.range_proof_from_memory.ensures.proof
+    overlay-proof s c.args.self.now c.args.base.now _ (λ h all. proof_of s h all c.args.inactive_peaks (meets c.args.start c.args.end)) c.range_proof_from_memory.result g.met.F.Family.lawful sound refl c.range_proof_from_memory.ensures.proof
 
 pub returns-clause-kept : goal.returns-clause-kept
 returns-clause-kept g c from reach =
     let s = g.F.Family.shape in
-    let n = c.leaves.result in
-    let result = c.range_proof_from_memory.result in
+    let n = c.args.self.now.leaves in
     let sound = subst (λ (b : Sealed g.row.D.Denot). IsSoundSealed s b) c.self.view_is c.self.invariant in
-    subst (λ (m : ℕ). OnlyRefusedBy (range_answer {F = g.row.F.Denot} m m c.args.start c.args.end) result) c.leaves.ensures.leaves
-    (kept-over s c.args.self.now c.args.base.now n c.args.inactive_peaks c.args.start c.args.end (range_answer n n c.args.start c.args.end) result g.met.F.Family.lawful g.met.F.Family.keeps sound c.leaves-stored.ensures.sound c.leaves.ensures.leaves (range-within n c.args.start c.args.end) from reach c.range_proof_from_memory.ensures)
+    kept-over s c.args.self.now c.args.base.now n c.args.inactive_peaks c.args.start c.args.end (range_answer n n c.args.start c.args.end) c.range_proof_from_memory.result g.met.F.Family.lawful g.met.F.Family.keeps sound c.leaves-stored.ensures.sound refl (range-within n c.args.start c.args.end) from reach c.range_proof_from_memory.ensures
