@@ -5,7 +5,7 @@ ghost use Rattle.std.specs.Ordering.{nat_cmp};
 
 use super::*;
 use codec_base::Bytes;
-use std::alloc::{AllocError, AllocFailed, Global};
+use std::alloc::{AllocFailed, Global};
 use std::collections::BTreeMap;
 use std::test::Fail;
 
@@ -62,7 +62,7 @@ fn appended_leaves_give_the_roots_of_the_examples(rt: HostRuntime) -> Result<(),
 }
 
 #[test]
-fn batches_apply_once_in_any_order_that_fits(rt: HostRuntime) -> Result<(), Fail> {
+fn batches_apply_once_in_an_order_that_fits(rt: HostRuntime) -> Result<(), Fail> {
     let alloc = rt.alloc();
     let hasher = Standard::<Sha256Hasher>::new(Bagging::BackwardFold);
     let mut tree = Mem::<Mmb, Sha256Digest>::new(alloc)?;
@@ -86,12 +86,21 @@ fn batches_apply_once_in_any_order_that_fits(rt: HostRuntime) -> Result<(), Fail
                 actual: Position::new(0),
             })
     );
+    // Another tree takes the batch that keeps its ancestor in its place, and then not the ancestor.
+    let mut other = Mem::<Mmb, Sha256Digest>::new(alloc)?;
+    other.apply_batch(&third)?;
+    assert!(rt; other.apply_batch(&first) == Err(Error::StaleBatch));
     tree.apply_batch(&first)?;
+    assert!(rt; tree.root(&hasher, 0)? == first.root(&hasher, 0)?);
+    assert!(rt; tree.apply_batch(&first) == Err(Error::StaleBatch));
     assert!(rt; tree.root(&hasher, 0)? == first.root(&hasher, 0)?);
     tree.apply_batch(&third)?;
     assert_eq!(rt; tree.leaves().as_u64(), third.leaves().as_u64());
     assert!(rt; tree.root(&hasher, 0)? == third.root(&hasher, 0)?);
-    assert!(rt; tree.get_node(Position::new(3)) == third.get_node(Position::new(3)));
+    assert!(rt; other.root(&hasher, 0)? == third.root(&hasher, 0)?);
+    let three = Position::new(3);
+    assert!(rt; third.get_node(three).is_some());
+    assert!(rt; tree.get_node(three) == third.get_node(three));
     assert!(rt; tree.apply_batch(&second) == Err(Error::StaleBatch));
     assert_eq!(rt;
         TreeData::Boundary.text(),
@@ -100,17 +109,17 @@ fn batches_apply_once_in_any_order_that_fits(rt: HostRuntime) -> Result<(), Fail
     Ok(())
 }
 
-/// Leaves, nodes, positions of the peaks from the left, and peaks that end at or below leaf 8, of the belt.
-const BELT: [(u64, u64, &[u64], u64); 3] = [
-    (3, 4, &[2, 3], 2),
-    (5, 8, &[7, 6], 2),
-    (11, 19, &[18, 16, 17], 1),
+/// Leaves, nodes, positions and heights of the peaks from the left, and peaks that end at or below leaf 8, of the belt.
+const BELT: [(u64, u64, &[u64], &[u32], u64); 3] = [
+    (3, 4, &[2, 3], &[1, 0], 2),
+    (5, 8, &[7, 6], &[2, 0], 2),
+    (11, 19, &[18, 16, 17], &[3, 1, 0], 1),
 ];
 
 #[test]
 fn the_belt_has_its_shape(rt: HostRuntime) {
     table_laws();
-    for (leaves, nodes, pins, inactive) in BELT {
+    for (leaves, nodes, pins, heights, inactive) in BELT {
         assert!(rt; leaves <= 11);
         let location = Location::<Mmb>::new(leaves);
         assert_eq!(rt; Mmb::location_to_position(location).as_u64(), nodes);
@@ -121,6 +130,14 @@ fn the_belt_has_its_shape(rt: HostRuntime) {
             count += 1;
         }
         assert_eq!(rt; count, pins.len());
+        let peaks = Mmb::peak_count(leaves);
+        assert_eq!(rt; peaks as usize, heights.len());
+        for i in 0..peaks {
+            assert_eq!(rt;
+                Mmb::peak_height(leaves, peaks - 1 - i),
+                heights[i as usize]
+            );
+        }
         assert!(rt; Mmb::leaves_at(Position::new(nodes)) == Some(location));
         assert!(rt; Mmb::leaves_at(Position::new(2)).is_none());
         assert_eq!(rt; Mmb::to_nearest_size(Position::new(nodes)).as_u64(), nodes);
