@@ -4,7 +4,7 @@ pub mod Held
 pub mod Since
 pub mod PrunedLemmas
 pub mod MapLemmas
-pub mod ShelfLemmas
+pub mod KeptNodesLemmas
 pub mod LinkLemmas
 pub mod FoldLemmas
 pub mod TreeLemmas

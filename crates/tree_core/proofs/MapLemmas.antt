@@ -8,7 +8,7 @@ use Rattle.std.proofs.lemmas.Map.Entries.{lookup-filter-keys}
 use Rattle.tree_shape.specs.Shape.{Shape}
 use Rattle.tree_verification.proofs.KeyLemmas.{key_same}
 use Rattle.tree_core.specs.Pruned.{keeps, pruned}
-use Rattle.tree_core.specs.Shelf.{entry_at}
+use Rattle.tree_core.specs.KeptNodes.{entry_at}
 
 pub get_filtered : {X : Type 0} (s : Shape) (b : ℕ) (es fs : List (ℕ × X)) → fs ≡ filter (λ e. keeps s b e.0) es → (p : ℕ) → entry_at fs p ≡ pruned s b (entry_at es) p
 get_filtered s b es fs e p =

@@ -14,8 +14,8 @@ use Rattle.tree_core.proofs.FoldLemmas.{in_peaks, oldest_at}
 use Rattle.tree_shape.proofs.NodeLemmas.{low_height}
 use Rattle.tree_shape.proofs.PinLemmas.{base-le}
 use Rattle.tree_core.proofs.PrunedLemmas.{peak_stands, peak_at_true}
-use Rattle.tree_core.specs.Shelf.{entry_at, AreBefore}
-use Rattle.tree_core.proofs.ShelfLemmas.{entry_on, entry_first, entry_second, entry_here}
+use Rattle.tree_core.specs.KeptNodes.{entry_at, AreBefore}
+use Rattle.tree_core.proofs.KeptNodesLemmas.{entry_on, entry_first, entry_second, entry_here}
 
 -- the first leaf and the height of the j-th oldest peak
 abbrev pub first_at : Shape → ℕ → ℕ → ℕ

@@ -11,10 +11,10 @@ use Rattle.tree_shape.specs.Shape.{Shape, made}
 use Rattle.tree_shape.specs.Slow.{nodes}
 use Rattle.tree_store.specs.Stores.{IsTreeOf}
 use Rattle.tree_core.specs.Pruned.{IsPruned}
-use Rattle.tree_core.specs.Shelf.{entry_at, AreBefore}
+use Rattle.tree_core.specs.KeptNodes.{entry_at, AreBefore}
 use Rattle.tree_core.specs.Tree.{either}
 use Rattle.tree_verification.proofs.KeyLemmas.{key_same}
-use Rattle.tree_core.proofs.ShelfLemmas.{entry_here, entry_on, entry_first, entry_second}
+use Rattle.tree_core.proofs.KeptNodesLemmas.{entry_here, entry_on, entry_first, entry_second}
 
 -- whether there is no node at an entry's position
 abbrev pub is_free : {D : Type 0} → List (ℕ × D) → ℕ × D → Bool

@@ -23,7 +23,7 @@ pub use Rattle.tree_store.specs.declared.error.Error as TreeErrors
 pub mod Pruned
 pub mod Links
 pub mod Reading
-pub mod Shelf
+pub mod KeptNodes
 pub mod Tree
 pub mod Batches
 pub mod Applied

@@ -8,7 +8,7 @@ use Rattle.tree_shape.specs.Sizes.{HasSize}
 use Rattle.tree_core.specs.Pruned.{IsPruned, keeps, pruned, Extends}
 use Rattle.tree_store.specs.Stores.{IsTreeOf}
 use Rattle.tree_core.specs.Reading.{ArePeaks}
-use Rattle.tree_core.specs.Shelf.{entry_at, IsShelf}
+use Rattle.tree_core.specs.KeptNodes.{entry_at, ArePinsThenRun}
 
 -- the number of leaves, where it is pruned, and the kept nodes with their positions
 pub record Tree (D : Type 0) : Type 0 where
@@ -29,7 +29,7 @@ pub record IsSound {D : Type 0} (s : Shape) (t : Tree D) : Type 0 where
 -- so many nodes stand before its boundary, and the others are a run from there to its end
 pub record IsStored {D : Type 0} (s : Shape) (count : ℕ) (t : Tree D) : Type 0 where
   pub sound : IsSound s t
-  pub shelf : IsShelf (length (made s t.boundary)) count t.kept
+  pub ordered : ArePinsThenRun (length (made s t.boundary)) count t.kept
   pub ended : length t.kept + length (made s t.boundary) ≡ count + length (made s t.leaves)
 
 -- it is the tree of this list of leaf digests: each kept node is the slow node

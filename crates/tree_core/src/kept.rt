@@ -4,7 +4,7 @@ ghost use Rattle.tree_shape.specs.Shape.{made};
 ghost use Rattle.tree_shape.specs.Sizes.{HasSize};
 ghost use Rattle.tree_core.specs.Pruned.{is_peak_at, keeps};
 ghost use Rattle.tree_core.specs.Reading.{ArePeaks};
-ghost use Rattle.tree_core.specs.Shelf.{entry_at, AreBefore};
+ghost use Rattle.tree_core.specs.KeptNodes.{entry_at, AreBefore};
 
 use crate::Error;
 use std::alloc::{AllocError, Global};

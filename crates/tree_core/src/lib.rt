@@ -3,6 +3,7 @@
 
 mod growth;
 mod kept;
+mod kept_nodes;
 mod laws;
 mod mark;
 mod mem;
@@ -10,7 +11,6 @@ mod overlay;
 mod peaks;
 mod sealed;
 mod segment;
-mod shelf;
 mod unsealed;
 pub mod verification;
 

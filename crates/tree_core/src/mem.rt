@@ -1,9 +1,9 @@
 use crate::growth::mark_of;
 use crate::kept::{is_kept, leaves_with, pins_of};
+use crate::kept_nodes::{node_among, push_all, with_pins};
 use crate::mark::Mark;
 use crate::peaks::{Peaks, root_from};
 use crate::segment::{Segment, push_own};
-use crate::shelf::{node_among, push_all, with_pins};
 use crate::{Error, MerkleizedBatch, Readable, Storage, UnmerkleizedBatch};
 use std::alloc::{AllocError, Global};
 use std::collections::BTreeMap;

@@ -3,10 +3,10 @@ use Rattle.std.specs.Prelude.{filter}
 use Rattle.std.specs.BTreeMap.{get}
 use Rattle.std.specs.Ordering.{nat_cmp}
 use Rattle.tree_shape.specs.Shape.{made}
-use Rattle.tree_core.specs.Shelf.{entry_at, IsShelf}
+use Rattle.tree_core.specs.KeptNodes.{entry_at, ArePinsThenRun}
 use Rattle.tree_core.specs.Tree.{Tree, IsOf, IsPinned}
 use Rattle.tree_core.proofs.PinningLemmas.{is_free, joined_pinned, free_before, pinned_pruned, pinned_tree}
-use Rattle.tree_core.proofs.ShelfLemmas.{shelf_joined}
+use Rattle.tree_core.proofs.KeptNodesLemmas.{pins_run_joined}
 use Rattle.tree_core.proofs.mem.Mem.add_pinned_nodes.Goals as goal
 
 pub invariant_of-self : goal.invariant_of-self
@@ -30,7 +30,7 @@ invariant_of-self g c =
         within = c.self.invariant.sound.within;
         held = pinned_pruned s c.self.inside.leaves c.self.inside.boundary (entry_at es) (entry_at fs) (entry_at pins) c.self.invariant.sound.held (joined_pinned es pins fs joined) low;
       };
-      shelf = subst (λ (k : ℕ). IsShelf first k fs) count (shelf_joined first c.self.inside.pins (filter (is_free es) pins) es fs before c.self.invariant.shelf joined);
+      ordered = subst (λ (k : ℕ). ArePinsThenRun first k fs) count (pins_run_joined first c.self.inside.pins (filter (is_free es) pins) es fs before c.self.invariant.ordered joined);
       ended = omega (arith, long, count, c.self.invariant.ended);
     }
 

@@ -1,11 +1,11 @@
 use Rattle.std.proofs.Common.{◌≡◌, ◌+◌, ◌++◌, length, refl, ◌∙◌, sym, ap, subst, arith, length-append}
 use Rattle.tree_shape.specs.Shape.{made}
 use Rattle.tree_core.specs.Pruned.{made_from}
-use Rattle.tree_core.specs.Shelf.{entry_at, placed}
+use Rattle.tree_core.specs.KeptNodes.{entry_at, placed}
 use Rattle.tree_core.specs.Tree.{Tree, IsGrown}
 use Rattle.tree_core.proofs.Later.{length-split}
 use Rattle.tree_core.proofs.PrunedLemmas.{pruned_grown}
-use Rattle.tree_core.proofs.ShelfLemmas.{shelf_grown, extends_placed, length-placed}
+use Rattle.tree_core.proofs.KeptNodesLemmas.{pins_run_grown, extends_placed, length-placed}
 use Rattle.tree_core.proofs.mem.Mem.append_nodes.Goals as goal
 
 pub push_all-requires : goal.push_all-requires
@@ -33,7 +33,7 @@ invariant_of-self-2 g c =
         held = pruned_grown s c.self.inside.leaves c.self.inside.boundary c.args.later (entry_at es) (entry_at c.push_all.new.nodes.items) c.args.more.now g.met.F.Family.lawful within c.self.invariant.sound.held counted
             (extends_placed (length (made s c.self.inside.leaves)) es c.push_all.new.nodes.items c.args.more.now c.self.invariant.sound.held.ended grown);
       };
-      shelf = shelf_grown (length (made s c.self.inside.boundary)) c.self.inside.pins (length (made s c.self.inside.leaves)) es c.push_all.new.nodes.items c.args.more.now c.self.invariant.shelf c.self.invariant.ended grown;
+      ordered = pins_run_grown (length (made s c.self.inside.boundary)) c.self.inside.pins (length (made s c.self.inside.leaves)) es c.push_all.new.nodes.items c.args.more.now c.self.invariant.ordered c.self.invariant.ended grown;
       ended = omega (arith, long, more, counted, c.self.invariant.ended, length-split s c.self.inside.leaves c.args.later);
     }
 

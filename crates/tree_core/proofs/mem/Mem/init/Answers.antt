@@ -3,11 +3,11 @@ use Rattle.tree_shape.specs.Shape.{made}
 use Rattle.tree_shape.specs.Sizes.{HasSize}
 use Rattle.tree_core.specs.Pruned.{Extends}
 use Rattle.tree_core.specs.Reading.{ArePeaks}
-use Rattle.tree_core.specs.Shelf.{entry_at, placed}
+use Rattle.tree_core.specs.KeptNodes.{entry_at, placed}
 use Rattle.tree_core.specs.Tree.{Tree, IsBuilt}
 use Rattle.tree_core.proofs.PinnedLemmas.{pins_below}
 use Rattle.tree_core.proofs.BuiltLemmas.{built_pruned, sizes_apart, is_built, built_tree}
-use Rattle.tree_core.proofs.ShelfLemmas.{shelf_built, extends_placed, length-placed}
+use Rattle.tree_core.proofs.KeptNodesLemmas.{pins_run_built, extends_placed, length-placed}
 use Rattle.tree_core.proofs.mem.Mem.init.Goals as goal
 
 pub invariant_of-result : goal.invariant_of-result
@@ -29,7 +29,7 @@ invariant_of-result g c =
         within = sizes_apart s n b (length c.args.nodes.items) size.1;
         held = built_pruned s n b (entry_at es) (entry_at c.push_all.new.nodes.items) c.args.nodes.items c.args.pinned.items g.met.F.Family.lawful size.1 pins more;
       };
-      shelf = shelf_built (length (made s b)) _ es c.push_all.new.nodes.items c.args.nodes.items (search rules) c.in_ok-kept.ensures.before grown;
+      ordered = pins_run_built (length (made s b)) _ es c.push_all.new.nodes.items c.args.nodes.items (search rules) c.in_ok-kept.ensures.before grown;
       ended = omega (arith, long, placed_long, size.1, c.len-pins.ensures);
     }
 

@@ -4,11 +4,11 @@ use Rattle.std.proofs.lemmas.Fn.{filter_same}
 use Rattle.tree_shape.specs.Shape.{made}
 use Rattle.tree_shape.proofs.NeededLemmas.{made_le}
 use Rattle.tree_core.specs.Pruned.{keeps, pruned}
-use Rattle.tree_core.specs.Shelf.{entry_at, IsShelf}
+use Rattle.tree_core.specs.KeptNodes.{entry_at, ArePinsThenRun}
 use Rattle.tree_core.specs.Tree.{Tree, IsOf, IsPrunedTo}
 use Rattle.tree_core.proofs.MapLemmas.{get_filtered}
 use Rattle.tree_core.proofs.PrunedLemmas.{pruned_again, pruned_tree, kept_past}
-use Rattle.tree_core.proofs.ShelfLemmas.{KeptShelf, shelf_kept}
+use Rattle.tree_core.proofs.KeptNodesLemmas.{KeptPart, pins_run_kept}
 use Rattle.tree_core.proofs.mem.Mem.prune.Goals as goal
 
 pub overflow_sub-run : goal.overflow_sub-run
@@ -24,8 +24,8 @@ overflow_sub-self g c =
     let within : m ≤ c.self.inside.leaves = omega (arith, c.as_u64-2.ensures, c.as_u64-boundary.ensures, c.if-as_u64-leaves.false) in
     let above : c.self.inside.boundary ≤ m = omega (arith, c.as_u64-3.ensures, c.as_u64-boundary.ensures, c.if-as_u64-self.false) in
     let filtered : c.retain.new.self.items ≡ filter (λ e. keeps s m e.0) c.self.inside.nodes.items = filter_same _ (λ e. keeps s m e.0) _ (λ e t f' h. search rules) _ _ c.retain.ensures.filtered in
-    let kept : KeptShelf (length (made s m)) (length (made s c.self.inside.leaves)) c.retain.new.self.items =
-    shelf_kept (keeps s m) (length (made s c.self.inside.boundary)) c.self.inside.pins (length (made s m)) (length (made s c.self.inside.leaves)) c.self.inside.nodes.items c.retain.new.self.items c.self.invariant.shelf c.self.invariant.ended
+    let kept : KeptPart (length (made s m)) (length (made s c.self.inside.leaves)) c.retain.new.self.items =
+    pins_run_kept (keeps s m) (length (made s c.self.inside.boundary)) c.self.inside.pins (length (made s m)) (length (made s c.self.inside.leaves)) c.self.inside.nodes.items c.retain.new.self.items c.self.invariant.ordered c.self.invariant.ended
     (made_le s c.self.inside.boundary m above) (made_le s m c.self.inside.leaves within) (kept_past s m) filtered in
     let long : c.len.result ≡ length c.retain.new.self.items = search rules in
     omega (arith, long, kept.room, c.size.ensures, c.size-2.ensures)
@@ -37,8 +37,8 @@ invariant_of-self g c =
     let within : m ≤ c.self.inside.leaves = omega (arith, c.as_u64-2.ensures, c.as_u64-boundary.ensures, c.if-as_u64-leaves.false) in
     let above : c.self.inside.boundary ≤ m = omega (arith, c.as_u64-3.ensures, c.as_u64-boundary.ensures, c.if-as_u64-self.false) in
     let filtered : c.retain.new.self.items ≡ filter (λ e. keeps s m e.0) c.self.inside.nodes.items = filter_same _ (λ e. keeps s m e.0) _ (λ e t f' h. search rules) _ _ c.retain.ensures.filtered in
-    let kept : KeptShelf (length (made s m)) (length (made s c.self.inside.leaves)) c.retain.new.self.items =
-    shelf_kept (keeps s m) (length (made s c.self.inside.boundary)) c.self.inside.pins (length (made s m)) (length (made s c.self.inside.leaves)) c.self.inside.nodes.items c.retain.new.self.items c.self.invariant.shelf c.self.invariant.ended
+    let kept : KeptPart (length (made s m)) (length (made s c.self.inside.leaves)) c.retain.new.self.items =
+    pins_run_kept (keeps s m) (length (made s c.self.inside.boundary)) c.self.inside.pins (length (made s m)) (length (made s c.self.inside.leaves)) c.self.inside.nodes.items c.retain.new.self.items c.self.invariant.ordered c.self.invariant.ended
     (made_le s c.self.inside.boundary m above) (made_le s m c.self.inside.leaves within) (kept_past s m) filtered in
     let long : c.len.result ≡ length c.retain.new.self.items = search rules in
     let sizes = made_le s m c.self.inside.leaves within in
@@ -51,7 +51,7 @@ invariant_of-self g c =
         held = pruned_again s c.self.inside.leaves c.self.inside.boundary m (entry_at c.self.inside.nodes.items) (entry_at c.retain.new.self.items) g.met.F.Family.lawful g.met.F.Family.keeps c.self.invariant.sound.held above within
             (get_filtered s m c.self.inside.nodes.items c.retain.new.self.items filtered);
       };
-      shelf = subst (λ (k : ℕ). IsShelf (length (made s m)) k c.retain.new.self.items) count kept.shelf;
+      ordered = subst (λ (k : ℕ). ArePinsThenRun (length (made s m)) k c.retain.new.self.items) count kept.ordered;
       ended = omega (arith, room, sizes, count);
     }
 

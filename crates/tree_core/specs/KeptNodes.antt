@@ -19,7 +19,7 @@ AreBefore first [] = Unit {0}
 AreBefore first (e ∷ es) = (e.0 < first) × AreBefore first es
 
 -- so many pins stand before `first`, and the others are a run from there on
-pub record IsShelf {D : Type 0} (first count : ℕ) (entries : List (ℕ × D)) : Type 0 where
+pub record ArePinsThenRun {D : Type 0} (first count : ℕ) (entries : List (ℕ × D)) : Type 0 where
   pub pins : List (ℕ × D)
   pub run : List D
   pub whole : entries ≡ pins ++ placed first run

@@ -8,7 +8,7 @@ use Rattle.std.proofs.lemmas.Bool.Decides.{eqb_tells}
 use Rattle.std.proofs.lemmas.List.Elements.{filter-append}
 use Rattle.std.proofs.lemmas.Option.{slice_get_past, slice_get_within, slice_get-get_or, get_or_from_slice_get, same_Some}
 use Rattle.tree_core.specs.Pruned.{Extends}
-use Rattle.tree_core.specs.Shelf.{entry_at, placed, AreBefore, IsShelf}
+use Rattle.tree_core.specs.KeptNodes.{entry_at, placed, AreBefore, ArePinsThenRun}
 use Rattle.tree_verification.proofs.KeyLemmas.{key_apart, key_itself}
 use Rattle.tree_core.proofs.Later.{get_past}
 use Rattle.tree_core.proofs.MemLemmas.{take-next}
@@ -105,42 +105,42 @@ found_read es i j p d e none lt less same =
     let both : get_or es i d ≡ get_or es i e = get_or_from_slice_get es i (get_or es i e) d g in
     sym (found_here es i j p (get_or es i e) none lt g (ap (λ (q : ℕ × _). q.0) (sym both) ∙ same))
 
--- ---- a shelf
+-- ---- pins, then a run
 
-pub shelf_long : {D : Type 0} (first count : ℕ) (es : List (ℕ × D)) (s : IsShelf first count es) → length es ≡ count + length s.run
-shelf_long first count es s = let l = length-append s.pins (placed first s.run) in let r = length-placed s.run first in let c = s.counted in omega (arith, ap length s.whole, l, r, c)
+pub pins_run_long : {D : Type 0} (first count : ℕ) (es : List (ℕ × D)) (s : ArePinsThenRun first count es) → length es ≡ count + length s.run
+pins_run_long first count es s = let l = length-append s.pins (placed first s.run) in let r = length-placed s.run first in let c = s.counted in omega (arith, ap length s.whole, l, r, c)
 
-pub low_entry : {D : Type 0} (first count p : ℕ) (es : List (ℕ × D)) → IsShelf first count es → p < first → entry_at (take count es) p ≡ entry_at es p
+pub low_entry : {D : Type 0} (first count p : ℕ) (es : List (ℕ × D)) → ArePinsThenRun first count es → p < first → entry_at (take count es) p ≡ entry_at es p
 low_entry first count p es s lt =
     let cut : take count es ≡ s.pins = ap (λ n. take n es) (sym s.counted) ∙ ap (take (length s.pins)) s.whole ∙ take-append_seam s.pins (placed first s.run) in
     ap (λ xs. entry_at xs p) cut ∙ sym (ap (λ xs. entry_at xs p) s.whole ∙ entry_first s.pins (placed first s.run) p (none_placed s.run first p lt))
 
-pub run_entry : {D : Type 0} (first count p : ℕ) (es : List (ℕ × D)) (s : IsShelf first count es) → first ≤ p → entry_at es p ≡ slice_get s.run (p - first)
+pub run_entry : {D : Type 0} (first count p : ℕ) (es : List (ℕ × D)) (s : ArePinsThenRun first count es) → first ≤ p → entry_at es p ≡ slice_get s.run (p - first)
 run_entry first count p es s le =
     ap (λ xs. entry_at xs p) s.whole ∙ entry_second s.pins (placed first s.run) p (none_before s.pins first p s.before le) ∙ placed_at s.run first p le
 
-pub run_here : {D : Type 0} (first count p : ℕ) (es : List (ℕ × D)) (e : ℕ × D) → IsShelf first count es → first ≤ p → slice_get es (count + (p - first)) ≡ Some e → entry_at es p ≡ Some e.1
+pub run_here : {D : Type 0} (first count p : ℕ) (es : List (ℕ × D)) (e : ℕ × D) → ArePinsThenRun first count es → first ≤ p → slice_get es (count + (p - first)) ≡ Some e → entry_at es p ≡ Some e.1
 run_here first count p es e s le g =
     let at : slice_get (placed first s.run) (p - first) ≡ Some e =
     sym (get_past s.pins (placed first s.run) (p - first)) ∙ ap (λ n. slice_get (s.pins ++ placed first s.run) (n + (p - first))) s.counted ∙ ap (λ xs. slice_get xs (count + (p - first))) (sym s.whole) ∙ g in
     run_entry first count p es s le ∙ placed-get s.run first (p - first) e at
 
-pub run_read : {D : Type 0} (first count p : ℕ) (es : List (ℕ × D)) (d : ℕ × D) → IsShelf first count es → first ≤ p → p - first < length es - count → Some (get_or es (count + (p - first)) d).1 ≡ entry_at es p
+pub run_read : {D : Type 0} (first count p : ℕ) (es : List (ℕ × D)) (d : ℕ × D) → ArePinsThenRun first count es → first ≤ p → p - first < length es - count → Some (get_or es (count + (p - first)) d).1 ≡ entry_at es p
 run_read first count p es d s le lt =
     sym (run_here first count p es (get_or es (count + (p - first)) d) s le (slice_get-get_or es (count + (p - first)) d (omega arith)))
 
-pub run_past : {D : Type 0} (first count p : ℕ) (es : List (ℕ × D)) → IsShelf first count es → first ≤ p → length es - count ≤ p - first → entry_at es p ≡ None
-run_past first count p es s le past = run_entry first count p es s le ∙ slice_get_past s.run (p - first) (let l = shelf_long first count es s in omega (arith, l))
+pub run_past : {D : Type 0} (first count p : ℕ) (es : List (ℕ × D)) → ArePinsThenRun first count es → first ≤ p → length es - count ≤ p - first → entry_at es p ≡ None
+run_past first count p es s le past = run_entry first count p es s le ∙ slice_get_past s.run (p - first) (let l = pins_run_long first count es s in omega (arith, l))
 
-pub shelf_empty : {D : Type 0} (first : ℕ) (es : List (ℕ × D)) → es ≡ [] → IsShelf first 0 es
-shelf_empty first es e = record { pins = []; run = []; whole = e; counted = refl; before = tt }
+pub pins_run_empty : {D : Type 0} (first : ℕ) (es : List (ℕ × D)) → es ≡ [] → ArePinsThenRun first 0 es
+pins_run_empty first es e = record { pins = []; run = []; whole = e; counted = refl; before = tt }
 
-pub shelf_built : {D : Type 0} (first count : ℕ) (pins es : List (ℕ × D)) (more : List D) → length pins ≡ count → AreBefore first pins → es ≡ pins ++ placed first more → IsShelf first count es
-shelf_built first count pins es more l b e = record { pins = pins; run = more; whole = e; counted = l; before = b }
+pub pins_run_built : {D : Type 0} (first count : ℕ) (pins es : List (ℕ × D)) (more : List D) → length pins ≡ count → AreBefore first pins → es ≡ pins ++ placed first more → ArePinsThenRun first count es
+pins_run_built first count pins es more l b e = record { pins = pins; run = more; whole = e; counted = l; before = b }
 
-pub shelf_grown : {D : Type 0} (first count end : ℕ) (es fs : List (ℕ × D)) (more : List D) → IsShelf first count es → length es + first ≡ count + end → fs ≡ es ++ placed end more → IsShelf first count fs
-shelf_grown first count end es fs more s l e =
-    let long = shelf_long first count es s in
+pub pins_run_grown : {D : Type 0} (first count end : ℕ) (es fs : List (ℕ × D)) (more : List D) → ArePinsThenRun first count es → length es + first ≡ count + end → fs ≡ es ++ placed end more → ArePinsThenRun first count fs
+pins_run_grown first count end es fs more s l e =
+    let long = pins_run_long first count es s in
     let ends : end ≡ first + length s.run = omega (arith, long) in
     record {
       pins = s.pins;
@@ -159,8 +159,8 @@ extends_placed end es fs more none e = record {
       ap (λ xs. entry_at xs (end + i)) e ∙ entry_second es (placed end more) (end + i) (none (end + i) (omega arith)) ∙ placed_at more end (end + i) (omega arith) ∙ ap (slice_get more) q;
 }
 
-pub shelf_joined : {D : Type 0} (first count : ℕ) (more es fs : List (ℕ × D)) → AreBefore first more → IsShelf first count es → fs ≡ more ++ es → IsShelf first (length more + count) fs
-shelf_joined first count more es fs b s e = record {
+pub pins_run_joined : {D : Type 0} (first count : ℕ) (more es fs : List (ℕ × D)) → AreBefore first more → ArePinsThenRun first count es → fs ≡ more ++ es → ArePinsThenRun first (length more + count) fs
+pins_run_joined first count more es fs b s e = record {
   pins = more ++ s.pins;
   run = s.run;
   whole = e ∙ ap (λ xs. more ++ xs) s.whole ∙ sym (append_assoc more s.pins (placed first s.run));
@@ -172,7 +172,7 @@ shelf_joined first count more es fs b s e = record {
     both [] a = s.before
     both (x ∷ xs) a = (a.0, both xs a.1)
 
--- ---- a shelf of which some entries are kept, and all from a later position on
+-- ---- pins and a run of which some entries are kept, and all from a later position on
 
 before_later : {D : Type 0} (es : List (ℕ × D)) (first later : ℕ) → first ≤ later → AreBefore first es → AreBefore later es
 before_later [] first later le b = tt
@@ -216,15 +216,15 @@ dropped_long [] (suc i) le = absurd (omega arith)
 dropped_long (x ∷ xs) (suc i) le = let r = dropped_long xs i (omega arith) in omega (arith, r)
 
 -- the run from there on is whole
-pub record KeptShelf {D : Type 0} (later end : ℕ) (fs : List (ℕ × D)) : Type 0 where
+pub record KeptPart {D : Type 0} (later end : ℕ) (fs : List (ℕ × D)) : Type 0 where
   pub room : end - later ≤ length fs
-  pub shelf : IsShelf later (length fs - (end - later)) fs
+  pub ordered : ArePinsThenRun later (length fs - (end - later)) fs
 
-pub shelf_kept : {D : Type 0} (keep : ℕ → Bool) (first count later end : ℕ) (es fs : List (ℕ × D)) → IsShelf first count es → length es + first ≡ count + end → first ≤ later → later ≤ end
-    → ((p : ℕ) → later ≤ p → keep p ≡ true) → fs ≡ filter (λ e. keep e.0) es → KeptShelf later end fs
-shelf_kept {D = D} keep first count later end es fs s l le stop all e = record {
+pub pins_run_kept : {D : Type 0} (keep : ℕ → Bool) (first count later end : ℕ) (es fs : List (ℕ × D)) → ArePinsThenRun first count es → length es + first ≡ count + end → first ≤ later → later ≤ end
+    → ((p : ℕ) → later ≤ p → keep p ≡ true) → fs ≡ filter (λ e. keep e.0) es → KeptPart later end fs
+pins_run_kept {D = D} keep first count later end es fs s l le stop all e = record {
   room = omega (arith, long, rest);
-  shelf = record {
+  ordered = record {
     pins = filter test (s.pins ++ placed first (take (later - first) s.run));
     run = drop (later - first) s.run;
     whole = parts;
@@ -237,7 +237,7 @@ shelf_kept {D = D} keep first count later end es fs s l le stop all e = record {
     test q = keep q.0
 
     whole_long : length es ≡ count + length s.run
-    whole_long = shelf_long first count es s
+    whole_long = pins_run_long first count es s
 
     inside : later - first ≤ length s.run
     inside = omega (arith, whole_long)

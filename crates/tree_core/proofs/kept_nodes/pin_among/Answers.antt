@@ -1,6 +1,6 @@
 use Rattle.std.proofs.Common.{add-one, arith}
-use Rattle.tree_core.proofs.ShelfLemmas.{none_read, found_read}
-use Rattle.tree_core.proofs.shelf.pin_among.Goals as goal
+use Rattle.tree_core.proofs.KeptNodesLemmas.{none_read, found_read}
+use Rattle.tree_core.proofs.kept_nodes.pin_among.Goals as goal
 
 pub returns-then-nodes-i : goal.returns-then-nodes-i
 returns-then-nodes-i g c =

@@ -1,6 +1,6 @@
 use Rattle.std.proofs.Common.{add-one}
-use Rattle.tree_core.proofs.ShelfLemmas.{pushed}
-use Rattle.tree_core.proofs.shelf.push_all.Goals as goal
+use Rattle.tree_core.proofs.KeptNodesLemmas.{pushed}
+use Rattle.tree_core.proofs.kept_nodes.push_all.Goals as goal
 
 pub loop-i-preserved : goal.loop-i-preserved
 loop-i-preserved g c =

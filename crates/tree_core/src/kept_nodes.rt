@@ -1,6 +1,6 @@
 //! Nodes with their positions in one vector: pins before a position, and behind them a run from it on, which is read by its place.
 ghost use Rattle.std.specs.Prelude.{◌≡◌, ℕ, ◌+◌, ◌≤◌, ◌<◌, ◌^◌, ◌++◌, take, length, filter, is_none, OnOk, OnErr, IfOk};
-ghost use Rattle.tree_core.specs.Shelf.{IsShelf, entry_at, placed};
+ghost use Rattle.tree_core.specs.KeptNodes.{ArePinsThenRun, entry_at, placed};
 
 use std::alloc::{AllocError, Global};
 use std::collections::BTreeMap;
@@ -26,7 +26,7 @@ pub(crate) fn node_among<D: Digest>(
     first: u64,
     position: u64,
 ) -> Option<D>
-    requires { IsShelf first count nodes.now }
+    requires { ArePinsThenRun first count nodes.now }
     ensures { result ≡ entry_at nodes.now position }
 {
     if position < first {
@@ -71,7 +71,7 @@ pub(crate) fn with_pins<F: Family, D: Digest>(
     first: u64,
     pins: &BTreeMap<Position<F>, D>,
 ) -> Result<Vec<(u64, D)>, AllocError>
-    requires { IsShelf first count nodes.now }
+    requires { ArePinsThenRun first count nodes.now }
     ensures { IfOk result (λ all. all.items ≡ filter (λ e. is_none (entry_at nodes.now e.0)) pins.now.entries ++ nodes.now) }
 {
     let mut all = Vec::new(alloc);

@@ -1,6 +1,6 @@
 use Rattle.std.proofs.Common.{sym, ◌∙◌}
-use Rattle.tree_core.proofs.ShelfLemmas.{low_entry, run_read, run_past}
-use Rattle.tree_core.proofs.shelf.node_among.Goals as goal
+use Rattle.tree_core.proofs.KeptNodesLemmas.{low_entry, run_read, run_past}
+use Rattle.tree_core.proofs.kept_nodes.node_among.Goals as goal
 
 pub returns-then-position-first : goal.returns-then-position-first
 returns-then-position-first g c = c.pin_among.ensures ∙ low_entry c.args.first c.args.count c.args.position c.args.nodes.now c.requires c.if-position-first.true
