@@ -10,7 +10,7 @@ use Rattle.tree_shape.specs.Slow.{node, node_of}
 use Rattle.tree_shape.specs.Root.{root, root_over}
 use Rattle.tree_shape.proofs.PinLemmas.{length-peaks_down, peaks_down-at}
 use Rattle.tree_core.specs.Pruned.{peaks_at, nodes_from, held_at}
-use Rattle.tree_core.specs.Links.{Link}
+use Rattle.tree_core.specs.Links.{ChainSegment}
 use Rattle.tree_core.specs.Batches.{IsSoundSegment}
 use Rattle.tree_core.proofs.Since.{peak_is_held, peak_node}
 use Rattle.tree_core.specs.Reading.{ArePeaks}
@@ -64,13 +64,13 @@ root_is s h all n k t b r count right told =
     told (map (node_of s h all) (peaks s n)) (are_peaks s h all n t right) ∙ ap (λ m. root_over h m (map (node_of s h all) (peaks s m)) k b) count
 
 -- a segment tells each peak behind it
-pub link_tells : {D : Type 0} (s : Shape) (g : Link D) → IsLawful s → KeepsPeaks s → IsSoundSegment s g → (x k : ℕ) → PeakOf s (g.leaves + g.later) x k → IsSome (held_at s g.leaves g.peaks g.nodes x k)
+pub link_tells : {D : Type 0} (s : Shape) (g : ChainSegment D) → IsLawful s → KeepsPeaks s → IsSoundSegment s g → (x k : ℕ) → PeakOf s (g.leaves + g.later) x k → IsSome (held_at s g.leaves g.peaks g.nodes x k)
 link_tells s g w q sound x k peak =
     let stands = peak_stands s (made s (g.leaves + g.later)) (g.leaves + g.later) (s.heights (g.leaves + g.later)) x k (w.peaks (g.leaves + g.later)) peak in
     peak_is_held s g.leaves g.later x k g.peaks g.nodes w q sound.marked sound.counted peak stands
 
 -- and it is the slow node
-pub link_told : {D : Type 0} (s : Shape) (h : Hashing D) (all : List D) (g : Link D) → IsLawful s → KeepsPeaks s → IsSoundSegment s g → g.peaks ≡ peaks_at s h all g.leaves → g.nodes ≡ nodes_from s h all g.leaves g.later
+pub link_told : {D : Type 0} (s : Shape) (h : Hashing D) (all : List D) (g : ChainSegment D) → IsLawful s → KeepsPeaks s → IsSoundSegment s g → g.peaks ≡ peaks_at s h all g.leaves → g.nodes ≡ nodes_from s h all g.leaves g.later
     → (x k : ℕ) → PeakOf s (g.leaves + g.later) x k → held_at s g.leaves g.peaks g.nodes x k ≡ Some (node s h all x k)
 link_told s h all g w q sound ep en x k peak =
     let here = some_of (held_at s g.leaves g.peaks g.nodes x k) (link_tells s g w q sound x k peak) in

@@ -3,14 +3,14 @@ use Rattle.std.specs.Prelude.{◌≡◌, ℕ, ◌+◌, ◌-◌, ◌^◌, ◌<◌
 use Rattle.tree_shape.specs.Hashing.{Hashing}
 use Rattle.tree_shape.specs.Shape.{Shape, made}
 use Rattle.tree_core.specs.Pruned.{made_from, peaks_at}
-use Rattle.tree_core.specs.Links.{Link, IsLinked, IsBatchOf, first_leaves, joined_nodes}
+use Rattle.tree_core.specs.Links.{ChainSegment, IsLinked, IsBatchOf, first_leaves, joined_nodes}
 
 -- a sealed batch: the mark on which its chain began, the segments that are kept, its own the last, and its leaves
 pub record Sealed (D : Type 0) : Type 0 where
   pub began : ℕ
   pub peaks : List D
   pub first : ℕ
-  pub links : List (Link D)
+  pub links : List (ChainSegment D)
   pub leaves : ℕ
 
 -- a batch that still takes leaves: the same, without a segment of its own, the mark that it stands on, and its leaf digests
@@ -18,12 +18,12 @@ pub record Unsealed (D : Type 0) : Type 0 where
   pub began : ℕ
   pub peaks : List D
   pub first : ℕ
-  pub links : List (Link D)
+  pub links : List (ChainSegment D)
   pub base : ℕ
   pub base_peaks : List D
   pub digests : List D
 
-pub record IsSoundSegment {D : Type 0} (s : Shape) (g : Link D) : Type 0 where
+pub record IsSoundSegment {D : Type 0} (s : Shape) (g : ChainSegment D) : Type 0 where
   pub few : g.leaves + g.later ≤ 2 ^ 62
   pub marked : length g.peaks ≡ length (s.heights g.leaves)
   pub counted : length g.nodes ≡ length (made_from s g.leaves g.later)

@@ -7,47 +7,47 @@ use Rattle.tree_shape.specs.Shape.{Shape}
 use Rattle.tree_core.specs.Pruned.{made_from, peaks_at, nodes_from}
 
 -- a segment: the mark before it, the number of its leaves, its nodes
-pub record Link (D : Type 0) : Type 0 where
+pub record ChainSegment (D : Type 0) : Type 0 where
   pub leaves : ℕ
   pub peaks : List D
   pub later : ℕ
   pub nodes : List D
 
 -- a segment of what n leaves go on with
-pub record IsNext {D : Type 0} (s : Shape) (n : ℕ) (g : Link D) : Type 0 where
+pub record IsNext {D : Type 0} (s : Shape) (n : ℕ) (g : ChainSegment D) : Type 0 where
   pub starts : g.leaves ≡ n
   pub counted : length g.nodes ≡ length (made_from s n g.later)
 
 -- these segments follow one another, from n leaves to m
-abbrev pub IsLinked : {D : Type 0} → Shape → ℕ → List (Link D) → ℕ → Type 0
+abbrev pub IsLinked : {D : Type 0} → Shape → ℕ → List (ChainSegment D) → ℕ → Type 0
 IsLinked s n [] m = n ≡ m
 IsLinked s n (g ∷ gs) m = IsNext s n g × IsLinked s (n + g.later) gs m
 
-pub IsLinked-prop : {D : Type 0} (s : Shape) (n : ℕ) (gs : List (Link D)) (m : ℕ) → IsProp (IsLinked s n gs m)
+pub IsLinked-prop : {D : Type 0} (s : Shape) (n : ℕ) (gs : List (ChainSegment D)) (m : ℕ) → IsProp (IsLinked s n gs m)
 IsLinked-prop s n [] m = Prim.hlevel props
 IsLinked-prop s n (g ∷ gs) m = ×_prop (Prim.hlevel props) (IsLinked-prop s (n + g.later) gs m)
 
 -- and are those of this list
-abbrev pub IsLinkedOf : {D : Type 0} → Shape → Hashing D → List D → ℕ → List (Link D) → Type 0
+abbrev pub IsLinkedOf : {D : Type 0} → Shape → Hashing D → List D → ℕ → List (ChainSegment D) → Type 0
 IsLinkedOf s h all n [] = n ≡ length all
 IsLinkedOf s h all n (g ∷ gs) = (g.leaves ≡ n) × (g.peaks ≡ peaks_at s h all n) × (g.nodes ≡ nodes_from s h all n g.later) × IsLinkedOf s h all (n + g.later) gs
 
 -- their nodes, one after another
-abbrev pub joined_nodes : {D : Type 0} → List (Link D) → List D
+abbrev pub joined_nodes : {D : Type 0} → List (ChainSegment D) → List D
 joined_nodes [] = []
 joined_nodes (g ∷ gs) = g.nodes ++ joined_nodes gs
 
 -- a batch of this list: where its chain began, and what is kept of it
-pub record IsBatchOf {D : Type 0} (s : Shape) (h : Hashing D) (all : List D) (began : ℕ) (peaks : List D) (first : ℕ) (links : List (Link D)) : Type 0 where
+pub record IsBatchOf {D : Type 0} (s : Shape) (h : Hashing D) (all : List D) (began : ℕ) (peaks : List D) (first : ℕ) (links : List (ChainSegment D)) : Type 0 where
   pub linked : IsLinkedOf s h all first links
   pub before : began ≤ first
   pub boundary : peaks ≡ peaks_at s h all began
 
 -- segment i has this mark before it
-abbrev pub HasMark : {D : Type 0} → List (Link D) → ℕ → ℕ → List D → Type 0
+abbrev pub HasMark : {D : Type 0} → List (ChainSegment D) → ℕ → ℕ → List D → Type 0
 HasMark gs i n ps = IsSomeAnd (slice_get gs i) (λ g. (g.leaves ≡ n) × (g.peaks ≡ ps))
 
 -- the leaves before the first of these segments, the last of which ends at m
-abbrev pub first_leaves : {D : Type 0} → List (Link D) → ℕ → ℕ
+abbrev pub first_leaves : {D : Type 0} → List (ChainSegment D) → ℕ → ℕ
 first_leaves [] m = m
 first_leaves (g ∷ gs) m = g.leaves

@@ -21,7 +21,7 @@ pub struct MerkleizedBatch<F: Family, D: Digest> {
 
 impl<F: Family, D: Digest> Model for MerkleizedBatch<F, D> {
     ghost use Rattle.std.specs.Prelude.{map};
-    ghost use Rattle.tree_core.specs.Links.{Link};
+    ghost use Rattle.tree_core.specs.Links.{ChainSegment};
     ghost use Rattle.tree_core.specs.Batches.{Sealed, IsSoundSealed};
 
     ghost Value = { Sealed D };
@@ -36,7 +36,7 @@ impl<F: Family, D: Digest> MerkleizedBatch<F, D> {
     ghost use Rattle.tree_shape.specs.Hashing.{Hashing};
     ghost use Rattle.tree_shape.specs.Shape.{made};
     ghost use Rattle.tree_shape.specs.Root.{root};
-    ghost use Rattle.tree_core.specs.Links.{Link, IsLinked, HasMark, joined_nodes};
+    ghost use Rattle.tree_core.specs.Links.{ChainSegment, IsLinked, HasMark, joined_nodes};
     ghost use Rattle.tree_core.specs.Batches.{Sealed, IsSoundSealed, IsSealedOf, IsUnsealedOf, IsChildOf, sealed_node};
     ghost use Rattle.tree_core.specs.Applied.{WhyNot};
     ghost use Rattle.tree_core.specs.Tree.{IsOf};
@@ -53,7 +53,7 @@ impl<F: Family, D: Digest> MerkleizedBatch<F, D> {
         first: u64,
         leaves: u64,
     ) -> Self
-        requires sound { IsSoundSealed F.shape (record { began = boundary.value.leaves; peaks = boundary.value.peaks.items; first = first; links = map {B = Link D} (λ g. g.value) segments.items; leaves = leaves }) }
+        requires sound { IsSoundSealed F.shape (record { began = boundary.value.leaves; peaks = boundary.value.peaks.items; first = first; links = map {B = ChainSegment D} (λ g. g.value) segments.items; leaves = leaves }) }
         ensures { result ≡ record { began = boundary.value.leaves; peaks = boundary.value.peaks.items; first = first; links = map (λ g. g.value) segments.items; leaves = leaves } }
     {
         MerkleizedBatch {

@@ -3,7 +3,7 @@ ghost use Rattle.std.specs.Prelude.{◌≡◌, ℕ, ◌+◌, ◌-◌, ◌≤◌,
 ghost use Rattle.tree_shape.specs.Hashing.{Hashing};
 ghost use Rattle.tree_shape.specs.Root.{root};
 ghost use Rattle.tree_core.specs.Pruned.{made_from, nodes_from, peaks_at, held_at};
-ghost use Rattle.tree_core.specs.Links.{Link, first_leaves, HasMark, joined_nodes};
+ghost use Rattle.tree_core.specs.Links.{ChainSegment, first_leaves, HasMark, joined_nodes};
 ghost use Rattle.tree_core.specs.Batches.{IsSoundSegment};
 
 use crate::growth::mark_of;
@@ -23,7 +23,7 @@ pub(crate) struct Segment<F: Family, D: Digest> {
 }
 
 impl<F: Family, D: Digest> Model for Segment<F, D> {
-    ghost Value = { Link D };
+    ghost Value = { ChainSegment D };
 
     ghost view = { λ g. record { leaves = g.before.leaves; peaks = g.before.peaks.items; later = g.later; nodes = g.nodes.items } };
 
@@ -149,7 +149,7 @@ pub(crate) fn share_from<F: Family, D: Digest>(
     place: usize,
 ) -> Result<Vec<Rc<Segment<F, D>>>, AllocError>
     requires { place ≤ length segments.now }
-    ensures { IfOk result (λ v. map {B = Link D} (λ g. g.value) v.items ≡ drop place (map (λ g. g.value) segments.now)) }
+    ensures { IfOk result (λ v. map {B = ChainSegment D} (λ g. g.value) v.items ≡ drop place (map (λ g. g.value) segments.now)) }
 {
     let mut shared = Vec::new(alloc);
     for i in place..segments.len() {

@@ -1,6 +1,6 @@
 use Rattle.std.proofs.Common.{◌≡◌, length, sym, ◌∙◌, ap, subst}
 use Rattle.tree_core.specs.Pruned.{peaks_at}
-use Rattle.tree_core.specs.Links.{Link}
+use Rattle.tree_core.specs.Links.{ChainSegment}
 use Rattle.tree_core.specs.Tree.{Tree}
 use Rattle.tree_core.specs.Batches.{Sealed, IsSealedOf}
 use Rattle.tree_core.proofs.LinkLemmas.{one_batch, none_made, one_link, batch_like}
@@ -15,7 +15,7 @@ returns-clause-batch g c h all of =
     let n : c.self.inside.leaves ≡ c.args.self.now.leaves = ap (λ (t : Tree g.row.D.Denot). t.leaves) c.self.view_is in
     let own = c.in_ok-own.ensures.ok ∙ c.new-2.ensures in
     subst (λ (z : Sealed g.row.D.Denot). IsSealedOf s h all z) (sym c.seal.ensures) (rw c.in_ok-boundary.ensures.ok (batch_like s h all _ _ c.self.inside.leaves _ _ (one_link _ c.push_own.new.segments.items c.new-segments.result.items c.in_ok-own.own c.in_ok-push_own.ensures c.new-segments.ensures.items) (one_batch s h all c.self.inside.leaves c.in_ok-copied.field-0.leaves c.in_ok-copied.field-0.peaks.items c.in_ok-own.own.value
-    (ap (λ (l : Link g.row.D.Denot). l.leaves) own ∙ c.in_ok-mark.ensures.leaves ∙ sym n)
-    (ap (λ (l : Link g.row.D.Denot). l.peaks) own ∙ c.in_ok-mark.ensures.peaks h all of ∙ ap (peaks_at s h all) (sym n))
-    (ap (λ (l : Link g.row.D.Denot). l.later) own) (ap (λ (l : Link g.row.D.Denot). l.nodes) own ∙ c.new-nodes.ensures.items) (n ∙ of.count) (c.in_ok-copied.ensures.leaves ∙ c.in_ok-mark.ensures.leaves ∙ sym n)
+    (ap (λ (l : ChainSegment g.row.D.Denot). l.leaves) own ∙ c.in_ok-mark.ensures.leaves ∙ sym n)
+    (ap (λ (l : ChainSegment g.row.D.Denot). l.peaks) own ∙ c.in_ok-mark.ensures.peaks h all of ∙ ap (peaks_at s h all) (sym n))
+    (ap (λ (l : ChainSegment g.row.D.Denot). l.later) own) (ap (λ (l : ChainSegment g.row.D.Denot). l.nodes) own ∙ c.new-nodes.ensures.items) (n ∙ of.count) (c.in_ok-copied.ensures.leaves ∙ c.in_ok-mark.ensures.leaves ∙ sym n)
     (c.in_ok-copied.ensures.peaks ∙ c.in_ok-mark.ensures.peaks h all of ∙ ap (peaks_at s h all) (sym n)))))

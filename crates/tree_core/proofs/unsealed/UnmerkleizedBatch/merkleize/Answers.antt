@@ -1,7 +1,7 @@
 use Rattle.std.proofs.Common.{◌≡◌, ◌-◌, ◌++◌, length, sym, ◌∙◌, ap, subst, arith, length-append}
 use Rattle.std.proofs.lemmas.List.{length-map}
 use Rattle.tree_core.specs.Pruned.{made_from, nodes_from, peaks_at, Continues}
-use Rattle.tree_core.specs.Links.{Link}
+use Rattle.tree_core.specs.Links.{ChainSegment}
 use Rattle.tree_core.specs.Batches.{Sealed, Unsealed, IsUnsealedOf, IsSealedOf}
 use Rattle.tree_core.proofs.LinkLemmas.{linked_push_map, batch_push_map, continues, ends_with, peaks_longer, linked_drop_at, batch_drop}
 use Rattle.tree_core.proofs.unsealed.UnmerkleizedBatch.merkleize.Goals as goal
@@ -18,8 +18,8 @@ seal-requires g c =
         few = omega (arith, few, c.len-later.ensures, c.self.inside.digests.ok.0);
         some = (let l = length-map c.push_own.new.segments.items (λ r. r.value) in omega (arith, l, longer));
         linked = linked_push_map s _ c.first_of-first.result c.self.inside.base.leaves c.len-later.result c.in_ok-kept.kept.items c.push_own.new.segments.items c.in_ok-own.own c.in_ok-push_own.ensures kept
-            (ap (λ (l : Link g.row.D.Denot). l.leaves) own) (ap (λ (l : Link g.row.D.Denot). l.later) own)
-            (ap (λ (l : Link g.row.D.Denot). length l.nodes) own ∙ c.in_ok-nodes.ensures.counted ∙ ap (λ n. length (made_from s c.self.inside.base.leaves n)) (ap length c.deref-3.ensures.value ∙ sym c.self.inside.digests.ok.0 ∙ sym c.len-later.ensures));
+            (ap (λ (l : ChainSegment g.row.D.Denot). l.leaves) own) (ap (λ (l : ChainSegment g.row.D.Denot). l.later) own)
+            (ap (λ (l : ChainSegment g.row.D.Denot). length l.nodes) own ∙ c.in_ok-nodes.ensures.counted ∙ ap (λ n. length (made_from s c.self.inside.base.leaves n)) (ap length c.deref-3.ensures.value ∙ sym c.self.inside.digests.ok.0 ∙ sym c.len-later.ensures));
       };
     }
 
@@ -38,7 +38,7 @@ returns-clause-batch g c all un =
     let nodes : c.in_ok-nodes.nodes.items ≡ nodes_from s h (all ++ c.self.inside.digests.items) c.self.inside.base.leaves (length c.self.inside.digests.items) =
     (rw c.deref-3.ensures.value at c.in_ok-nodes.ensures.nodes) (all ++ more) before goes in
     let sealed = batch_push_map s h all more _ c.self.inside.boundary.value.leaves c.self.inside.boundary.value.peaks.items c.first_of-first.result c.in_ok-kept.kept.items c.push_own.new.segments.items c.in_ok-own.own
-    g.met.F.Family.lawful c.in_ok-push_own.ensures kept (ap (λ (l : Link g.row.D.Denot). l.leaves) own ∙ end) (ap (λ (l : Link g.row.D.Denot). l.peaks) own ∙ inside.base ∙ ap (peaks_at s h all) end)
-    (ap (λ (l : Link g.row.D.Denot). l.later) own ∙ c.len-later.ensures ∙ c.self.inside.digests.ok.0)
-    (ap (λ (l : Link g.row.D.Denot). l.nodes) own ∙ nodes ∙ ap (λ b. nodes_from s h (all ++ c.self.inside.digests.items) b (length c.self.inside.digests.items)) end) in
+    g.met.F.Family.lawful c.in_ok-push_own.ensures kept (ap (λ (l : ChainSegment g.row.D.Denot). l.leaves) own ∙ end) (ap (λ (l : ChainSegment g.row.D.Denot). l.peaks) own ∙ inside.base ∙ ap (peaks_at s h all) end)
+    (ap (λ (l : ChainSegment g.row.D.Denot). l.later) own ∙ c.len-later.ensures ∙ c.self.inside.digests.ok.0)
+    (ap (λ (l : ChainSegment g.row.D.Denot). l.nodes) own ∙ nodes ∙ ap (λ b. nodes_from s h (all ++ c.self.inside.digests.items) b (length c.self.inside.digests.items)) end) in
     subst (λ (b : Unsealed g.row.D.Denot). IsSealedOf s h (all ++ b.digests) c.seal.result) c.self.view_is (subst (λ (z : Sealed g.row.D.Denot). IsSealedOf s h (all ++ c.self.inside.digests.items) z) (sym c.seal.ensures) sealed)
