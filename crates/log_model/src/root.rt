@@ -1,4 +1,5 @@
-ghost use Rattle.std.specs.Prelude.{◌≡◌, ◌≤◌, ◌+◌, ◌^◌, ◌++◌, List, length, IfOk, OnOk, IsOkUnless};
+ghost use Rattle.std.specs.Prelude.{◌≡◌, ◌≤◌, ◌<◌, ◌+◌, ◌^◌, ◌++◌, ◌∷◌, [], List, length, IfOk, OnOk, OnErr, IsOkUnless};
+ghost use Rattle.tree_shape.specs.Slow.{leaf};
 ghost use Rattle.log_model.specs.Operations.{floor_of, leaves_from, root_of};
 
 use crate::Logged;
@@ -16,7 +17,25 @@ pub fn floor_of_operations<O: Logged>(operations: &[O]) -> u64
     }
 }
 
-/// Adds the digests of the leaves that more operations of a list are.
+/// Adds the digest of the leaf that the next operation of a list is.
+fn push_leaf<F: Family, H: Hasher, O: Logged>(
+    alloc: Global,
+    hasher: &Standard<H>,
+    leaves: &mut Vec<H::Digest>,
+    operation: &O,
+) -> Result<(), CodecError>
+    requires { length leaves.old.items < 2 ^ 62 }
+    ensures leaf { OnOk result (leaves.new.items ≡ leaves.old.items ++ leaf F.shape H.hash (length leaves.old.items) (O.meaning.encoding operation.now) ∷ []) }
+    ensures err { OnErr result (leaves.new.items ≡ leaves.old.items) }
+    ensures memory { IsOkUnless result CodecError.Memory }
+{
+    let bytes = encode(alloc, operation)?;
+    let position = Position::<F>::new(F::position(leaves.len() as u64, 0));
+    leaves.push(hasher.leaf_digest(position, bytes.as_slice()))?;
+    Ok(())
+}
+
+/// Adds the digests of the leaves that more operations of a list are, or of none.
 pub fn push_leaves<F: Family, H: Hasher, O: Logged>(
     alloc: Global,
     hasher: &Standard<H>,
@@ -26,12 +45,15 @@ pub fn push_leaves<F: Family, H: Hasher, O: Logged>(
     requires { length leaves.old.items + length operations.now ≤ 2 ^ 62 }
     ensures leaves { OnOk result (leaves.new.items ≡ leaves.old.items ++ leaves_from F.shape H.hash O.meaning (length leaves.old.items) operations.now) }
     ensures count { OnOk result (length leaves.new.items ≡ length leaves.old.items + length operations.now) }
+    ensures err { OnErr result (leaves.new.items ≡ leaves.old.items) }
     ensures memory { IsOkUnless result CodecError.Memory }
 {
+    let before = leaves.len();
     for i in 0..operations.len() {
-        let bytes = encode(alloc, &operations[i])?;
-        let position = Position::<F>::new(F::position(leaves.len() as u64, 0));
-        leaves.push(hasher.leaf_digest(position, bytes.as_slice()))?;
+        if push_leaf::<F, H, O>(alloc, hasher, leaves, &operations[i]).is_err() {
+            leaves.truncate(before);
+            return Err(CodecError::Memory);
+        }
     }
     Ok(())
 }
