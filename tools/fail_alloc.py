@@ -4,8 +4,9 @@
 usage: tools/fail_alloc.py PROGRAM
 
 The program has to end with status 8, the message of status 8, and the replies to a first part of the commands on its
-output, as expected.py computes them; or, where the allocation wasn't needed, as if it hadn't failed. One allocation
-fails by fail_alloc.c, which the C compiler `cc` makes and the loader puts before the C library.
+output, as expected.py computes them; or, where the allocation wasn't needed, as if it hadn't failed. The later the
+allocation, the more replies there are, up to all those before the last command that takes memory. One allocation fails
+by fail_alloc.c, which the C compiler `cc` makes and the loader puts before the C library.
 """
 import os
 import shutil
@@ -41,6 +42,18 @@ def fronts(text):
     return {b"".join(lines[:count]) for count in range(len(lines))}
 
 
+def told_at_last(lines, whole):
+    """How many bytes of replies have to be there where the last allocation fails: those before the last command that takes memory."""
+    replies = whole.splitlines(keepends=True)
+    takers = [at for at, (line, reply) in enumerate(zip(lines, replies[1:])) if takes_memory(line, reply)]
+    return len(b"".join(replies[: takers[-1] + 1])) if takers else 0
+
+
+def takes_memory(line, reply):
+    """Whether this command is sure to: a seal, and an append of some bytes, that were answered."""
+    return reply.startswith(b"sealed ") or line.startswith("append ") and reply.startswith(b"ok ") and not line.endswith(" .")
+
+
 def faults_of(program, name, lines):
     """How many allocations a run makes, how many of them weren't needed, and what was wrong."""
     text = "".join(line + "\n" for line in lines).encode()
@@ -48,13 +61,19 @@ def faults_of(program, name, lines):
     ending, output = program.run(text)
     if (ending, output) != (DONE, whole):
         return 0, 0, [f"{name}: not answered where no allocation fails"]
-    count, spared, wrong = program.allocations(), 0, []
+    count, spared, told, wrong = program.allocations(), 0, 0, []
     for number in range(1, count + 1):
         ending, output = program.run(text, number)
         if (ending, output) == (DONE, whole):
             spared += 1
         elif ending != NO_MEMORY or output not in fronts(whole):
             wrong.append(f"{name}: allocation {number} of {count}: {ending}, {len(output)} bytes written")
+        elif len(output) < told:
+            wrong.append(f"{name}: allocation {number} of {count}: fewer replies than where an earlier one fails")
+        else:
+            told = len(output)
+    if told < told_at_last(lines, whole):
+        wrong.append(f"{name}: where the last allocation fails, replies before it are not there")
     return count, spared, wrong
 
 

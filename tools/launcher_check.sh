@@ -1,13 +1,17 @@
 #!/bin/sh
-# Checks the launcher `twins`: the stored run, from another folder, through a link, with input and status passed on,
-# and the message where rt is missing. It works on the checkout that it stands in.
+# Checks the launcher `twins` and through it the program's ends: the stored run, from another folder, through a link, with
+# input passed on; each status that can be had from outside, with its message; and the message where rt is missing. It works
+# on the checkout that it stands in.
 set -u
 top=$(cd "$(dirname "$0")/.." && pwd -P)
 if ! command -v rt >/dev/null 2>&1; then
     echo 'skipped: no rt, so the launcher is not tried'
     exit 0
 fi
-[ -f "$top/crates/twins/stdin" ] || exit 0
+if [ ! -f "$top/crates/twins/stdin" ]; then
+    echo 'launcher: there is no stored run to try'
+    exit 1
+fi
 scratch=$(mktemp -d) || exit 1
 trap 'rm -rf "$scratch"' EXIT
 failed=0
@@ -27,9 +31,30 @@ ln -s link "$scratch/link-to-link"
 expect 'status of the stored run' [ $? -eq 0 ]
 expect 'output of the stored run' cmp -s "$scratch/answers" "$top/crates/twins/stdout"
 
-(cd "$scratch" && ./link no-such-word </dev/null >answers 2>errors)
-expect 'status of a word that has no form' [ $? -eq 2 ]
-expect 'no output for it' [ ! -s "$scratch/answers" ]
+ends() {        # a status, its message, the input, and words; nothing is written
+    status=$1
+    message=$2
+    input=$3
+    shift 3
+    (cd "$scratch" && ./link "$@" <"$input" >answers 2>errors)
+    expect "status $status" [ $? -eq "$status" ]
+    expect "message of status $status" [ "$(cat "$scratch/errors")" = "$message" ]
+    expect "no output with status $status" [ ! -s "$scratch/answers" ]
+}
+
+usage='twins: usage: twins [FOLDER] [--gen NUMBER COUNT]'
+printf 'size\n\nsizes\n' >"$scratch/bad-line"
+head -c 16777217 /dev/zero | tr '\0' '#' >"$scratch/too-long"
+ends 2 "$usage" /dev/null no-such-word
+ends 2 "$usage" /dev/null "$(printf '\377')"
+ends 3 'twins: line 3: not a command' "$scratch/bad-line"
+ends 4 'twins: cannot read input' "$scratch"
+ends 9 'twins: input longer than 16777216 bytes' "$scratch/too-long"
+if [ -w /dev/full ]; then
+    (cd "$scratch" && ./link </dev/null >/dev/full 2>errors)
+    expect 'status 5' [ $? -eq 5 ]
+    expect 'message of status 5' [ "$(cat "$scratch/errors")" = 'twins: cannot write output' ]
+fi
 
 # A checkout that isn't built, on a path without rt.
 mkdir -p "$scratch/copy/crates/twins" "$scratch/bin"

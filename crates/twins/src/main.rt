@@ -1,4 +1,4 @@
-//! Two databases of one log, driven side by side.
+//! Runs commands over one list in memory, which stands for both forms of the log, and writes the replies.
 #![tactic(auto)]
 
 mod batch;
