@@ -84,10 +84,7 @@ fn bytes_of(alloc: Global, word: &[u8]) -> Result<Option<Bytes>, CodecError>
 fn next_number(words: &mut Words<'_>) -> Option<u64>
     ensures { MatchOption result ((number : List ℕ) (rest : List (List ℕ)) (n : ℕ) → words.old ≡ number ∷ rest → IsNumberWord number n → ⊥) (λ n. (number : List ℕ) × (words.old ≡ number ∷ words.new) × IsNumberWord number n) }
 {
-    let Some(word) = words.next_word() else {
-        return None;
-    };
-    number_of(word)
+    number_of(words.next_word()?)
 }
 
 /// Reads the next word as metadata: a hyphen for none, or bytes.
@@ -151,13 +148,8 @@ fn read_seal(alloc: Global, mut words: Words<'_>) -> Result<Option<Command>, Cod
 fn only_number(mut words: Words<'_>) -> Option<u64>
     ensures { MatchOption result ((number : List ℕ) (n : ℕ) → words.entry ≡ number ∷ [] → IsNumberWord number n → ⊥) (λ n. (number : List ℕ) × (words.entry ≡ number ∷ []) × IsNumberWord number n) }
 {
-    let Some(n) = next_number(&mut words) else {
-        return None;
-    };
-    if !words.is_empty() {
-        return None;
-    }
-    Some(n)
+    let number = next_number(&mut words)?;
+    if words.is_empty() { Some(number) } else { None }
 }
 
 /// Reads the words behind `new`.
@@ -167,40 +159,28 @@ fn read_new(words: Words<'_>) -> Option<Command>
     if words.is_empty() {
         return Some(Command::New(None));
     }
-    let Some(b) = only_number(words) else {
-        return None;
-    };
-    Some(Command::New(Some(b)))
+    Some(Command::New(Some(only_number(words)?)))
 }
 
 /// Reads the words behind `apply`.
 fn read_apply(words: Words<'_>) -> Option<Command>
     ensures { IsReading (codes "apply" ∷ words.entry) result }
 {
-    let Some(b) = only_number(words) else {
-        return None;
-    };
-    Some(Command::Apply(b))
+    Some(Command::Apply(only_number(words)?))
 }
 
 /// Reads the words behind `hold`.
 fn read_hold(words: Words<'_>) -> Option<Command>
     ensures { IsReading (codes "hold" ∷ words.entry) result }
 {
-    let Some(b) = only_number(words) else {
-        return None;
-    };
-    Some(Command::Hold(b))
+    Some(Command::Hold(only_number(words)?))
 }
 
 /// Reads the words behind `release`.
 fn read_release(words: Words<'_>) -> Option<Command>
     ensures { IsReading (codes "release" ∷ words.entry) result }
 {
-    let Some(b) = only_number(words) else {
-        return None;
-    };
-    Some(Command::Release(b))
+    Some(Command::Release(only_number(words)?))
 }
 
 /// Reads the words behind the first, which says what command it is.

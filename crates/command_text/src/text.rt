@@ -92,7 +92,7 @@ fn put_value<O: Sink>(
     }
 }
 
-/// Puts the name of a refusal, and two numbers behind it.
+/// Puts a word, and two numbers behind it.
 #[tactic(auto, using(crate::specs::Pending::putting))]
 fn put_two<O: Sink>(
     piece: &mut Piece,
@@ -108,6 +108,7 @@ fn put_two<O: Sink>(
     put_number(piece, out, b" ", second)
 }
 
+/// Puts the answer to `metadata`.
 #[tactic(auto, using(crate::specs::Pending::putting))]
 fn put_metadata<O: Sink>(
     piece: &mut Piece,
@@ -121,6 +122,7 @@ fn put_metadata<O: Sink>(
     put_value(piece, out, metadata)
 }
 
+/// Puts the name of a refusal, and its numbers behind it.
 fn put_refusal<O: Sink>(piece: &mut Piece, out: &mut O, refusal: Refusal) -> Result<(), WriteFailed>
     ensures text { Puts (O.written out.old) piece.old (O.written out.new) piece.new result (refusal_text refusal) }
     ensures cause { HasCause (O.faults out.old) (O.faults out.new) result }
@@ -139,6 +141,7 @@ fn put_refusal<O: Sink>(piece: &mut Piece, out: &mut O, refusal: Refusal) -> Res
     }
 }
 
+/// Puts the answer to `seal`: the batch's size and its root.
 #[tactic(auto, using(crate::specs::Pending::putting))]
 fn put_sealed<O: Sink>(
     piece: &mut Piece,
@@ -153,6 +156,7 @@ fn put_sealed<O: Sink>(
     put_digest(piece, out, b" ", root)
 }
 
+/// Puts the answer to `size`: the log's size, its start and its floor.
 #[tactic(auto, using(crate::specs::Pending::putting))]
 fn put_size<O: Sink>(
     piece: &mut Piece,
@@ -169,6 +173,7 @@ fn put_size<O: Sink>(
     put_number(piece, out, b" floor ", floor)
 }
 
+/// Puts the answer of a refused command.
 #[tactic(auto, using(crate::specs::Pending::putting))]
 fn put_refused<O: Sink>(piece: &mut Piece, out: &mut O, refusal: Refusal) -> Result<(), WriteFailed>
     ensures text { Puts (O.written out.old) piece.old (O.written out.new) piece.new result (text_then (codes "refused ") (refusal_text refusal)) }
@@ -178,6 +183,7 @@ fn put_refused<O: Sink>(piece: &mut Piece, out: &mut O, refusal: Refusal) -> Res
     put_refusal(piece, out, refusal)
 }
 
+/// Puts an answer.
 fn put_answer<O: Sink>(piece: &mut Piece, out: &mut O, answer: &Answer) -> Result<(), WriteFailed>
     ensures text { Puts (O.written out.old) piece.old (O.written out.new) piece.new result (answer_text answer.now) }
     ensures cause { HasCause (O.faults out.old) (O.faults out.new) result }
