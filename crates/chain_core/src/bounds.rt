@@ -17,6 +17,7 @@ pub struct Bounds<F, D> {
     pub tip: Commitment<F, D>,
     /// The tips of the batch's ancestors, the newest first.
     pub ancestors: ListOf<Commitment<F, D>>,
+    /// The floor of the batch's commit: no operation below it is active.
     pub inactivity_floor: Location<F>,
 }
 

@@ -6,7 +6,9 @@ use tree_core::{Digest, Location};
 /// A state of a database: how many operations it has, and its root.
 #[derive_where(Clone, Copy; D)]
 pub struct Commitment<F, D> {
+    /// How many operations there are.
     pub size: Location<F>,
+    /// The root of their tree.
     pub root: D,
 }
 

@@ -3,7 +3,8 @@ ghost use Rattle.std.specs.Prelude.{◌≡◌, ◌↔◌, ◌≤◌, ◌<◌, Is
 use crate::Error;
 use tree_core::Location;
 
-/// The floor of a batch that is sealed stands between the floor built on, `start`, and the location of its commit.
+/// Tests the floor of a batch that is to be sealed: it has to stand between the floor that the batch builds on, `start`, and the
+/// location of its commit. Refuses, in this order: `FloorRegressed(floor, start)` below, `FloorBeyondSize(floor, commit_loc)` above.
 pub fn validate_merkleize_floor<F>(
     start: Location<F>,
     floor: Location<F>,

@@ -39,6 +39,7 @@ impl BatchId {
 pub enum PoolError {
     /// No batch is alive under the number.
     NoBatch,
+    /// There is no memory.
     Memory,
 }
 

@@ -43,7 +43,7 @@ fn which_commitments_a_batch_may_read_or_apply_at(rt: HostRuntime) -> Result<(),
 }
 
 #[test]
-fn boundaries_floors_and_texts(rt: HostRuntime) -> Result<(), Fail> {
+fn a_batch_without_operations_stands_at_its_state(rt: HostRuntime) -> Result<(), Fail> {
     let start = Bounds::from_db(rt.alloc(), state(10, 1), Location::new(3))?;
     assert!(rt; start.tip == state(10, 1) && start.ancestors.len() == 0);
     assert!(rt; start.validate_apply_to(start.tip).is_ok());
@@ -51,15 +51,35 @@ fn boundaries_floors_and_texts(rt: HostRuntime) -> Result<(), Fail> {
     let boundary = effective_boundary(state(10, 1), Some(state(12, 12)));
     let sealed = merkleizable(&7u8, boundary, state(12, 12), start.ancestors.as_slice());
     assert!(rt; sealed.is_ok());
-    let floor = validate_merkleize_floor::<Mmr>(
-        Location::new(3),
-        Location::new(2),
-        Location::new(9),
-    );
-    assert_eq!(rt;
-        floor,
-        Err(Error::FloorRegressed(Location::new(2), Location::new(3)))
-    );
+    Ok(())
+}
+
+#[test]
+fn floors_stand_between_the_one_below_and_the_commit(rt: HostRuntime) {
+    let rows = [
+        (
+            2,
+            Err(Error::FloorRegressed(Location::new(2), Location::new(3))),
+        ),
+        (3, Ok(())),
+        (9, Ok(())),
+        (
+            10,
+            Err(Error::FloorBeyondSize(Location::new(10), Location::new(9))),
+        ),
+    ];
+    for (floor, wanted) in rows {
+        let answer = validate_merkleize_floor::<Mmr>(
+            Location::new(3),
+            Location::new(floor),
+            Location::new(9),
+        );
+        assert_eq!(rt; answer, wanted, "{floor}");
+    }
+}
+
+#[test]
+fn faults_have_their_texts(rt: HostRuntime) -> Result<(), Fail> {
     assert_eq!(rt; Error::<Mmr>::from(JournalError::Volume), Error::Volume);
     for (fault, text) in [
         (DataFault::CommitOperation, "invalid commit operation"),

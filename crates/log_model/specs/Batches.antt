@@ -8,7 +8,7 @@ pub record UnsealedBatch (Op : Type 0) : Type 0 where
   pub base : ℕ
   pub pending : List Op
 
--- A batch that a commit has ended: the number of its parent, its whole list, and lengths of it: the base on which it was made, the boundary and the tips of its ancestors, the newest first. It may be applied to a log that is the list up to its boundary or a tip. Its floor is that of its commit; the caller holds it so often.
+-- A batch that a commit has ended: the number of its parent; its whole list; lengths of that list, which are the base on which it was made, its boundary, and the tips of its ancestors, the newest first; the floor of its commit; and how often the caller holds it. It may be applied to a log that is its list up to its boundary or a tip.
 pub record SealedBatch (Op : Type 0) : Type 0 where
   pub parent : Option ℕ
   pub list : List Op

@@ -86,7 +86,7 @@ fn roots_of_lists_in_two_parts(rt: HostRuntime) -> Result<(), Fail> {
 }
 
 #[test]
-fn laws_are_called(_rt: HostRuntime) {
+fn both_laws_hold_of_lists_of_bytes(_rt: HostRuntime) {
     encodings_law::<Mmr, Sha256Hasher, u8>();
     no_clash_law::<Mmr, Sha256Hasher, u8>(&());
 }

@@ -32,7 +32,8 @@ impl From<AllocError> for ConfigError {
     }
 }
 
-/// The names of the logs and of the map, and the sizes that both databases are opened with.
+/// The names of the logs (operations, nodes of the tree, witnesses) and of the map, how many items a blob of each log has, how many
+/// operations are replayed at a time, and the greatest length of a value in bytes.
 #[derive(Drop)]
 pub struct TwinConfig {
     log: String,
