@@ -45,6 +45,12 @@ fault_of fault.Volume is = inl refl
 fault_of fault.NotFresh is = inr refl
 fault_of fault.Memory is = absurd (elim is [ inl e ↦ cc | inr e ↦ cc ])
 
+-- a run that a fault ended has no end of a whole run
+pub not_whole : (f : Fault) → (fault_status f ≡ Done) ⊎ (fault_status f ≡ WriteFault) → ⊥
+not_whole fault.Volume is = elim is [ inl e ↦ cc | inr e ↦ cc ]
+not_whole fault.NotFresh is = elim is [ inl e ↦ cc | inr e ↦ cc ]
+not_whole fault.Memory is = elim is [ inl e ↦ cc | inr e ↦ cc ]
+
 -- a run that was begun doesn't end early
 pub not_early : (commands : List Command) (w w' : Option (List ℕ)) (f f' v v' : ℕ) (s : Status) → IsRunStatus commands w w' f f' v v' s → IsEarly s → ⊥
 not_early commands w w' f f' v v' BadWords run early = run

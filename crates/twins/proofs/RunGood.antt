@@ -3,7 +3,7 @@ use Rattle.std.proofs.Common.{◌≡◌, ℕ, zero, suc, ◌+◌, ◌-◌, ◌<�
 use Rattle.std.specs.Prelude.{nat_lt, nat_le, slice_set, IfSome, Contains}
 use Rattle.std.specs.List.{flat_map}
 use Rattle.std.proofs.lemmas.Bool.Decides.{nat_tests}
-use Rattle.std.proofs.lemmas.List.Elements.{Contains-append_right}
+use Rattle.std.proofs.lemmas.List.Elements.{Contains-append_left, Contains-append_right}
 use Rattle.log_model.specs.Batches.{Batch, UnsealedBatch, SealedBatch, Unsealed, Sealed, Gone, size_of, is_held}
 use Rattle.log_model.specs.Machine.{State, Test, max_leaves, batch_at, with_batch, one_list, sealed_list, lists_here}
 use Rattle.log_model.specs.Operations.{floor_of}
@@ -17,8 +17,8 @@ use Rattle.command_text.specs.declared.command.Command.{Command}
 use Rattle.command_text.specs.declared.command.Command.TheVariants as command
 use Rattle.command_text.specs.declared.command.Refusal.{Refusal}
 use Rattle.twins.specs.Step.{Outcome, step, begin, begin_on, append_to, seal_refusal, metadata_length, sealed_or_lost, seal, apply, hold, release, plain_commit}
-use Rattle.twins.specs.Trace.{state_after, fresh_state}
-use Rattle.twins.specs.Good.{IsGoodState, anywhere, StepsStayGood, RunsAreGood}
+use Rattle.twins.specs.Trace.{state_after, lists_passed, fresh_state}
+use Rattle.twins.specs.Good.{IsGoodState, HasLists, StepsStayGood, RunsAreGood}
 use Rattle.twins.proofs.RunLaws.{either, either_why}
 
 abbrev Allowed : ℕ → List ℕ → Type 0
@@ -45,10 +45,6 @@ seal_fits one s u floor = either_why (λ r. r ≡ None → SealFits one s u floo
     (λ high none. record { here = here; few = not_lt max_leaves (size_of u + 1) few; low = not_lt floor (floor_below meaning s u) low; high = not_lt (size_of u) floor high }))))
     (λ e none. absurd (cc))
 
--- each list of a state is one of these
-abbrev pub Known : (List Operation → Type 0) → State Operation → Type 0
-Known among s = (list : List Operation) → Contains (lists_here s) list → among list
-
 -- the list of a batch that is sealed is one of the state after it
 set_has : (bs : List (Batch Operation)) (b : ℕ) (u : UnsealedBatch Operation) (c : SealedBatch Operation) → get_or bs b Gone ≡ Unsealed u → Contains (flat_map sealed_list (slice_set bs b (Sealed c))) c.list
 set_has [] b u c is = absurd (cc)
@@ -74,7 +70,7 @@ module _ (among : List Operation → Type 0) (limit : ℕ) (s : State Operation)
 
   -- a seal whose list is one of these
   abbrev StaysKnown : Outcome → Type 0
-  StaysKnown o = Known among o.1 → Stays o
+  StaysKnown o = HasLists among o.1 → Stays o
 
   ended_good : (metadata : Option (List ℕ)) (floor : ℕ) (u : UnsealedBatch Operation) (why : Option Refusal) → seal_refusal (one_list meaning) s u floor ≡ why → batch_at s b ≡ Unsealed u → metadata_length metadata ≤ limit
       → StaysKnown (sealed_or_lost s b u metadata floor why)
@@ -117,7 +113,7 @@ begin_good among limit s g None = good_begun meaning among (Allowed limit) plain
 begin_good among limit s g (Some p) = begin_good_on among limit s g p (batch_at s p) refl
 
 -- a step after which each list is one of these keeps a good state
-pub stay_good_among : (among : List Operation → Type 0) (limit : ℕ) (s : State Operation) (c : Command) → Known among (step (one_list meaning) limit s c).1 → IsGoodState among limit s
+pub stay_good_among : (among : List Operation → Type 0) (limit : ℕ) (s : State Operation) (c : Command) → HasLists among (step (one_list meaning) limit s c).1 → IsGoodState among limit s
     → IsGoodState among limit (step (one_list meaning) limit s c).1
 stay_good_among among limit s (command.New parent) known g = begin_good among limit s g parent
 stay_good_among among limit s (command.Append b v) known g = append_good among limit s g b v (batch_at s b) refl
@@ -130,11 +126,33 @@ stay_good_among among limit s command.Size known g = g
 stay_good_among among limit s command.Metadata known g = g
 
 pub stay_good : StepsStayGood
-stay_good limit s c g = stay_good_among anywhere limit s c (λ list has. tt) g
+stay_good lists limit s c has g = stay_good_among (Contains lists) limit s c has g
 
-run_good : (limit : ℕ) (s : State Operation) (cs : List Command) → IsGoodState anywhere limit s → IsGoodState anywhere limit (state_after (one_list meaning) limit s cs)
-run_good limit s [] g = g
-run_good limit s (c ∷ cs) g = run_good limit (step (one_list meaning) limit s c).1 cs (stay_good limit s c g)
+-- ---- and so does a run
+
+-- the lists of a state are among those that a run passes from it on
+pub here_passed : (limit : ℕ) (s : State Operation) (cs : List Command) → HasLists (Contains (lists_passed (one_list meaning) limit s cs)) s
+here_passed limit s [] list has = has
+here_passed limit s (c ∷ cs) list has = Contains-append_left (lists_here s) (lists_passed (one_list meaning) limit (step (one_list meaning) limit s c).1 cs) list has
+
+-- those that it passes from the next state on are among them
+pub later_passed : (limit : ℕ) (s : State Operation) (c : Command) (cs : List Command) (list : List Operation)
+    → Contains (lists_passed (one_list meaning) limit (step (one_list meaning) limit s c).1 cs) list → Contains (lists_passed (one_list meaning) limit s (c ∷ cs)) list
+later_passed limit s c cs list has = Contains-append_right (lists_here s) (lists_passed (one_list meaning) limit (step (one_list meaning) limit s c).1 cs) list has
+
+run_good : (among : List Operation → Type 0) (limit : ℕ) (s : State Operation) (cs : List Command) → ((list : List Operation) → Contains (lists_passed (one_list meaning) limit s cs) list → among list)
+    → IsGoodState among limit s → IsGoodState among limit (state_after (one_list meaning) limit s cs)
+run_good among limit s [] known g = g
+run_good among limit s (c ∷ cs) known g =
+    let next : State Operation = (step (one_list meaning) limit s c).1 in
+    let later : (list : List Operation) → Contains (lists_passed (one_list meaning) limit next cs) list → among list = λ list has. known list (later_passed limit s c cs list has) in
+    run_good among limit next cs later (stay_good_among among limit s c (λ list has. later list (here_passed limit next cs list has)) g)
+
+-- the state of a fresh volume is good among the lists that a run passes from it on
+pub fresh_good : (limit : ℕ) (cs : List Command) → IsGoodState (Contains (lists_passed (one_list meaning) limit fresh_state cs)) limit fresh_state
+fresh_good limit cs =
+    let among : List Operation → Type 0 = Contains (lists_passed (one_list meaning) limit fresh_state cs) in
+    good_opened meaning among (Allowed limit) plain_commit (here_passed limit fresh_state cs (plain_commit ∷ []) (0, omega arith, refl)) refl tt
 
 pub are_good : RunsAreGood
-are_good limit cs = run_good limit fresh_state cs (good_opened meaning anywhere (Allowed limit) plain_commit tt refl tt)
+are_good limit cs = run_good (Contains (lists_passed (one_list meaning) limit fresh_state cs)) limit fresh_state cs (λ list has. has) (fresh_good limit cs)

@@ -4,18 +4,16 @@ use Rattle.std.specs.Prelude.{unwrap_or, IfSome, Contains}
 use Rattle.std.specs.List.{AllByRecursion}
 use Rattle.std.proofs.lemmas.Bool.Decides.{same_from_decides}
 use Rattle.std.proofs.lemmas.List.{length-take-le}
-use Rattle.std.proofs.lemmas.List.Elements.{Contains-append_left, Contains-append_right}
 use Rattle.codec_base.specs.Parts.{admits_bytes}
 use Rattle.tree_shape.specs.Mmr.{mmr}
 use Rattle.tree_shape.specs.Sha256Codec.{bytes_of}
 use Rattle.tree_shape.specs.declared.sha256.Sha256Digest.{Sha256Digest}
 use Rattle.log_model.specs.Hashed.{NoClash}
 use Rattle.log_model.specs.Batches.{Batch, Unsealed, Sealed, Gone}
-use Rattle.log_model.specs.Machine.{State, batch_at, one_list, lists_here}
+use Rattle.log_model.specs.Machine.{State, batch_at, one_list}
 use Rattle.log_model.specs.Reach.{effective_boundary, tips_of, reach, stands_on, may_seal, may_apply}
 use Rattle.log_model.proofs.ReachLemmas.{AllAgree, lists_decide, marks_here, stands_agree}
 use Rattle.log_model.specs.Good.{FloorFits, FloorsRise, ValuesAre, IsGoodList, IsMark, AreMarks, IsGoodBatch}
-use Rattle.log_model.proofs.GoodLemmas.{good_opened}
 use Rattle.op_codec.specs.Keyless.{parts, variable_admits}
 use Rattle.op_codec.specs.declared.keyless.Operation.TheVariants.{Append, Commit}
 use Rattle.chain_core.specs.Commitments.{is_same-exact, is_same_equivalence}
@@ -29,7 +27,7 @@ use Rattle.twins.specs.Commitments.{commitment_of, one_state}
 use Rattle.twins.specs.Trace.{trace, replies_from, lists_passed, fresh_state, HasNoClash}
 use Rattle.twins.specs.Good.{IsGoodState}
 use Rattle.twins.specs.Laws.{StatesTellLists}
-use Rattle.twins.proofs.RunGood.{stay_good_among}
+use Rattle.twins.proofs.RunGood.{stay_good_among, here_passed, later_passed, fresh_good}
 
 abbrev Allowed : ℕ → List ℕ → Type 0
 Allowed limit v = length v ≤ limit
@@ -71,11 +69,6 @@ record Fits (limit : ℕ) (lists : List (List Operation)) (list : List Operation
   pub has : Contains lists list
   pub all : AllByRecursion (Admits limit) list
   pub few : length list ≤ 2 ^ 62
-
--- the lists of a state are among those that are passed from it on
-here_passed : (limit : ℕ) (s : State Operation) (cs : List Command) (list : List Operation) → Contains (lists_here s) list → Contains (lists_passed (one_list meaning) limit s cs) list
-here_passed limit s [] list has = has
-here_passed limit s (c ∷ cs) list has = Contains-append_left (lists_here s) (lists_passed (one_list meaning) limit (step (one_list meaning) limit s c).1 cs) list has
 
 module _ (limit : ℕ) (small : limit < 2 ^ 64) (law : RootsTellLists limit) (lists : List (List Operation)) (none : NoClash mmr sha meaning lists) where
   one_told : (first second : List Operation) → Fits limit lists first → Fits limit lists second → one_state first second ≡ true → first ≡ second
@@ -160,8 +153,7 @@ module _ (limit : ℕ) (small : limit < 2 ^ 64) (law : RootsTellLists limit) (li
   replies_same s [] g known = refl
   replies_same s (c ∷ cs) g known =
       let next : State Operation = (step (one_list meaning) limit s c).1 in
-      let later : (list : List Operation) → Contains (lists_passed (one_list meaning) limit next cs) list → Among list =
-      λ list has. known list (Contains-append_right (lists_here s) (lists_passed (one_list meaning) limit next cs) list has) in
+      let later : (list : List Operation) → Contains (lists_passed (one_list meaning) limit next cs) list → Among list = λ list has. known list (later_passed limit s c cs list has) in
       let good : IsGoodState Among limit next = stay_good_among Among limit s c (λ list has. later list (here_passed limit next cs list has)) g in
       ap (λ (o : Outcome). reply o ∷ replies_from one_state limit o.1 cs) (step_same s g c)
       ∙ ap (λ (rs : List Reply). reply (step (one_list meaning) limit s c) ∷ rs) (replies_same next cs good later)
@@ -171,6 +163,4 @@ pub states_tell : (limit : ℕ) → limit < 2 ^ 64 → RootsTellLists limit → 
 unfolding trace HasNoClash
 states_tell limit small law cs none =
     let lists : List (List Operation) = lists_passed (one_list meaning) limit fresh_state cs in
-    let first : Contains lists (plain_commit ∷ []) = here_passed limit fresh_state cs (plain_commit ∷ []) (0, omega arith, refl) in
-    let good : IsGoodState (λ list. Contains lists list) limit fresh_state = good_opened meaning (λ list. Contains lists list) (Allowed limit) plain_commit first refl tt in
-    ap (λ (rs : List Reply). reply (answer.Opened 1 0, fresh_state) ∷ rs) (replies_same limit small law lists none fresh_state cs good (λ list has. has))
+    ap (λ (rs : List Reply). reply (answer.Opened 1 0, fresh_state) ∷ rs) (replies_same limit small law lists none fresh_state cs (fresh_good limit cs) (λ list has. has))

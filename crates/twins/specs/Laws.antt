@@ -56,14 +56,7 @@ loses_batch (refusal.FloorBeyondSize floor location) = true
 -- What a refused command leaves: the state as it was, but for the batch that a seal loses.
 abbrev pub after_refusal : State Operation → Command → Refusal → State Operation
 after_refusal s (command.Seal b metadata floor) r = if loses_batch r then with_batch s b Gone else s
-after_refusal s (command.New parent) r = s
-after_refusal s (command.Append b v) r = s
-after_refusal s (command.Apply b) r = s
-after_refusal s (command.Hold b) r = s
-after_refusal s (command.Release b) r = s
-after_refusal s command.Snapshot r = s
-after_refusal s command.Size r = s
-after_refusal s command.Metadata r = s
+after_refusal s _ r = s
 
 -- A refused command changes nothing; a seal that is refused as stale, for its location or for its floor loses its batch.
 abbrev pub RefusalsKeep : Type 0

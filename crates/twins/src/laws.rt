@@ -32,12 +32,12 @@ pub fn refusals_keep()
     ensures { RefusalsKeep }
 {}
 
-/// A step that compares operations makes a good state of a good state.
+/// A step that compares operations makes a good state of a good state, among any lists that hold those of the state that it leaves.
 pub fn steps_stay_good()
     ensures { StepsStayGood }
 {}
 
-/// Each state of a run that compares operations is good.
+/// Each state of a run that compares operations is good, among the lists that the run has passed.
 pub fn runs_are_good()
     ensures { RunsAreGood }
 {}

@@ -77,8 +77,10 @@ fn run_and_write<O: Sink, V: Volume>(
     ensures fresh { ((result ≡ Status.Done) ⊎ (result ≡ Status.WriteFault)) → V.tells → IsFresh standard_config (V.state volume.old).log (V.state volume.old).map }
     ensures not_fresh { result ≡ Status.NotFresh → V.tells → IsFresh standard_config (V.state volume.old).log (V.state volume.old).map → ⊥ }
     ensures unopened { ((result ≡ Status.Volume) ⊎ (result ≡ Status.NotFresh)) → Appends (O.written output.old) (O.written output.new) [] }
-    // Something is written over a fresh volume alone.
+    // Something is written only over a fresh volume of which no call has failed; so is the end after a whole run.
     ensures answered { (Appends (O.written output.old) (O.written output.new) [] → ⊥) → V.tells → IsFresh standard_config (V.state volume.old).log (V.state volume.old).map }
+    ensures kept { (Appends (O.written output.old) (O.written output.new) [] → ⊥) → (V.state volume.new).faults ≡ (V.state volume.old).faults }
+    ensures no_fault { ((result ≡ Status.Done) ⊎ (result ≡ Status.WriteFault)) → (V.state volume.new).faults ≡ (V.state volume.old).faults }
 
     // The volume stays as it was, whatever is answered.
     ensures clock { (V.state volume.new).clock ≡ (V.state volume.old).clock }
@@ -136,8 +138,10 @@ pub fn twins_main<I: Source, O: Sink, V: Volume>(
     ensures volume { result ≡ Status.Volume → Rose (V.state volume.old).faults (V.state volume.new).faults }
     ensures not_fresh { result ≡ Status.NotFresh → V.tells → IsFresh standard_config (V.state volume.old).log (V.state volume.old).map → ⊥ }
     ensures unopened { ((result ≡ Status.Volume) ⊎ (result ≡ Status.NotFresh)) → Appends (O.written output.old) (O.written output.new) [] }
-    // Something is written over a fresh volume alone.
+    // Something is written only over a fresh volume of which no call has failed; so is the end after a whole run.
     ensures answered { (Appends (O.written output.old) (O.written output.new) [] → ⊥) → V.tells → IsFresh standard_config (V.state volume.old).log (V.state volume.old).map }
+    ensures kept { (Appends (O.written output.old) (O.written output.new) [] → ⊥) → (V.state volume.new).faults ≡ (V.state volume.old).faults }
+    ensures no_fault { ((result ≡ Status.Done) ⊎ (result ≡ Status.WriteFault)) → (V.state volume.new).faults ≡ (V.state volume.old).faults }
     ensures stopped { ((result ≡ Status.Volume) ⊎ (result ≡ Status.NotFresh)) → IsStopped (I.left input.old) (I.left input.new) (O.written output.old) (O.written output.new) (O.faults output.old) (O.faults output.new) }
 
     // Want of memory, in the run or before it.

@@ -2,11 +2,14 @@
 use crate::config::TwinConfig;
 use crate::ending::{Fault, Stopped};
 use crate::run::run_twins;
+use codec_base::Bytes;
 use command_text::{Replies, parse_commands, write_replies};
 use memory_volume::MemoryVolume;
+use std::alloc::Global;
 use std::process::Abort;
 use std::test::Fail;
 use stream_base::MemorySink;
+use volume_base::MetaMap;
 
 // The roots of the lists that the runs below come to.
 const COMMIT: &str = "6e44d9af463dbbdb8e26fef511895e0a348e2bd099ab0f45425db61c3bd543cc";
@@ -528,6 +531,16 @@ fn value_limit(rt: HostRuntime) -> Result<(), Fail> {
     )
 }
 
+/// A map of one pair.
+fn one_pair(alloc: Global) -> Result<MetaMap, Fail> {
+    let mut map = MetaMap::new(alloc);
+    map.put(
+        Bytes::from_slice(alloc, b"key")?,
+        Bytes::from_slice(alloc, b"value")?,
+    )?;
+    Ok(map)
+}
+
 #[test]
 fn faults_before_the_opening(rt: HostRuntime) -> Result<(), Fail> {
     for name in ["log", "nodes", "witness"] {
@@ -539,6 +552,12 @@ fn faults_before_the_opening(rt: HostRuntime) -> Result<(), Fail> {
         assert_eq!(rt; stopped.fault, Fault::NotFresh, "at {name}");
         assert_eq!(rt; stopped.replies.len(), 0);
     }
+    let mut marked = MemoryVolume::new(rt.alloc());
+    assert!(rt; marked.put_map("metadata", &one_pair(rt.alloc())?).is_ok());
+    let Err(stopped) = run_lines(&rt, 4, b"size\n", &mut marked) else {
+        panic!(rt; "the run wasn't stopped");
+    };
+    assert_eq!(rt; stopped.fault, Fault::NotFresh, "at the map");
     for call in 1..5 {
         let mut volume = MemoryVolume::new(rt.alloc());
         assert!(rt; volume.fail_call(call).is_ok());

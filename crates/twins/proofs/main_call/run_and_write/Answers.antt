@@ -1,4 +1,4 @@
-use Rattle.twins.proofs.Endings.{fault_of, nothing_added, nothing_more, wrote_nothing}
+use Rattle.twins.proofs.Endings.{fault_of, not_whole, nothing_added, nothing_more, wrote_nothing}
 use Rattle.twins.proofs.main_call.run_and_write.Goals as goal
 
 pub returns-in_default-clause-run : goal.returns-in_default-clause-run
@@ -16,3 +16,12 @@ pub returns-clause-answered : goal.returns-clause-answered
 returns-clause-answered g c = λ more tells.
     let fresh = c.in-Err.ensures.answered (λ none. more (nothing_more _ _ c.put_out-in-Err.result c.in-Err.stopped.replies none c.put_out-in-Err.ensures.text)) tells in
     rw c.in-Ok.ensures.same at fresh
+
+pub returns-clause-kept : goal.returns-clause-kept
+returns-clause-kept g c = λ more. c.in-Err.ensures.kept_so_far (λ none. more (nothing_more _ _ c.put_out-in-Err.result c.in-Err.stopped.replies none c.put_out-in-Err.ensures.text))
+
+pub returns-clause-fresh : goal.returns-clause-fresh
+returns-clause-fresh g c is tells = absurd (not_whole c.in-Err.stopped.fault (rw c.status_of.ensures at is))
+
+pub returns-clause-no_fault : goal.returns-clause-no_fault
+returns-clause-no_fault g c is = absurd (not_whole c.in-Err.stopped.fault (rw c.status_of.ensures at is))

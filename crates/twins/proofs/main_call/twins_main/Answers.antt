@@ -49,6 +49,12 @@ returns-in-Ok-clause-unopened g c = c.run_and_write.ensures.unopened
 pub returns-in-Ok-clause-answered : goal.returns-in-Ok-clause-answered
 returns-in-Ok-clause-answered g c = c.run_and_write.ensures.answered
 
+pub returns-in-Ok-clause-kept : goal.returns-in-Ok-clause-kept
+returns-in-Ok-clause-kept g c = c.run_and_write.ensures.kept
+
+pub returns-in-Ok-clause-no_fault : goal.returns-in-Ok-clause-no_fault
+returns-in-Ok-clause-no_fault g c = c.run_and_write.ensures.no_fault
+
 pub returns-in-Ok-clause-stopped : goal.returns-in-Ok-clause-stopped
 returns-in-Ok-clause-stopped g c = λ e. elim e [
   | inl v ↦

@@ -26,3 +26,9 @@ returns-in-Err-clause-answered g c = λ some tells. absurd (some c.new-replies.e
 
 pub returns-in_default-with_capacity-clause-answered : goal.returns-in_default-with_capacity-clause-answered
 returns-in_default-with_capacity-clause-answered g c = λ some tells. absurd (some c.new-replies-in_default-with_capacity.ensures)
+
+pub returns-in-Err-clause-kept_so_far : goal.returns-in-Err-clause-kept_so_far
+returns-in-Err-clause-kept_so_far g c = λ some. absurd (some c.new-replies.ensures)
+
+pub returns-in_default-with_capacity-clause-kept_so_far : goal.returns-in_default-with_capacity-clause-kept_so_far
+returns-in_default-with_capacity-clause-kept_so_far g c = λ some. absurd (some c.new-replies-in_default-with_capacity.ensures)
