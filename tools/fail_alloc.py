@@ -5,8 +5,9 @@ usage: tools/fail_alloc.py PROGRAM
 
 The program has to end with status 8, the message of status 8, and the replies to a first part of the commands on its
 output, as expected.py computes them; or, where the allocation wasn't needed, as if it hadn't failed. The later the
-allocation, the more replies there are, up to all those before the last command that takes memory. One allocation fails
-by fail_alloc.c, which the C compiler `cc` makes and the loader puts before the C library.
+allocation, the more replies there are, up to all those before the last command that takes memory; and where the output
+takes nothing, the status is 8 all the same. One allocation fails by fail_alloc.c, which the C compiler `cc` makes and the
+loader puts before the C library.
 """
 import os
 import shutil
@@ -19,6 +20,7 @@ import expected
 
 NO_MEMORY = (8, b"twins: out of memory\n")
 DONE = (0, b"")
+FULL = "/dev/full"              # what takes nothing
 
 
 class Program:
@@ -27,13 +29,17 @@ class Program:
     def __init__(self, path, library, told):
         self.path, self.library, self.told = path, library, told
 
-    def run(self, text, failing=0):
+    def run(self, text, failing=0, output=subprocess.PIPE):
         settings = dict(os.environ, LD_PRELOAD=self.library, FAIL_ALLOC=str(failing), FAIL_ALLOC_TOLD=self.told)
-        ended = subprocess.run([self.path], input=text, capture_output=True, env=settings, timeout=60)
+        ended = subprocess.run([self.path], input=text, stdout=output, stderr=subprocess.PIPE, env=settings, timeout=60)
         return (ended.returncode, ended.stderr), ended.stdout
 
     def allocations(self):
         return int(Path(self.told).read_text())
+
+
+def input_of(lines):
+    return "".join(line + "\n" for line in lines).encode()
 
 
 def fronts(text):
@@ -56,7 +62,7 @@ def takes_memory(line, reply):
 
 def faults_of(program, name, lines):
     """How many allocations a run makes, how many of them weren't needed, and what was wrong."""
-    text = "".join(line + "\n" for line in lines).encode()
+    text = input_of(lines)
     whole = expected.run(lines).encode()
     ending, output = program.run(text)
     if (ending, output) != (DONE, whole):
@@ -77,6 +83,16 @@ def faults_of(program, name, lines):
     return count, spared, wrong
 
 
+def faults_without_output(program, name, lines):
+    """What is wrong where nothing can be written either: want of memory goes before a write fault."""
+    text = input_of(lines)
+    with open(FULL, "wb") as full:
+        program.run(text, 0, full)
+        endings = [program.run(text, number, full)[0] for number in range(1, program.allocations() + 1)]
+    return [f"{name}: allocation {number}, and nothing can be written: {ending}"
+            for number, ending in enumerate(endings, 1) if ending != NO_MEMORY]
+
+
 def main(words):
     if len(words) != 1:
         print(__doc__.strip(), file=sys.stderr)
@@ -91,7 +107,8 @@ def main(words):
         program = Program(words[0], library, told)
         runs = [(name, lines) for name, limit, lines in expected.RUNS if limit == expected.VALUE_LIMIT]
         results = [faults_of(program, name, lines) for name, lines in runs]
-    wrong = [line for _, _, lines in results for line in lines]
+        unwritten = faults_without_output(program, *runs[1]) if os.path.exists(FULL) else []
+    wrong = [line for _, _, lines in results for line in lines] + unwritten
     for line in wrong:
         print(line)
     count, spared = (sum(result[at] for result in results) for at in (0, 1))
