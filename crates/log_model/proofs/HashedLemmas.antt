@@ -76,9 +76,9 @@ module _ {D Op V : Type 0} (s : Shape) (h : Hashing D) (m : Meaning Op V) where
         let tail : map m.encoding xs ≡ map m.encoding ys = ap (λ (es : List (List ℕ)). drop 1 es) e in
         rw (apart x y a.0 b.0 head, told_apart xs ys a.1 b.1 tail) refl
 
-    pub one_list : AreEncodingsOne → (lists : List (List Op)) (first second : List Op) → NoClash s h m lists → Contains lists first → Contains lists second
+    pub lists_are_one : AreEncodingsOne → (lists : List (List Op)) (first second : List Op) → NoClash s h m lists → Contains lists first → Contains lists second
         → AllByRecursion allowed first → AllByRecursion allowed second → length first ≤ 2 ^ 62 → length second ≤ 2 ^ 62 → root_of s h m first ≡ root_of s h m second → first ≡ second
-    one_list law lists first second none a b all_first all_second few_first few_second e = elim (law first second few_first few_second e) [
+    lists_are_one law lists first second none a b all_first all_second few_first few_second e = elim (law first second few_first few_second e) [
       | inl same ↦ told_apart first second all_first all_second same
       | inr clash ↦ absurd (none (wider lists first second a b clash))
     ]

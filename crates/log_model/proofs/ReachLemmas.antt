@@ -11,7 +11,7 @@ use Rattle.std.proofs.lemmas.Slice.Eq.{slice_eq-Decides}
 use Rattle.log_model.specs.Meaning.{Meaning}
 use Rattle.log_model.specs.Operations.{floor_of}
 use Rattle.log_model.specs.Batches.{Batch, Unsealed, Sealed, Gone, UnsealedBatch, SealedBatch}
-use Rattle.log_model.specs.Machine.{State, Test, batch_at, one_list, stands_at}
+use Rattle.log_model.specs.Machine.{State, SameTest, batch_at, same_operations, stands_at}
 use Rattle.log_model.specs.Reach.{is_alive, as_sealed, linked, if_alive, alive_at, reach_from, link_bound, reach, tips_of, oldest_base, later, inherited_boundary, effective_boundary, floor_below, stands_on, may_seal}
 use Rattle.log_model.specs.Good.{IsStand, IsMark, AreMarks, IsGoodBatch, ParentFits, HasParent, IsGood}
 
@@ -186,7 +186,7 @@ module _ {Op V : Type 0} (m : Meaning Op V) (among : List Op → Type 0) where
 
 -- ---- where the present list stands, by a test of lists
 
-module _ {Op : Type 0} (one : Test Op) (Told : List Op → List Op → Type 0) (tells : (xs ys : List Op) → one xs ys ≡ true → Told xs ys) (s : State Op) (list : List Op) where
+module _ {Op : Type 0} (one : SameTest Op) (Told : List Op → List Op → Type 0) (tells : (xs ys : List Op) → one xs ys ≡ true → Told xs ys) (s : State Op) (list : List Op) where
   either_stood : (a b : Bool) → (a || b) ≡ true → (P : Type 0) → (a ≡ true → P) → (b ≡ true → P) → P
   either_stood true b e P p q = p refl
   either_stood false b e P p q = q e
@@ -203,7 +203,7 @@ module _ {Op : Type 0} (one : Test Op) (Told : List Op → List Op → Type 0) (
   stood_on boundary tips e = either_stood (stands_at one s list boundary) (list_any (stands_at one s list) tips) e Stood (λ t. (boundary, tells s.ops (take boundary list) t)) (λ t. any_stood tips t)
 
 -- a list is no longer than one on which it stands
-pub not_longer : {Op : Type 0} (one : Test Op) → ((xs ys : List Op) → one xs ys ≡ true → length xs ≡ length ys) → (s : State Op) (list : List Op) (boundary : ℕ) (tips : List ℕ) → stands_on one s list boundary tips ≡ true
+pub not_longer : {Op : Type 0} (one : SameTest Op) → ((xs ys : List Op) → one xs ys ≡ true → length xs ≡ length ys) → (s : State Op) (list : List Op) (boundary : ℕ) (tips : List ℕ) → stands_on one s list boundary tips ≡ true
     → length s.ops ≤ length list
 not_longer one tells s list boundary tips e =
     let at = stood_on one (λ xs ys. length xs ≡ length ys) tells s list boundary tips e in
@@ -212,7 +212,7 @@ not_longer one tells s list boundary tips e =
     omega (arith, l, k)
 
 -- two tests that agree on the places of a list say the same of it
-module _ {Op : Type 0} (one other : Test Op) (s : State Op) (list : List Op) where
+module _ {Op : Type 0} (one other : SameTest Op) (s : State Op) (list : List Op) where
   abbrev pub Agree : ℕ → Type 0
   Agree n = stands_at one s list n ≡ stands_at other s list n
 
@@ -228,14 +228,14 @@ module _ {Op : Type 0} (one other : Test Op) (s : State Op) (list : List Op) whe
   stands_agree boundary tips here all = rw (here, any_agree tips all) refl
 
 module _ {Op V : Type 0} (m : Meaning Op V) (decide : (a b : Op) → Decides (m.same a b) (a ≡ b)) where
-  pub lists_decide : (xs ys : List Op) → Decides (one_list m xs ys) (xs ≡ ys)
+  pub lists_decide : (xs ys : List Op) → Decides (same_operations m xs ys) (xs ≡ ys)
   lists_decide xs ys = slice_eq-Decides decide xs ys _ refl
 
   -- a batch without parent stands on the whole present list where it may be sealed
-  pub stood_alone : (s : State Op) (u : UnsealedBatch Op) → u.base ≡ length u.list → may_seal (one_list m) s u ≡ true → u.parent ≡ None → s.ops ≡ u.list
+  pub stood_alone : (s : State Op) (u : UnsealedBatch Op) → u.base ≡ length u.list → may_seal (same_operations m) s u ≡ true → u.parent ≡ None → s.ops ≡ u.list
   stood_alone s u base may none =
-      let here : stands_on (one_list m) s u.list u.base [] ≡ true = rw none at may in
-      let at : s.ops ≡ take u.base u.list = alone (stands_at (one_list m) s u.list u.base) here (lists_decide s.ops (take u.base u.list)).0 in
+      let here : stands_on (same_operations m) s u.list u.base [] ≡ true = rw none at may in
+      let at : s.ops ≡ take u.base u.list = alone (stands_at (same_operations m) s u.list u.base) here (lists_decide s.ops (take u.base u.list)).0 in
       at ∙ rw base (take-length u.list)
     where
       alone : {P : Type 0} (a : Bool) → (a || false) ≡ true → (a ≡ true → P) → P

@@ -53,13 +53,13 @@ abbrev pub lists_here : {Op : Type 0} → State Op → List (List Op)
 lists_here s = s.ops ∷ flat_map sealed_list s.batches
 
 -- A test of whether two lists are one.
-abbrev pub Test : Type 0 → Type 0
-Test Op = List Op → List Op → Bool
+abbrev pub SameTest : Type 0 → Type 0
+SameTest Op = List Op → List Op → Bool
 
 -- Operation by operation.
-abbrev pub one_list : {Op V : Type 0} → Meaning Op V → Test Op
-one_list m = pointwise m.same
+abbrev pub same_operations : {Op V : Type 0} → Meaning Op V → SameTest Op
+same_operations m = pointwise m.same
 
 -- Whether the present list is the first n of a batch's list.
-abbrev pub stands_at : {Op : Type 0} → Test Op → State Op → List Op → ℕ → Bool
-stands_at one s list n = one s.ops (take n list)
+abbrev pub stands_at : {Op : Type 0} → SameTest Op → State Op → List Op → ℕ → Bool
+stands_at same s list n = same s.ops (take n list)

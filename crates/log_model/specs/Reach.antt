@@ -5,7 +5,7 @@ use Rattle.std.specs.Option.{option_map_or}
 use Rattle.log_model.specs.Meaning.{Meaning}
 use Rattle.log_model.specs.Operations.{floor_of}
 use Rattle.log_model.specs.Batches.{Batch, UnsealedBatch, SealedBatch, Unsealed, Sealed, Gone, is_held, sealed}
-use Rattle.log_model.specs.Machine.{State, Test, batch_at, stands_at}
+use Rattle.log_model.specs.Machine.{State, SameTest, batch_at, stands_at}
 
 -- Whether a link names batch p.
 abbrev pub names : ℕ → Option ℕ → Bool
@@ -85,16 +85,16 @@ abbrev pub floor_below : {Op V : Type 0} → Meaning Op V → State Op → Unsea
 floor_below m s u = option_map_or (λ c. c.floor) (linked s u.parent) (floor_of m s.ops)
 
 -- Whether the present list is a batch's list up to this boundary, or up to one of these tips, by a test of lists.
-abbrev pub stands_on : {Op : Type 0} → Test Op → State Op → List Op → ℕ → List ℕ → Bool
-stands_on one s list boundary tips = stands_at one s list boundary || list_any (stands_at one s list) tips
+abbrev pub stands_on : {Op : Type 0} → SameTest Op → State Op → List Op → ℕ → List ℕ → Bool
+stands_on same s list boundary tips = stands_at same s list boundary || list_any (stands_at same s list) tips
 
 -- Whether an unsealed batch may be sealed here.
-abbrev pub may_seal : {Op : Type 0} → Test Op → State Op → UnsealedBatch Op → Bool
-may_seal one s u = stands_on one s u.list (effective_boundary s u) (tips_of (reach s u))
+abbrev pub may_seal : {Op : Type 0} → SameTest Op → State Op → UnsealedBatch Op → Bool
+may_seal same s u = stands_on same s u.list (effective_boundary s u) (tips_of (reach s u))
 
 -- Whether a sealed batch may be applied here.
-abbrev pub may_apply : {Op : Type 0} → Test Op → State Op → SealedBatch Op → Bool
-may_apply one s c = stands_on one s c.list c.boundary c.tips
+abbrev pub may_apply : {Op : Type 0} → SameTest Op → State Op → SealedBatch Op → Bool
+may_apply same s c = stands_on same s c.list c.boundary c.tips
 
 -- The sealed batch that an unsealed one becomes here, by a commit of this floor.
 abbrev pub sealed_here : {Op : Type 0} → State Op → UnsealedBatch Op → Op → ℕ → SealedBatch Op

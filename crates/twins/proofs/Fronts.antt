@@ -16,7 +16,7 @@ use Rattle.log_model.specs.Machine.{State, stands_at}
 use Rattle.log_model.specs.Reach.{stands_on, later}
 use Rattle.log_model.proofs.ReachLemmas.{Begins, front_of}
 use Rattle.twins.specs.Operation.{Operation}
-use Rattle.twins.specs.Commitments.{commitment_of, one_state}
+use Rattle.twins.specs.Commitments.{commitment_of, same_state}
 use Rattle.twins.specs.StateOf.{sizes, IsStateIn, AreStatesIn}
 
 pub lt_false : (m n : ℕ) → n ≤ m → nat_lt m n ≡ false
@@ -98,16 +98,16 @@ module _ (s : State Operation) (list : List Operation) where
   exact : (a b : Sha256Digest) → bytes_of a ≡ bytes_of b → a ≡ b
   exact a b e = ap (λ xs. record { bytes = xs }) e
 
-  state_decides : (c : Commitment Mmr Sha256Digest) → IsStateIn list c → Decides (stands_at one_state s list c.size) (c ≡ commitment_of s.ops)
+  state_decides : (c : Commitment Mmr Sha256Digest) → IsStateIn list c → Decides (stands_at same_state s list c.size) (c ≡ commitment_of s.ops)
   state_decides c k = (
     λ t. k.1 ∙ sym (is_same-exact bytes_of exact (commitment_of s.ops) (commitment_of (take c.size list)) t),
     λ e. subst (λ d. is_same bytes_of (commitment_of s.ops) d ≡ true) (sym e ∙ k.1) ((is_same_equivalence bytes_of).refl (commitment_of s.ops)),
   )
 
-  any_decides : (cs : List (Commitment Mmr Sha256Digest)) → AreStatesIn list cs → Decides (list_any (stands_at one_state s list) (sizes cs)) (Contains cs (commitment_of s.ops))
+  any_decides : (cs : List (Commitment Mmr Sha256Digest)) → AreStatesIn list cs → Decides (list_any (stands_at same_state s list) (sizes cs)) (Contains cs (commitment_of s.ops))
   any_decides [] k = (λ t. absurd (cc), λ c. absurd (omega (arith, c.1)))
-  any_decides (c ∷ cs) k = or_decides (stands_at one_state s list c.size) (list_any (stands_at one_state s list) (sizes cs)) c cs (commitment_of s.ops) (state_decides c k.0) (any_decides cs k.1)
+  any_decides (c ∷ cs) k = or_decides (stands_at same_state s list c.size) (list_any (stands_at same_state s list) (sizes cs)) c cs (commitment_of s.ops) (state_decides c k.0) (any_decides cs k.1)
 
   -- it stands there where its state is the boundary or a tip
-  pub stands_decides : (db : Commitment Mmr Sha256Digest) (tips : List (Commitment Mmr Sha256Digest)) → IsStateIn list db → AreStatesIn list tips → Decides (stands_on one_state s list db.size (sizes tips)) (Contains (db ∷ tips) (commitment_of s.ops))
-  stands_decides db tips k ks = or_decides (stands_at one_state s list db.size) (list_any (stands_at one_state s list) (sizes tips)) db tips (commitment_of s.ops) (state_decides db k) (any_decides tips ks)
+  pub stands_decides : (db : Commitment Mmr Sha256Digest) (tips : List (Commitment Mmr Sha256Digest)) → IsStateIn list db → AreStatesIn list tips → Decides (stands_on same_state s list db.size (sizes tips)) (Contains (db ∷ tips) (commitment_of s.ops))
+  stands_decides db tips k ks = or_decides (stands_at same_state s list db.size) (list_any (stands_at same_state s list) (sizes tips)) db tips (commitment_of s.ops) (state_decides db k) (any_decides tips ks)

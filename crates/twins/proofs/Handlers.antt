@@ -14,7 +14,7 @@ use Rattle.tree_shape.specs.declared.mmr.Mmr.{Mmr}
 use Rattle.tree_shape.specs.declared.sha256.Sha256Digest.{Sha256Digest}
 use Rattle.log_model.specs.Batches as batches
 use Rattle.log_model.specs.Batches.{is_held}
-use Rattle.log_model.specs.Machine.{State, Test, batch_at, begun, applied, with_batch, max_leaves}
+use Rattle.log_model.specs.Machine.{State, SameTest, batch_at, begun, applied, with_batch, max_leaves}
 use Rattle.log_model.specs.Reach.{stands_on, may_seal, may_apply, floor_below, sealed_here}
 use Rattle.op_codec.specs.declared.keyless.Operation.TheVariants.{Append, Commit}
 use Rattle.command_text.specs.declared.command.Answer.{Answer}
@@ -22,7 +22,7 @@ use Rattle.command_text.specs.declared.command.Answer.TheVariants as answer
 use Rattle.command_text.specs.declared.command.Refusal.{Refusal}
 use Rattle.command_text.specs.declared.command.Refusal.TheVariants.{StaleBatch, LocationOverflow}
 use Rattle.twins.specs.Operation.{Operation, meaning}
-use Rattle.twins.specs.Commitments.{commitment_of, one_state}
+use Rattle.twins.specs.Commitments.{commitment_of, same_state}
 use Rattle.twins.specs.Step.{Outcome, refused, lost, begin_on, append_to, floor_refusal, seal_refusal, metadata_length, done_sealing, seal, apply, hold}
 use Rattle.twins.specs.Lists.{list_at, lists_in, count_in}
 use Rattle.twins.specs.Pool.{Slots, item_at}
@@ -39,7 +39,7 @@ use Rattle.twins.proofs.Changes.{pool_holds}
 
 -- ---- why a seal is refused
 
-module _ (one : Test Operation) (s : State Operation) (u : batches.UnsealedBatch Operation) (floor : ℕ) (may : may_seal one s u ≡ true) (location : ℕ) (there : location ≡ batches.size_of u) where
+module _ (one : SameTest Operation) (s : State Operation) (u : batches.UnsealedBatch Operation) (floor : ℕ) (may : may_seal one s u ≡ true) (location : ℕ) (there : location ≡ batches.size_of u) where
   -- a batch that may be sealed and isn't full is refused over its floor alone
   pub refused_rest : location + 1 ≤ max_leaves → (below : ℕ) → below ≡ floor_below meaning s u → (r : Option Refusal) → r ≡ floor_refusal below floor location → r ≡ seal_refusal one s u floor
   refused_rest fits below is r why =
@@ -50,11 +50,11 @@ module _ (one : Test Operation) (s : State Operation) (u : batches.UnsealedBatch
 
 -- a test that decides whether the present state is the boundary or a tip tells where the list stands
 pub told_by : (s : State Operation) (list : List Operation) (db : Commitment Mmr Sha256Digest) (tips : List (Commitment Mmr Sha256Digest)) → IsStateIn list db → AreStatesIn list tips
-    → (current : Commitment Mmr Sha256Digest) → current ≡ commitment_of s.ops → (ok : Bool) → Decides ok (Contains (db ∷ tips) current) → ok ≡ stands_on one_state s list db.size (sizes tips)
+    → (current : Commitment Mmr Sha256Digest) → current ≡ commitment_of s.ops → (ok : Bool) → Decides ok (Contains (db ∷ tips) current) → ok ≡ stands_on same_state s list db.size (sizes tips)
 told_by s list db tips k ks current is ok d =
-    one_answer ok (stands_on one_state s list db.size (sizes tips)) (subst (λ c. Decides ok (Contains (db ∷ tips) c)) is d) (stands_decides s list db tips k ks)
+    one_answer ok (stands_on same_state s list db.size (sizes tips)) (subst (λ c. Decides ok (Contains (db ∷ tips) c)) is d) (stands_decides s list db tips k ks)
 
-pub stands_same : (one : Test Operation) (s : State Operation) (xs ys : List Operation) (m n : ℕ) (ms ns : List ℕ) → xs ≡ ys → m ≡ n → ms ≡ ns → stands_on one s xs m ms ≡ stands_on one s ys n ns
+pub stands_same : (one : SameTest Operation) (s : State Operation) (xs ys : List Operation) (m n : ℕ) (ms ns : List ℕ) → xs ≡ ys → m ≡ n → ms ≡ ns → stands_on one s xs m ms ≡ stands_on one s ys n ns
 stands_same one s xs ys m n ms ns e f g = rw (e, f, g) refl
 
 -- ---- batches that the caller holds
@@ -70,7 +70,7 @@ held_some (Sealed j) k e =
     lt_is n e = grind (arith, nat_tests)
 held_some Gone k e = absurd (none-some k e)
 
-module _ (one : Test Operation) (s : State Operation) (b : ℕ) where
+module _ (one : SameTest Operation) (s : State Operation) (b : ℕ) where
   module _ (c : batches.SealedBatch Operation) (held : is_held c ≡ true) where
     pub begin_held : begin_on s b (batches.Sealed c) ≡ (answer.Batch (length s.batches), begun s (Some b) c.list)
     begin_held = rw held refl
@@ -157,7 +157,7 @@ module _ (m : Machine) (s : State Operation) (k : IsStateOf m s) (b : ℕ) where
     item_tips : t.batch.tips ≡ sizes x.bounds.ancestors
     item_tips = let e = held_item in (t.is.item e.0 e.1).tips ∙ ap (λ (y : SealedBatch). sizes y.bounds.ancestors) e.2
 
-    pub item_applies : (one : Test Operation) → stands_on one s (list_at (lists_in m.history) x.list) x.bounds.db.size (sizes x.bounds.ancestors) ≡ may_apply one s t.batch
+    pub item_applies : (one : SameTest Operation) → stands_on one s (list_at (lists_in m.history) x.list) x.bounds.db.size (sizes x.bounds.ancestors) ≡ may_apply one s t.batch
     item_applies one = rw (item_list, item_boundary, item_tips) refl
 
 -- a batch that is put in its own place

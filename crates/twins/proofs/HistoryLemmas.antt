@@ -19,25 +19,25 @@ use Rattle.tree_shape.specs.declared.mmr.Mmr.{Mmr}
 use Rattle.twins.specs.Operation.{Operation, meaning, sha}
 use Rattle.twins.specs.Step.{root_of_list}
 use Rattle.twins.specs.Commitments.{commitment_of}
-use Rattle.twins.specs.Lists.{list_at, list_before, list_after, lists_from, lists_of, own_at, joined, AreBelow, IsSegment, AreKept, Extends}
+use Rattle.twins.specs.Lists.{list_at, list_before, segment_list, lists_from, lists_of, own_at, joined, AreBelow, IsSegment, AreKept, Extends}
 use Rattle.twins.specs.declared.history.Segment.{Segment}
 use Rattle.twins.specs.declared.history.History.{History}
 
 -- ---- the lists that segments make
 
-from_append : (lists : List (List Operation)) (gs : List Segment) (g : Segment) → lists_from lists (gs ++ (g ∷ [])) ≡ lists_from lists gs ++ (list_after (lists_from lists gs) g ∷ [])
+from_append : (lists : List (List Operation)) (gs : List Segment) (g : Segment) → lists_from lists (gs ++ (g ∷ [])) ≡ lists_from lists gs ++ (segment_list (lists_from lists gs) g ∷ [])
 from_append lists [] g = refl
-from_append lists (h ∷ gs) g = from_append (lists ++ (list_after lists h ∷ [])) gs g
+from_append lists (h ∷ gs) g = from_append (lists ++ (segment_list lists h ∷ [])) gs g
 
 -- one more segment makes one more list
-pub lists_of-push : (gs : List Segment) (g : Segment) → lists_of (gs ++ (g ∷ [])) ≡ lists_of gs ++ (list_after (lists_of gs) g ∷ [])
+pub lists_of-push : (gs : List Segment) (g : Segment) → lists_of (gs ++ (g ∷ [])) ≡ lists_of gs ++ (segment_list (lists_of gs) g ∷ [])
 lists_of-push gs g = from_append [] gs g
 
 length-from : (lists : List (List Operation)) (gs : List Segment) → length (lists_from lists gs) ≡ length lists + length gs
 length-from lists [] = omega arith
 length-from lists (g ∷ gs) =
-    let rest = length-from (lists ++ (list_after lists g ∷ [])) gs in
-    let l = length-append lists (list_after lists g ∷ []) in
+    let rest = length-from (lists ++ (segment_list lists g ∷ [])) gs in
+    let l = length-append lists (segment_list lists g ∷ []) in
     omega (arith, rest, l)
 
 pub length-lists_of : (gs : List Segment) → length (lists_of gs) ≡ length gs
@@ -52,12 +52,12 @@ list_at-last lists list = get_or-append_seam lists list [] []
 
 module _ (gs : List Segment) (g : Segment) where
   pub kept_list : (i : ℕ) → i < length gs → list_at (lists_of (gs ++ (g ∷ []))) i ≡ list_at (lists_of gs) i
-  kept_list i lt = let l = length-lists_of gs in rw (lists_of-push gs g) (list_at-left (lists_of gs) (list_after (lists_of gs) g) i (omega (arith, l, lt)))
+  kept_list i lt = let l = length-lists_of gs in rw (lists_of-push gs g) (list_at-left (lists_of gs) (segment_list (lists_of gs) g) i (omega (arith, l, lt)))
 
-  pub new_list : list_at (lists_of (gs ++ (g ∷ []))) (length gs) ≡ list_after (lists_of gs) g
+  pub new_list : list_at (lists_of (gs ++ (g ∷ []))) (length gs) ≡ segment_list (lists_of gs) g
   new_list =
       rw (lists_of-push gs g)
-      (subst (λ n. list_at (lists_of gs ++ (list_after (lists_of gs) g ∷ [])) n ≡ list_after (lists_of gs) g) (length-lists_of gs) (list_at-last (lists_of gs) (list_after (lists_of gs) g)))
+      (subst (λ n. list_at (lists_of gs ++ (segment_list (lists_of gs) g ∷ [])) n ≡ segment_list (lists_of gs) g) (length-lists_of gs) (list_at-last (lists_of gs) (segment_list (lists_of gs) g)))
 
   kept_before : (link : Option ℕ) → link_bound link ≤ length gs → list_before (lists_of (gs ++ (g ∷ []))) link ≡ list_before (lists_of gs) link
   kept_before None le = refl
@@ -104,10 +104,10 @@ module _ (gs : List Segment) (kept : AreKept gs) where
   read_segment i g lt e = kept i g (slice_get_read gs (length gs) i g refl lt e)
 
   module _ (g : Segment) (below : link_bound g.before ≤ length gs) (ends : EndsWithCommit meaning g.own.items) where
-    same_after : (h : Segment) → link_bound h.before ≤ length gs → list_after (lists_of (gs ++ (g ∷ []))) h ≡ list_after (lists_of gs) h
+    same_after : (h : Segment) → link_bound h.before ≤ length gs → segment_list (lists_of (gs ++ (g ∷ []))) h ≡ segment_list (lists_of gs) h
     same_after h le = ap (λ (xs : List Operation). xs ++ h.own.items) (kept_before gs g h.before le)
 
-    module _ (few : length (list_after (lists_of gs) g) ≤ max_leaves) (state : g.state ≡ commitment_of (list_after (lists_of gs) g)) where
+    module _ (few : length (segment_list (lists_of gs) g) ≤ max_leaves) (state : g.state ≡ commitment_of (segment_list (lists_of gs) g)) where
       old_segment : (i : ℕ) (h : Segment) → slice_get gs i ≡ Some h → IsSegment (lists_of (gs ++ (g ∷ []))) i h
       old_segment i h e =
           let lt = slice_get_within gs i h e in
@@ -262,7 +262,7 @@ module _ (gs : List Segment) (ids : List ℕ) (k : ℕ) where
 -- ---- one more list
 
 module _ (gs new : List Segment) (g : Segment) (kept : AreKept gs) (on : ℕ) (lt : on < length gs) (before : g.before ≡ Some on) (is : new ≡ gs ++ (g ∷ [])) where
-  after_on : list_after (lists_of gs) g ≡ list_at (lists_of gs) on ++ g.own.items
+  after_on : segment_list (lists_of gs) g ≡ list_at (lists_of gs) on ++ g.own.items
   after_on = ap (λ l. list_before (lists_of gs) l ++ g.own.items) before
 
   pub added_list : list_at (lists_of new) (length gs) ≡ list_at (lists_of gs) on ++ g.own.items

@@ -8,13 +8,13 @@ use Rattle.command_text.specs.declared.command.Command.{Command}
 use Rattle.command_text.specs.declared.command.Reply.{Reply}
 use Rattle.twins.specs.declared.ending.Fault.{Fault}
 use Rattle.twins.specs.declared.ending.Fault.TheVariants.{Volume, NotFresh, Memory}
-use Rattle.log_model.specs.Machine.{State, Test}
+use Rattle.log_model.specs.Machine.{State, SameTest}
 use Rattle.twins.specs.Operation.{Operation}
 use Rattle.twins.specs.Step.{step, reply}
 use Rattle.twins.specs.Trace.{trace, replies_from, fresh_state, IsBegun}
 
 -- no replies are the first ones
-pub none_begun : (one : Test Operation) (limit : ℕ) (commands : List Command) (replies : List Reply) → replies ≡ [] → IsBegun replies (trace one limit commands)
+pub none_begun : (one : SameTest Operation) (limit : ℕ) (commands : List Command) (replies : List Reply) → replies ≡ [] → IsBegun replies (trace one limit commands)
 unfolding trace
 none_begun one limit commands replies e = rw e (record { front = refl; fewer = omega arith })
 
@@ -29,7 +29,7 @@ only_memory Memory v n = refl
 
 -- ---- the replies of a run so far, and those that are left
 
-module _ (one : Test Operation) (limit : ℕ) (s : State Operation) (commands : List Command) (replies : List Reply) (i : ℕ) where
+module _ (one : SameTest Operation) (limit : ℕ) (s : State Operation) (commands : List Command) (replies : List Reply) (i : ℕ) where
   -- one command more is answered
   pub told_more : (all : List Reply) (c : Command) (r : Reply) → i < length commands → get_or commands i c ≡ c → r ≡ reply (step one limit s c) → replies ++ replies_from one limit s (drop i commands) ≡ all
       → (replies ++ (r ∷ [])) ++ replies_from one limit (step one limit s c).1 (drop (i + 1) commands) ≡ all
@@ -52,7 +52,7 @@ module _ (one : Test Operation) (limit : ℕ) (s : State Operation) (commands : 
       more (c ∷ cs) h = omega arith
 
 -- the opening alone is told
-pub told_first : (one : Test Operation) (limit : ℕ) (commands : List Command) (opening : Reply) (replies : List Reply) → replies ≡ opening ∷ [] → opening ≡ reply (answer.Opened 1 0, fresh_state) → replies ++ replies_from one limit fresh_state commands ≡ trace one limit commands
+pub told_first : (one : SameTest Operation) (limit : ℕ) (commands : List Command) (opening : Reply) (replies : List Reply) → replies ≡ opening ∷ [] → opening ≡ reply (answer.Opened 1 0, fresh_state) → replies ++ replies_from one limit fresh_state commands ≡ trace one limit commands
 unfolding trace
 told_first one limit commands opening replies e f = rw (e, f) refl
 

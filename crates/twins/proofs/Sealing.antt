@@ -13,7 +13,7 @@ use Rattle.chain_core.specs.declared.pool.HeldBatch.{HeldBatch}
 use Rattle.tree_shape.specs.declared.mmr.Mmr.{Mmr}
 use Rattle.tree_shape.specs.declared.sha256.Sha256Digest.{Sha256Digest}
 use Rattle.log_model.specs.Batches as batches
-use Rattle.log_model.specs.Machine.{State, Test, batch_at, max_leaves}
+use Rattle.log_model.specs.Machine.{State, SameTest, batch_at, max_leaves}
 use Rattle.log_model.specs.Operations.{floor_of}
 use Rattle.log_model.specs.Reach.{may_seal, sealed_here}
 use Rattle.op_codec.specs.declared.keyless.Operation.TheVariants.{Commit}
@@ -45,7 +45,7 @@ seal_few-if false b x z y e = absurd (none-some z (sym e))
 not_above : (m n : ℕ) → nat_lt m n ≡ false → n ≤ m
 not_above m n e = grind (arith, nat_tests)
 
-pub seal_few : (one : Test Operation) (s : State Operation) (w : batches.UnsealedBatch Operation) (floor : ℕ) → seal_refusal one s w floor ≡ None → batches.size_of w + 1 ≤ max_leaves
+pub seal_few : (one : SameTest Operation) (s : State Operation) (w : batches.UnsealedBatch Operation) (floor : ℕ) → seal_refusal one s w floor ≡ None → batches.size_of w + 1 ≤ max_leaves
 seal_few one s w floor e = not_above max_leaves (batches.size_of w + 1) (seal_few-if (may_seal one s w) (nat_lt max_leaves (batches.size_of w + 1)) _ _ _ e)
 
 -- ---- a seal

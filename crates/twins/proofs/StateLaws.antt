@@ -10,7 +10,7 @@ use Rattle.tree_shape.specs.Sha256Codec.{bytes_of}
 use Rattle.tree_shape.specs.declared.sha256.Sha256Digest.{Sha256Digest}
 use Rattle.log_model.specs.Hashed.{NoClash}
 use Rattle.log_model.specs.Batches.{Batch, Unsealed, Sealed, Gone}
-use Rattle.log_model.specs.Machine.{State, batch_at, one_list}
+use Rattle.log_model.specs.Machine.{State, batch_at, same_operations}
 use Rattle.log_model.specs.Reach.{effective_boundary, tips_of, reach, stands_on, may_seal, may_apply}
 use Rattle.log_model.proofs.ReachLemmas.{AllAgree, lists_decide, marks_here, stands_agree}
 use Rattle.log_model.specs.Good.{FloorFits, FloorsRise, ValuesAre, IsGoodList, IsMark, AreMarks, IsGoodBatch}
@@ -23,7 +23,7 @@ use Rattle.command_text.specs.declared.command.Answer.TheVariants as answer
 use Rattle.command_text.specs.declared.command.Reply.{Reply}
 use Rattle.twins.specs.Operation.{Operation, meaning, operation_decide, sha}
 use Rattle.twins.specs.Step.{Outcome, root_of_list, plain_commit, step, reply, seal, apply}
-use Rattle.twins.specs.Commitments.{commitment_of, one_state}
+use Rattle.twins.specs.Commitments.{commitment_of, same_state}
 use Rattle.twins.specs.Trace.{trace, replies_from, lists_passed, fresh_state, HasNoClash}
 use Rattle.twins.specs.Good.{IsGoodState}
 use Rattle.twins.specs.Laws.{StatesTellLists}
@@ -71,16 +71,16 @@ record Fits (limit : ℕ) (lists : List (List Operation)) (list : List Operation
   pub few : length list ≤ 2 ^ 62
 
 module _ (limit : ℕ) (small : limit < 2 ^ 64) (law : RootsTellLists limit) (lists : List (List Operation)) (none : NoClash mmr sha meaning lists) where
-  one_told : (first second : List Operation) → Fits limit lists first → Fits limit lists second → one_state first second ≡ true → first ≡ second
+  one_told : (first second : List Operation) → Fits limit lists first → Fits limit lists second → same_state first second ≡ true → first ≡ second
   one_told first second a b e =
       law lists first second none a.has b.has a.all b.all a.few b.few (ap (λ c. c.root) (is_same-exact bytes_of same_digest (commitment_of first) (commitment_of second) e))
 
-  one_tells : (first second : List Operation) → first ≡ second → one_state first second ≡ true
-  one_tells first second e = subst (λ (list : List Operation). one_state first list ≡ true) e ((is_same_equivalence bytes_of).refl (commitment_of first))
+  one_tells : (first second : List Operation) → first ≡ second → same_state first second ≡ true
+  one_tells first second e = subst (λ (list : List Operation). same_state first list ≡ true) e ((is_same_equivalence bytes_of).refl (commitment_of first))
 
-  tests_agree : (first second : List Operation) → Fits limit lists first → Fits limit lists second → one_state first second ≡ one_list meaning first second
+  tests_agree : (first second : List Operation) → Fits limit lists first → Fits limit lists second → same_state first second ≡ same_operations meaning first second
   tests_agree first second a b =
-      same_from_decides (one_state first second) (one_list meaning first second) (one_told first second a b, one_tells first second) (lists_decide meaning operation_decide first second)
+      same_from_decides (same_state first second) (same_operations meaning first second) (one_told first second a b, one_tells first second) (lists_decide meaning operation_decide first second)
 
   -- the lists at which the log may stand
   abbrev Among : List Operation → Type 0
@@ -105,37 +105,37 @@ module _ (limit : ℕ) (small : limit < 2 ^ 64) (law : RootsTellLists limit) (li
   -- ---- so both tests stand on the same places
 
   module _ (s : State Operation) (g : IsGoodState Among limit s) where
-    mark_agrees : (list : List Operation) (n : ℕ) → IsGoodHere list → IsMark meaning Among list n → one_state s.ops (take n list) ≡ one_list meaning s.ops (take n list)
+    mark_agrees : (list : List Operation) (n : ℕ) → IsGoodHere list → IsMark meaning Among list n → same_state s.ops (take n list) ≡ same_operations meaning s.ops (take n list)
     mark_agrees list n good mark = tests_agree s.ops (take n list) (list_fits s.ops g.ops) (mark_fits list n good mark)
 
-    marks_agree : (list : List Operation) (ns : List ℕ) → IsGoodHere list → AreMarks meaning Among list ns → AllAgree one_state (one_list meaning) s list ns
+    marks_agree : (list : List Operation) (ns : List ℕ) → IsGoodHere list → AreMarks meaning Among list ns → AllAgree same_state (same_operations meaning) s list ns
     marks_agree list [] good marks = tt
     marks_agree list (n ∷ ns) good marks = (mark_agrees list n good marks.0, marks_agree list ns good marks.1)
 
     stand_same : (list : List Operation) (boundary : ℕ) (tips : List ℕ) → IsGoodHere list → IsMark meaning Among list boundary → AreMarks meaning Among list tips
-        → stands_on one_state s list boundary tips ≡ stands_on (one_list meaning) s list boundary tips
-    stand_same list boundary tips good mark marks = stands_agree one_state (one_list meaning) s list boundary tips (mark_agrees list boundary good mark) (marks_agree list tips good marks)
+        → stands_on same_state s list boundary tips ≡ stands_on (same_operations meaning) s list boundary tips
+    stand_same list boundary tips good mark marks = stands_agree same_state (same_operations meaning) s list boundary tips (mark_agrees list boundary good mark) (marks_agree list tips good marks)
 
     -- ---- and each command does the same by both
 
-    seal_same : (b : ℕ) (metadata : Option (List ℕ)) (floor : ℕ) (x : Batch Operation) → batch_at s b ≡ x → seal one_state limit s b metadata floor x ≡ seal (one_list meaning) limit s b metadata floor x
+    seal_same : (b : ℕ) (metadata : Option (List ℕ)) (floor : ℕ) (x : Batch Operation) → batch_at s b ≡ x → seal same_state limit s b metadata floor x ≡ seal (same_operations meaning) limit s b metadata floor x
     seal_same b metadata floor (Unsealed u) is =
         let good : IsGoodBatch meaning Among (Allowed limit) plain_commit (Unsealed u) = subst (IsGoodBatch meaning Among (Allowed limit) plain_commit) is (g.batches b) in
         let marks = marks_here meaning Among (Allowed limit) plain_commit s g b u is in
-        let e : may_seal one_state s u ≡ may_seal (one_list meaning) s u = stand_same u.list (effective_boundary s u) (tips_of (reach s u)) good.0 marks.0 marks.1 in
+        let e : may_seal same_state s u ≡ may_seal (same_operations meaning) s u = stand_same u.list (effective_boundary s u) (tips_of (reach s u)) good.0 marks.0 marks.1 in
         rw e refl
     seal_same b metadata floor (Sealed c) is = refl
     seal_same b metadata floor Gone is = refl
 
-    apply_same : (b : ℕ) (x : Batch Operation) → batch_at s b ≡ x → apply one_state s b x ≡ apply (one_list meaning) s b x
+    apply_same : (b : ℕ) (x : Batch Operation) → batch_at s b ≡ x → apply same_state s b x ≡ apply (same_operations meaning) s b x
     apply_same b (Sealed c) is =
         let good : IsGoodBatch meaning Among (Allowed limit) plain_commit (Sealed c) = subst (IsGoodBatch meaning Among (Allowed limit) plain_commit) is (g.batches b) in
-        let e : may_apply one_state s c ≡ may_apply (one_list meaning) s c = stand_same c.list c.boundary c.tips good.0 good.2 good.3 in
+        let e : may_apply same_state s c ≡ may_apply (same_operations meaning) s c = stand_same c.list c.boundary c.tips good.0 good.2 good.3 in
         rw e refl
     apply_same b (Unsealed u) is = refl
     apply_same b Gone is = refl
 
-    step_same : (c : Command) → step one_state limit s c ≡ step (one_list meaning) limit s c
+    step_same : (c : Command) → step same_state limit s c ≡ step (same_operations meaning) limit s c
     step_same (command.New parent) = refl
     step_same (command.Append b v) = refl
     step_same (command.Seal b metadata floor) = seal_same b metadata floor (batch_at s b) refl
@@ -148,19 +148,19 @@ module _ (limit : ℕ) (small : limit < 2 ^ 64) (law : RootsTellLists limit) (li
 
   -- ---- and so does a run
 
-  replies_same : (s : State Operation) (cs : List Command) → IsGoodState Among limit s → ((list : List Operation) → Contains (lists_passed (one_list meaning) limit s cs) list → Among list)
-      → replies_from one_state limit s cs ≡ replies_from (one_list meaning) limit s cs
+  replies_same : (s : State Operation) (cs : List Command) → IsGoodState Among limit s → ((list : List Operation) → Contains (lists_passed (same_operations meaning) limit s cs) list → Among list)
+      → replies_from same_state limit s cs ≡ replies_from (same_operations meaning) limit s cs
   replies_same s [] g known = refl
   replies_same s (c ∷ cs) g known =
-      let next : State Operation = (step (one_list meaning) limit s c).1 in
-      let later : (list : List Operation) → Contains (lists_passed (one_list meaning) limit next cs) list → Among list = λ list has. known list (later_passed limit s c cs list has) in
+      let next : State Operation = (step (same_operations meaning) limit s c).1 in
+      let later : (list : List Operation) → Contains (lists_passed (same_operations meaning) limit next cs) list → Among list = λ list has. known list (later_passed limit s c cs list has) in
       let good : IsGoodState Among limit next = stay_good_among Among limit s c (λ list has. later list (here_passed limit next cs list has)) g in
-      ap (λ (o : Outcome). reply o ∷ replies_from one_state limit o.1 cs) (step_same s g c)
-      ∙ ap (λ (rs : List Reply). reply (step (one_list meaning) limit s c) ∷ rs) (replies_same next cs good later)
+      ap (λ (o : Outcome). reply o ∷ replies_from same_state limit o.1 cs) (step_same s g c)
+      ∙ ap (λ (rs : List Reply). reply (step (same_operations meaning) limit s c) ∷ rs) (replies_same next cs good later)
 
 -- where nothing clashes, sizes and roots tell the lists of a run
 pub states_tell : (limit : ℕ) → limit < 2 ^ 64 → RootsTellLists limit → StatesTellLists limit
 unfolding trace HasNoClash
 states_tell limit small law cs none =
-    let lists : List (List Operation) = lists_passed (one_list meaning) limit fresh_state cs in
+    let lists : List (List Operation) = lists_passed (same_operations meaning) limit fresh_state cs in
     ap (λ (rs : List Reply). reply (answer.Opened 1 0, fresh_state) ∷ rs) (replies_same limit small law lists none fresh_state cs (fresh_good limit cs) (λ list has. has))

@@ -1,6 +1,6 @@
 -- States of the log by their size and root.
 use Rattle.std.specs.Prelude.{List, length}
-use Rattle.log_model.specs.Machine.{Test}
+use Rattle.log_model.specs.Machine.{SameTest}
 use Rattle.chain_core.specs.declared.commitment.Commitment.{Commitment}
 use Rattle.chain_core.specs.Commitments.{is_same}
 use Rattle.tree_shape.specs.Sha256Codec.{bytes_of}
@@ -14,5 +14,5 @@ abbrev pub commitment_of : List Operation → Commitment Mmr Sha256Digest
 commitment_of ops = record { size = length ops; root = root_of_list ops }
 
 -- Whether two lists have one size and one root.
-abbrev pub one_state : Test Operation
-one_state first second = is_same bytes_of (commitment_of first) (commitment_of second)
+abbrev pub same_state : SameTest Operation
+same_state first second = is_same bytes_of (commitment_of first) (commitment_of second)

@@ -2,7 +2,7 @@
 use Rattle.std.specs.Prelude.{◌≡◌, ℕ, Bool, true, false, List, ◌++◌, length, take, slice_get, Some, if◌then◌else◌}
 use Rattle.std.specs.List.Sorted.{IsNonDecreasingBy}
 use Rattle.log_model.specs.Batches.{Gone}
-use Rattle.log_model.specs.Machine.{State, Test, with_batch, one_list}
+use Rattle.log_model.specs.Machine.{State, SameTest, with_batch, same_operations}
 use Rattle.twins.specs.Operation.{Operation, meaning}
 use Rattle.command_text.specs.declared.command.Command.{Command}
 use Rattle.command_text.specs.declared.command.Command.TheVariants as command
@@ -11,24 +11,24 @@ use Rattle.command_text.specs.declared.command.Refusal.{Refusal}
 use Rattle.command_text.specs.declared.command.Refusal.TheVariants as refusal
 use Rattle.command_text.specs.declared.command.Reply.{Reply}
 use Rattle.twins.specs.Step.{step, root_of_list}
-use Rattle.twins.specs.Commitments.{one_state}
+use Rattle.twins.specs.Commitments.{same_state}
 use Rattle.twins.specs.Trace.{trace, replies_from, state_after, fresh_state, HasNoClash}
 
 -- The list after a run of these commands.
-abbrev pub list_after : Test Operation → ℕ → List Command → List Operation
-list_after one limit cs = (state_after one limit fresh_state cs).ops
+abbrev pub list_after : SameTest Operation → ℕ → List Command → List Operation
+list_after same limit cs = (state_after same limit fresh_state cs).ops
 
 -- Lists that a test takes for one have one length.
-abbrev pub TellsLengths : Test Operation → Type 0
-TellsLengths one = (first second : List Operation) → one first second ≡ true → length first ≡ length second
+abbrev pub TellsLengths : SameTest Operation → Type 0
+TellsLengths same = (first second : List Operation) → same first second ≡ true → length first ≡ length second
 
 -- The sizes in the replies of a run never fall.
 abbrev pub SizesNeverFall : Type 0
-SizesNeverFall = (one : Test Operation) → TellsLengths one → (limit : ℕ) (cs : List Command) → IsNonDecreasingBy (λ (r : Reply). r.size) (trace one limit cs)
+SizesNeverFall = (same : SameTest Operation) → TellsLengths same → (limit : ℕ) (cs : List Command) → IsNonDecreasingBy (λ (r : Reply). r.size) (trace same limit cs)
 
 -- Both tests of the run tell lengths.
 abbrev pub TestsTellLengths : Type 0
-TestsTellLengths = TellsLengths one_state × TellsLengths (one_list meaning)
+TestsTellLengths = TellsLengths same_state × TellsLengths (same_operations meaning)
 
 -- A reply tells the size and the root of a list.
 pub record TellsList (r : Reply) (list : List Operation) : Type 0 where
@@ -38,11 +38,11 @@ pub record TellsList (r : Reply) (list : List Operation) : Type 0 where
 
 -- Each reply of a run tells the list after the commands up to it, and nothing else of them.
 abbrev pub RepliesTellLists : Type 0
-RepliesTellLists = (one : Test Operation) (limit : ℕ) (cs : List Command) (i : ℕ) (r : Reply) → slice_get (trace one limit cs) i ≡ Some r → TellsList r (list_after one limit (take i cs))
+RepliesTellLists = (same : SameTest Operation) (limit : ℕ) (cs : List Command) (i : ℕ) (r : Reply) → slice_get (trace same limit cs) i ≡ Some r → TellsList r (list_after same limit (take i cs))
 
 -- A run of two lists of commands is the run of the first, continued by the second.
 abbrev pub RunsContinue : Type 0
-RunsContinue = (one : Test Operation) (limit : ℕ) (cs ds : List Command) → trace one limit (cs ++ ds) ≡ trace one limit cs ++ replies_from one limit (state_after one limit fresh_state cs) ds
+RunsContinue = (same : SameTest Operation) (limit : ℕ) (cs ds : List Command) → trace same limit (cs ++ ds) ≡ trace same limit cs ++ replies_from same limit (state_after same limit fresh_state cs) ds
 
 -- A seal that is refused for this reason loses its batch.
 abbrev pub loses_batch : Refusal → Bool
@@ -60,8 +60,8 @@ after_refusal s _ r = s
 
 -- A refused command changes nothing; a seal that is refused as stale, for its location or for its floor loses its batch.
 abbrev pub RefusalsKeep : Type 0
-RefusalsKeep = (one : Test Operation) (limit : ℕ) (s : State Operation) (c : Command) (r : Refusal) → (step one limit s c).0 ≡ answer.Refused r → (step one limit s c).1 ≡ after_refusal s c r
+RefusalsKeep = (same : SameTest Operation) (limit : ℕ) (s : State Operation) (c : Command) (r : Refusal) → (step same limit s c).0 ≡ answer.Refused r → (step same limit s c).1 ≡ after_refusal s c r
 
 -- Where nothing clashes that is hashed for the lists of a run, it answers the same by sizes and roots as by operations.
 abbrev pub StatesTellLists : ℕ → Type 0
-StatesTellLists limit = (cs : List Command) → HasNoClash limit cs → trace one_state limit cs ≡ trace (one_list meaning) limit cs
+StatesTellLists limit = (cs : List Command) → HasNoClash limit cs → trace same_state limit cs ≡ trace (same_operations meaning) limit cs

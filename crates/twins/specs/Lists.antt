@@ -20,12 +20,12 @@ list_before lists None = []
 list_before lists (Some i) = list_at lists i
 
 -- The list that a segment makes of the lists before it.
-abbrev pub list_after : List (List Operation) → Segment → List Operation
-list_after lists g = list_before lists g.before ++ g.own.items
+abbrev pub segment_list : List (List Operation) → Segment → List Operation
+segment_list lists g = list_before lists g.before ++ g.own.items
 
 abbrev pub lists_from : List (List Operation) → List Segment → List (List Operation)
 lists_from lists [] = lists
-lists_from lists (g ∷ gs) = lists_from (lists ++ (list_after lists g ∷ [])) gs
+lists_from lists (g ∷ gs) = lists_from (lists ++ (segment_list lists g ∷ [])) gs
 
 -- The lists that segments make, one after another.
 abbrev pub lists_of : List Segment → List (List Operation)
@@ -34,7 +34,7 @@ lists_of gs = lists_from [] gs
 -- Segment i stands on a list of a lower number, or on none; its list is that list with its own operations behind it, which a commit ends; it keeps the size and the root of its list.
 pub record IsSegment (lists : List (List Operation)) (i : ℕ) (g : Segment) : Type 0 where
   pub below : link_bound g.before ≤ i
-  pub list : list_at lists i ≡ list_after lists g
+  pub list : list_at lists i ≡ segment_list lists g
   pub ends : EndsWithCommit meaning g.own.items
   pub state : g.state ≡ commitment_of (list_at lists i)
   pub few : length (list_at lists i) ≤ max_leaves

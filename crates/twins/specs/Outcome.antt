@@ -14,7 +14,7 @@ use Rattle.command_text.specs.Lines.{lines_of}
 use Rattle.command_text.specs.Grammar.{InputSays}
 use Rattle.command_text.specs.Bad.{IsFirstBad}
 use Rattle.command_text.specs.Text.{text_of}
-use Rattle.twins.specs.Commitments.{one_state}
+use Rattle.twins.specs.Commitments.{same_state}
 use Rattle.twins.specs.Trace.{trace, IsBegun}
 
 -- the input was read to its end, and isn't too long
@@ -38,7 +38,7 @@ pub record IsInput (old new : Option (List ℕ)) (commands : List Command) : Typ
 
 -- the replies to these commands, under the program's configuration, by sizes and roots
 abbrev pub replies_to : List Command → List Reply
-replies_to commands = trace one_state standard_config.value_limit commands
+replies_to commands = trace same_state standard_config.value_limit commands
 
 -- the input says commands, and the text of all replies to them was written
 pub record IsAnswered (left left' written written' : Option (List ℕ)) : Type 0 where

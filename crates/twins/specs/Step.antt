@@ -4,7 +4,7 @@ use Rattle.tree_shape.specs.declared.sha256.Sha256Digest.{Sha256Digest}
 use Rattle.tree_shape.specs.Mmr.{mmr}
 use Rattle.log_model.specs.Operations.{floor_of, last_value, root_of}
 use Rattle.log_model.specs.Batches.{Batch, UnsealedBatch, SealedBatch, Unsealed, Sealed, Gone, size_of, appended, is_held, with_hold, without_hold}
-use Rattle.log_model.specs.Machine.{State, Test, max_leaves, batch_at, with_batch, begun, snapshot_taken, applied}
+use Rattle.log_model.specs.Machine.{State, SameTest, max_leaves, batch_at, with_batch, begun, snapshot_taken, applied}
 use Rattle.log_model.specs.Reach.{floor_below, may_seal, may_apply, sealed_here}
 use Rattle.twins.specs.Operation.{Operation, meaning, sha}
 use Rattle.op_codec.specs.declared.keyless.Operation.TheVariants.{Append, Commit}
@@ -66,9 +66,9 @@ floor_refusal below floor location =
     else None)
 
 -- Why a seal of this floor loses an unsealed batch, if it does: the batch can't be sealed on the present list, or it would be too long, or the floor is refused.
-abbrev pub seal_refusal : Test Operation → State Operation → UnsealedBatch Operation → ℕ → Option Refusal
-seal_refusal one s u floor =
-    if may_seal one s u then
+abbrev pub seal_refusal : SameTest Operation → State Operation → UnsealedBatch Operation → ℕ → Option Refusal
+seal_refusal same s u floor =
+    if may_seal same s u then
     (if nat_lt max_leaves (size_of u + 1) then Some (LocationOverflow (size_of u + 1))
     else floor_refusal (floor_below meaning s u) floor (size_of u))
     else Some StaleBatch
@@ -88,22 +88,22 @@ sealed_or_lost s b u metadata floor (Some refusal) = lost s b refusal
 sealed_or_lost s b u metadata floor None = done_sealing s b (sealed_here s u (Commit metadata floor) floor)
 
 -- A commit ends batch b, where nothing refuses it. Metadata that is too long leaves the batch; each other refusal loses it.
-abbrev pub seal : Test Operation → ℕ → State Operation → ℕ → Option (List ℕ) → ℕ → Batch Operation → Outcome
-seal one limit s b metadata floor (Unsealed u) =
+abbrev pub seal : SameTest Operation → ℕ → State Operation → ℕ → Option (List ℕ) → ℕ → Batch Operation → Outcome
+seal same limit s b metadata floor (Unsealed u) =
     if nat_lt limit (metadata_length metadata) then refused s (ValueTooLong (metadata_length metadata))
-    else sealed_or_lost s b u metadata floor (seal_refusal one s u floor)
-seal one limit s b metadata floor (Sealed c) = refused s (NoBatch b)
-seal one limit s b metadata floor Gone = refused s (NoBatch b)
+    else sealed_or_lost s b u metadata floor (seal_refusal same s u floor)
+seal same limit s b metadata floor (Sealed c) = refused s (NoBatch b)
+seal same limit s b metadata floor Gone = refused s (NoBatch b)
 
 -- The list becomes that of batch b, which is held, where it may be applied.
-abbrev pub apply : Test Operation → State Operation → ℕ → Batch Operation → Outcome
-apply one s b (Sealed c) =
+abbrev pub apply : SameTest Operation → State Operation → ℕ → Batch Operation → Outcome
+apply same s b (Sealed c) =
     if is_held c then
-    (if may_apply one s c then (answer.Applied, applied s c)
+    (if may_apply same s c then (answer.Applied, applied s c)
     else refused s StaleBatch)
     else refused s (NoBatch b)
-apply one s b (Unsealed u) = refused s (NoBatch b)
-apply one s b Gone = refused s (NoBatch b)
+apply same s b (Unsealed u) = refused s (NoBatch b)
+apply same s b Gone = refused s (NoBatch b)
 
 -- Batch b, which is held, is held once more.
 abbrev pub hold : State Operation → ℕ → Batch Operation → Outcome
@@ -122,16 +122,16 @@ release s b (Unsealed u) = (answer.Done, with_batch s b Gone)
 release s b Gone = refused s (NoBatch b)
 
 -- What a command answers, and the state that it leaves, where values have at most this length.
-abbrev pub step : Test Operation → ℕ → State Operation → Command → Outcome
-step one limit s (command.New parent) = begin s parent
-step one limit s (command.Append b v) = append_to limit s b v (batch_at s b)
-step one limit s (command.Seal b metadata floor) = seal one limit s b metadata floor (batch_at s b)
-step one limit s (command.Apply b) = apply one s b (batch_at s b)
-step one limit s (command.Hold b) = hold s b (batch_at s b)
-step one limit s (command.Release b) = release s b (batch_at s b)
-step one limit s command.Snapshot = (answer.Batch (length s.batches), snapshot_taken s (floor_of meaning s.ops))
-step one limit s command.Size = (answer.Size (length s.ops) 0 (floor_of meaning s.ops), s)
-step one limit s command.Metadata = (answer.Metadata (last_value meaning s.ops), s)
+abbrev pub step : SameTest Operation → ℕ → State Operation → Command → Outcome
+step same limit s (command.New parent) = begin s parent
+step same limit s (command.Append b v) = append_to limit s b v (batch_at s b)
+step same limit s (command.Seal b metadata floor) = seal same limit s b metadata floor (batch_at s b)
+step same limit s (command.Apply b) = apply same s b (batch_at s b)
+step same limit s (command.Hold b) = hold s b (batch_at s b)
+step same limit s (command.Release b) = release s b (batch_at s b)
+step same limit s command.Snapshot = (answer.Batch (length s.batches), snapshot_taken s (floor_of meaning s.ops))
+step same limit s command.Size = (answer.Size (length s.ops) 0 (floor_of meaning s.ops), s)
+step same limit s command.Metadata = (answer.Metadata (last_value meaning s.ops), s)
 
 -- The reply: the answer, with the size and the root of the list after the step.
 abbrev pub reply : Outcome → Reply

@@ -6,7 +6,7 @@ ghost use Rattle.log_model.specs.Machine.{State, batch_at, begun, with_batch};
 ghost use Rattle.log_model.specs.Reach.{stands_on, may_seal, sealed_here};
 ghost use Rattle.chain_core.specs.Slots.{IsAlive};
 ghost use Rattle.twins.specs.Operation.{Operation};
-ghost use Rattle.twins.specs.Commitments.{commitment_of, one_state};
+ghost use Rattle.twins.specs.Commitments.{commitment_of, same_state};
 ghost use Rattle.twins.specs.Step.{begin, append_to, floor_refusal, seal_refusal, metadata_length, done_sealing, seal, apply, hold, release, step, reply};
 ghost use Rattle.twins.specs.Trace.{fresh_state};
 ghost use Rattle.twins.specs.Lists.{list_at, lists_in, count_in};
@@ -197,7 +197,7 @@ impl Machine {
     fn may_apply(&self, batch: &SealedBatch) -> bool
         requires log { HasLog self.now }
         requires bounds { AreBounds (list_at (lists_in self.now.history) batch.now.list) batch.now.bounds }
-        ensures { (s : State Operation) → IsLogOf self.now s → result ≡ stands_on one_state s (list_at (lists_in self.now.history) batch.now.list) batch.now.bounds.db.size (sizes batch.now.bounds.ancestors) }
+        ensures { (s : State Operation) → IsLogOf self.now s → result ≡ stands_on same_state s (list_at (lists_in self.now.history) batch.now.list) batch.now.bounds.db.size (sizes batch.now.bounds.ancestors) }
     {
         batch.bounds.validate_apply_to(self.current()).is_ok()
     }
@@ -206,7 +206,7 @@ impl Machine {
     fn may_seal(&self, batch: &UnsealedBatch, place: &Place) -> bool
         requires log { HasLog self.now }
         requires place { IsPlace self.now batch.now place.now.boundary place.now.tips.items }
-        ensures { (s : State Operation) (w : batches.UnsealedBatch Operation) → IsUnsealedIn self.now batch.now s w → result ≡ may_seal one_state s w }
+        ensures { (s : State Operation) (w : batches.UnsealedBatch Operation) → IsUnsealedIn self.now batch.now s w → result ≡ may_seal same_state s w }
     {
         let boundary = place.boundary.copied();
         merkleizable(self, self.current(), boundary, &place.tips).is_ok()
@@ -255,7 +255,7 @@ impl Machine {
     fn seal_refusal(&self, batch: &UnsealedBatch, place: &Place, floor: u64) -> Option<Refusal>
         requires batch { IsUnsealedHere self.now batch.now }
         requires place { IsPlace self.now batch.now place.now.boundary place.now.tips.items }
-        ensures { (s : State Operation) (w : batches.UnsealedBatch Operation) → IsUnsealedIn self.now batch.now s w → result ≡ seal_refusal one_state s w floor }
+        ensures { (s : State Operation) (w : batches.UnsealedBatch Operation) → IsUnsealedIn self.now batch.now s w → result ≡ seal_refusal same_state s w floor }
     {
         if !self.may_seal(batch, place) {
             return Some(Refusal::StaleBatch);
@@ -287,7 +287,7 @@ impl Machine {
     {
         let commit = keyless::Operation::Commit(metadata.duplicate()?, Location::new(floor));
         let Batch::Unsealed(mut batch) = replace(&mut self.batches[b as usize], Batch::Gone) else {
-            return Ok(Answer::Refused(Refusal::NoBatch(b)));
+            unreachable!();
         };
         batch.own.push(commit)?;
         let base = self.history.state(batch.base);
@@ -334,7 +334,7 @@ impl Machine {
     ) -> Result<Answer, CodecError>
         requires kept { IsKept self.old }
         requires room { HasRoom self.old }
-        ensures ok { IfOk result (λ a. Follows (λ s. seal one_state self.old.limit s b metadata.now floor (batch_at s b)) self.old self.new a) }
+        ensures ok { IfOk result (λ a. Follows (λ s. seal same_state self.old.limit s b metadata.now floor (batch_at s b)) self.old self.new a) }
         ensures limit { self.new.limit ≡ self.old.limit }
         ensures taken { self.new.taken ≡ self.old.taken }
         ensures memory { IsOkUnless result CodecError.Memory }
@@ -361,7 +361,7 @@ impl Machine {
     /// Makes the list that of a sealed batch.
     fn apply(&mut self, b: u64) -> Answer
         requires { IsKept self.old }
-        ensures ok { Follows (λ s. apply one_state s b (batch_at s b)) self.old self.new result }
+        ensures ok { Follows (λ s. apply same_state s b (batch_at s b)) self.old self.new result }
         ensures limit { self.new.limit ≡ self.old.limit }
         ensures taken { self.new.taken ≡ self.old.taken }
     {
@@ -442,7 +442,7 @@ impl Machine {
     fn snapshot(&mut self, alloc: Global) -> Result<Answer, CodecError>
         requires kept { IsKept self.old }
         requires room { HasRoom self.old }
-        ensures ok { IfOk result (λ a. Follows (λ s. step one_state self.old.limit s Command.Snapshot) self.old self.new a) }
+        ensures ok { IfOk result (λ a. Follows (λ s. step same_state self.old.limit s Command.Snapshot) self.old self.new a) }
         ensures limit { self.new.limit ≡ self.old.limit }
         ensures taken { self.new.taken ≡ self.old.taken }
         ensures memory { IsOkUnless result CodecError.Memory }
@@ -463,7 +463,7 @@ impl Machine {
     fn answer(&mut self, alloc: Global, command: &Command) -> Result<Answer, CodecError>
         requires kept { IsKept self.old }
         requires room { HasRoom self.old }
-        ensures ok { IfOk result (λ a. Follows (λ s. step one_state self.old.limit s command.now) self.old self.new a) }
+        ensures ok { IfOk result (λ a. Follows (λ s. step same_state self.old.limit s command.now) self.old self.new a) }
         ensures limit { self.new.limit ≡ self.old.limit }
         ensures taken { self.new.taken ≡ self.old.taken }
         ensures memory { IsOkUnless result CodecError.Memory }
@@ -514,7 +514,7 @@ impl Machine {
     pub fn step(&mut self, alloc: Global, command: &Command) -> Result<Reply, CodecError>
         requires kept { IsKept self.old }
         requires taken { self.old.taken < 2 ^ 64 - 1 }
-        ensures ok { IfOk result (λ r. (s : State Operation) → IsStateOf self.old s → (r ≡ reply (step one_state self.old.limit s command.now)) × IsStateOf self.new (step one_state self.old.limit s command.now).1) }
+        ensures ok { IfOk result (λ r. (s : State Operation) → IsStateOf self.old s → (r ≡ reply (step same_state self.old.limit s command.now)) × IsStateOf self.new (step same_state self.old.limit s command.now).1) }
         ensures limit { self.new.limit ≡ self.old.limit }
         ensures taken { self.new.taken ≡ self.old.taken + 1 }
         ensures memory { IsOkUnless result CodecError.Memory }

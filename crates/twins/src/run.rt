@@ -3,9 +3,9 @@ ghost use Rattle.std.specs.FinMap as map;
 ghost use Rattle.codec_base.specs.Causes.{Rose};
 ghost use Rattle.volume_base.specs.Volume.{SameContents, PastStays, StaysSteady, Reads};
 ghost use Rattle.twins.specs.declared.ending.Fault.TheVariants.{Volume, NotFresh, Memory};
-ghost use Rattle.log_model.specs.Machine.{one_list};
+ghost use Rattle.log_model.specs.Machine.{same_operations};
 ghost use Rattle.twins.specs.Operation.{meaning};
-ghost use Rattle.twins.specs.Commitments.{one_state};
+ghost use Rattle.twins.specs.Commitments.{same_state};
 ghost use Rattle.twins.specs.Trace.{trace, HasNoClash, IsFreshLog, IsFresh, IsBegun};
 
 use crate::config::TwinConfig;
@@ -26,8 +26,8 @@ fn answer_all(
     replies: &mut Replies,
 ) -> Result<(), CodecError>
     requires { replies.old ≡ [] }
-    ensures ok { OnOk result (replies.new ≡ trace one_state limit commands.now) }
-    ensures err { OnErr result (IsBegun replies.new (trace one_state limit commands.now)) }
+    ensures ok { OnOk result (replies.new ≡ trace same_state limit commands.now) }
+    ensures err { OnErr result (IsBegun replies.new (trace same_state limit commands.now)) }
     ensures memory { IsOkUnless result CodecError.Memory }
 {
     let mut machine = Machine::new(alloc, limit)?;
@@ -98,12 +98,12 @@ pub fn run_twins<V: Volume>(
     commands: &[Command],
 ) -> Result<Replies, Stopped>
     // One reply to the opening and one to each command, as the list machine answers; or the first of these.
-    ensures replies { IfOk result (λ replies. replies ≡ trace one_state config.now.value_limit commands.now) }
-    ensures so_far { IfErr result (λ s. IsBegun s.replies (trace one_state config.now.value_limit commands.now)) }
+    ensures replies { IfOk result (λ replies. replies ≡ trace same_state config.now.value_limit commands.now) }
+    ensures so_far { IfErr result (λ s. IsBegun s.replies (trace same_state config.now.value_limit commands.now)) }
 
     // So far lists are told by their sizes and roots. Where nothing clashes that is hashed for the lists of the run, this is the same as by their operations.
-    ensures lists { HasNoClash config.now.value_limit commands.now → IfOk result (λ replies. replies ≡ trace (one_list meaning) config.now.value_limit commands.now) }
-    ensures lists_so_far { HasNoClash config.now.value_limit commands.now → IfErr result (λ s. IsBegun s.replies (trace (one_list meaning) config.now.value_limit commands.now)) }
+    ensures lists { HasNoClash config.now.value_limit commands.now → IfOk result (λ replies. replies ≡ trace (same_operations meaning) config.now.value_limit commands.now) }
+    ensures lists_so_far { HasNoClash config.now.value_limit commands.now → IfErr result (λ s. IsBegun s.replies (trace (same_operations meaning) config.now.value_limit commands.now)) }
 
     // The volume stays as it was, whatever is answered.
     ensures clock { (V.state volume.new).clock ≡ (V.state volume.old).clock }

@@ -10,7 +10,7 @@ use Rattle.command_text.specs.declared.command.Refusal.TheVariants.{LocationOver
 use Rattle.twins.specs.declared.batch.Batch.{Batch}
 use Rattle.twins.specs.declared.batch.Batch.TheVariants.{Unsealed}
 use Rattle.twins.specs.Operation.{meaning}
-use Rattle.twins.specs.Commitments.{one_state}
+use Rattle.twins.specs.Commitments.{same_state}
 use Rattle.twins.specs.Step.{refused, append_to}
 use Rattle.twins.specs.StateOf.{AreBatchesOf}
 use Rattle.twins.proofs.Matching.{read_at}
@@ -30,7 +30,7 @@ returns-then-size-ge-MAX_LEAVES-clause-ok c = λ s k.
     let w = unsealed_in m s k b u e in
     let o = w.3 in
     let size : c.size.result + c.len-in-Unsealed-2.result ≡ size_of w.0 = let base = o.base in let own = ap length o.pending in omega (arith, c.size.ensures.value, base, own) in
-    meets _ _ (refused s (LocationOverflow (size_of w.0 + 1))) _ (ap (append_to m.limit s b c.args.value.now) w.2 ∙ append_full one_state s b w.0 m.limit c.args.value.now (omega arith) (omega (arith, size)))
+    meets _ _ (refused s (LocationOverflow (size_of w.0 + 1))) _ (ap (append_to m.limit s b c.args.value.now) w.2 ∙ append_full same_state s b w.0 m.limit c.args.value.now (omega arith) (omega (arith, size)))
     (ap (λ n. answer.Refused (LocationOverflow (n + 1))) size) (record {
       log = record { history = k.log.history; head = k.log.head };
       ops = k.ops;
@@ -52,7 +52,7 @@ returns-in_ok-push-in-Unsealed-clause-ok c = λ s k.
     let l = length-append u.own.items (Append c.args.value.now ∷ []) in
     let few : length c.push.new.self.items ≤ max_leaves = rw items (let own = ap length o.pending in omega (arith, l, size, own)) in
     let appends : AreAppends meaning c.push.new.self.items = rw items (appends_push u.own.items (Append c.args.value.now) o.appends refl) in
-    meets _ _ (answer.Done, with_batch s b (batches.Unsealed (appended w.0 (Append c.args.value.now)))) _ (ap (append_to m.limit s b c.args.value.now) w.2 ∙ append_done one_state s b w.0 m.limit c.args.value.now (omega arith) (omega (arith, size)))
+    meets _ _ (answer.Done, with_batch s b (batches.Unsealed (appended w.0 (Append c.args.value.now)))) _ (ap (append_to m.limit s b c.args.value.now) w.2 ∙ append_done same_state s b w.0 m.limit c.args.value.now (omega arith) (omega (arith, size)))
     refl (record {
       log = record { history = k.log.history; head = k.log.head };
       ops = k.ops;

@@ -1,6 +1,6 @@
 use Rattle.std.proofs.Common.{length, sym, ◌∙◌, refl, ap, subst, arith}
 use Rattle.std.proofs.lemmas.Result.{IfOk-weaker}
-use Rattle.twins.specs.Commitments.{one_state}
+use Rattle.twins.specs.Commitments.{same_state}
 use Rattle.twins.specs.Step.{lost, seal}
 use Rattle.twins.specs.StateOf.{Meets}
 use Rattle.twins.proofs.Matching.{read_at}
@@ -34,7 +34,7 @@ returns-in-Some-clause-ok c = λ s k.
     let e = read_at m.batches.items b c.index.result.now (omega arith) c.index.ensures ∙ c.in-Unsealed.is in
     let w = unsealed_in m s k b c.in-Unsealed.batch e in
     let refusal = c.in-Some.refusal in
-    meets _ _ (lost s b refusal) _ (ap (seal one_state m.limit s b c.args.metadata.now c.args.floor) w.2 ∙ seal_lost one_state s b w.0 m.limit c.args.metadata.now c.args.floor (omega arith) refusal (sym (c.in-Some.ensures s w.0 w.1)))
+    meets _ _ (lost s b refusal) _ (ap (seal same_state m.limit s b c.args.metadata.now c.args.floor) w.2 ∙ seal_lost same_state s b w.0 m.limit c.args.metadata.now c.args.floor (omega arith) refusal (sym (c.in-Some.ensures s w.0 w.1)))
     refl (c.lose.ensures.lost s k)
 
 pub end-requires-clause-place : goal.end-requires-clause-place
@@ -46,7 +46,7 @@ end-requires-clause-place c =
     let k = c.requires.kept in
     let w = unsealed_in m k.0 k.1 b u e in
     let o = in_of m u k.0 w.0 w.1 in
-    let few = seal_few one_state k.0 w.0 c.args.floor (sym (c.in_default-seal_refusal.ensures k.0 w.0 w.1)) in
+    let few = seal_few same_state k.0 w.0 c.args.floor (sym (c.in_default-seal_refusal.ensures k.0 w.0 w.1)) in
     record { batch = u; is = e; place = c.in_ok-place.ensures.place; few = let base = o.base in let own = ap length o.pending in omega (arith, few, base, own) }
 
 pub returns-clause-ok : goal.returns-clause-ok
@@ -56,5 +56,5 @@ returns-clause-ok c =
     let e = read_at m.batches.items b c.index.result.now (omega arith) c.index.ensures ∙ c.in-Unsealed.is in
     IfOk-weaker c.end.result _ _ (λ a done s k.
     let w = unsealed_in m s k b c.in-Unsealed.batch e in
-    subst (λ o. Meets o c.end.new.self a) (sym (ap (seal one_state m.limit s b c.args.metadata.now c.args.floor) w.2 ∙ seal_done one_state s b w.0 m.limit c.args.metadata.now c.args.floor (omega arith) (sym (c.in_default-seal_refusal.ensures s w.0 w.1))))
+    subst (λ o. Meets o c.end.new.self a) (sym (ap (seal same_state m.limit s b c.args.metadata.now c.args.floor) w.2 ∙ seal_done same_state s b w.0 m.limit c.args.metadata.now c.args.floor (omega arith) (sym (c.in_default-seal_refusal.ensures s w.0 w.1))))
     (done s w.0 k w.2)) c.end.ensures.ok
