@@ -1,7 +1,7 @@
 #!/bin/sh
 # Checks the launcher `twins` and through it the program's ends: the stored run, from another folder, through a link, with
-# input passed on; each status that can be had from outside, with its message; and the message where rt is missing. It works
-# on the checkout that it stands in.
+# input passed on, also between comments and empty lines; the longest input; each other status that can be had from outside, with
+# its message; and the message where rt is missing. It works on the checkout that it stands in.
 set -u
 top=$(cd "$(dirname "$0")/.." && pwd -P)
 if ! command -v rt >/dev/null 2>&1; then
@@ -50,6 +50,15 @@ ends 2 "$usage" /dev/null "$(printf '\377')"
 ends 3 'twins: line 3: not a command' "$scratch/bad-line"
 ends 4 'twins: cannot read input' "$scratch"
 ends 9 'twins: input longer than 16777216 bytes' "$scratch/too-long"
+
+awk '{ print "# line " NR; print ""; print }' "$top/crates/twins/stdin" >"$scratch/commented"
+(cd "$scratch" && ./link <commented >answers)
+expect 'output of the stored run between comments' cmp -s "$scratch/answers" "$top/crates/twins/stdout"
+head -c 16777216 "$scratch/too-long" >"$scratch/longest"
+head -n 1 "$top/crates/twins/stdout" >"$scratch/opened"
+(cd "$scratch" && ./link <longest >answers)
+expect 'status of the longest input' [ $? -eq 0 ]
+expect 'output of the longest input' cmp -s "$scratch/answers" "$scratch/opened"
 if [ -w /dev/full ]; then
     (cd "$scratch" && ./link </dev/null >/dev/full 2>errors)
     expect 'status 5' [ $? -eq 5 ]
