@@ -55,6 +55,11 @@ def memory(peak):
     return f"{peak} KiB" if peak > own else f"at most {own} KiB"
 
 
+def ratio(ours, theirs):
+    """The one time by the other, both without the start of their program; nothing where the other is as short as that start varies."""
+    return f"{ours / theirs:.2f} times the outside program" if theirs > 0.002 else "the outside program is too short to compare"
+
+
 def batch(appends):
     return ["new"] + [f"append 0 {i:016x}" for i in range(appends)] + ["seal 0 - 0", "apply 0"]
 
@@ -92,7 +97,7 @@ def main(program):
                 path = written(folder, "lines", "\n".join(lines_of(size)) + "\n")
                 ours, peak = measure([program], path)
                 theirs, _ = measure(HASHES, path)
-                print(f"{title.format(size)}: {ours * 1000:.1f} ms, {memory(peak)}, {(ours - start) / max(theirs - python, 1e-9):.2f} times the outside program")
+                print(f"{title.format(size)}: {ours * 1000:.1f} ms, {memory(peak)}, {ratio(ours - start, theirs - python)}")
         for size in (10, 100, 1000):
             ours, peak = measure([program], written(folder, "lines", "\n".join(nested(size)) + "\n"))
             print(f"2 MiB of values in a chain of {size} batches: {ours * 1000:.1f} ms, {memory(peak)}")
