@@ -77,7 +77,7 @@ fn run_and_write<O: Sink, V: Volume>(
     ensures fresh { ((result ≡ Status.Done) ⊎ (result ≡ Status.WriteFault)) → V.tells → IsFresh standard_config (V.state volume.old).log (V.state volume.old).map }
     ensures not_fresh { result ≡ Status.NotFresh → V.tells → IsFresh standard_config (V.state volume.old).log (V.state volume.old).map → ⊥ }
     ensures unopened { ((result ≡ Status.Volume) ⊎ (result ≡ Status.NotFresh)) → Appends (O.written output.old) (O.written output.new) [] }
-    // Something is written only over a fresh volume of which no call has failed; so is the end after a whole run.
+    // Something is written only over a fresh volume that has counted no failure, and so it is where the run was whole.
     ensures answered { (Appends (O.written output.old) (O.written output.new) [] → ⊥) → V.tells → IsFresh standard_config (V.state volume.old).log (V.state volume.old).map }
     ensures kept { (Appends (O.written output.old) (O.written output.new) [] → ⊥) → (V.state volume.new).faults ≡ (V.state volume.old).faults }
     ensures no_fault { ((result ≡ Status.Done) ⊎ (result ≡ Status.WriteFault)) → (V.state volume.new).faults ≡ (V.state volume.old).faults }
@@ -138,7 +138,7 @@ pub fn twins_main<I: Source, O: Sink, V: Volume>(
     ensures volume { result ≡ Status.Volume → Rose (V.state volume.old).faults (V.state volume.new).faults }
     ensures not_fresh { result ≡ Status.NotFresh → V.tells → IsFresh standard_config (V.state volume.old).log (V.state volume.old).map → ⊥ }
     ensures unopened { ((result ≡ Status.Volume) ⊎ (result ≡ Status.NotFresh)) → Appends (O.written output.old) (O.written output.new) [] }
-    // Something is written only over a fresh volume of which no call has failed; so is the end after a whole run.
+    // Something is written only over a fresh volume that has counted no failure, and so it is where the run was whole.
     ensures answered { (Appends (O.written output.old) (O.written output.new) [] → ⊥) → V.tells → IsFresh standard_config (V.state volume.old).log (V.state volume.old).map }
     ensures kept { (Appends (O.written output.old) (O.written output.new) [] → ⊥) → (V.state volume.new).faults ≡ (V.state volume.old).faults }
     ensures no_fault { ((result ≡ Status.Done) ⊎ (result ≡ Status.WriteFault)) → (V.state volume.new).faults ≡ (V.state volume.old).faults }

@@ -117,7 +117,7 @@ pub fn run_twins<V: Volume>(
     // Where the volume isn't fresh or fails nothing is answered.
     ensures unopened { IfErr result (λ s. ((s.fault ≡ Fault.Volume) ⊎ (s.fault ≡ Fault.NotFresh)) → s.replies ≡ []) }
     ensures answered { IfErr result (λ s. (s.replies ≡ [] → ⊥) → V.tells → IsFresh config.now (V.state volume.old).log (V.state volume.old).map) }
-    // Where something is answered no call of the volume has failed.
+    // Where something is answered the volume has counted no failure.
     ensures kept { OnOk result ((V.state volume.new).faults ≡ (V.state volume.old).faults) }
     ensures kept_so_far { IfErr result (λ s. (s.replies ≡ [] → ⊥) → (V.state volume.new).faults ≡ (V.state volume.old).faults) }
     ensures fresh { OnOk result (V.tells → IsFresh config.now (V.state volume.old).log (V.state volume.old).map) }
