@@ -247,7 +247,7 @@ RUNS = [
 ]
 
 
-# The lists of commits, each of the floor that its one byte is, whose roots the tests of `log_model` compare with.
+# The floors of the lists of commits without metadata whose roots the tests of lists compare with.
 FLOORS = [[], [0], [7, 7, 3], [7, 7, 2], [1, 2, 3, 4, 5]]
 
 
@@ -272,7 +272,7 @@ def known_digests():
         known.add(node(Mmr, ELEMENTS, leaves, 0).hex())
     known.update(one for _, one in proofs.rows())
     for floors in FLOORS:
-        known.add(list_root([bytes([floor]) for floor in floors], floors[-1] if floors else 0))
+        known.add(list_root([commit(None, floor) for floor in floors], floors[-1] if floors else 0))
     for _, limit, lines in RUNS:
         known.update(re.findall(r"\b[0-9a-f]{64}\b", run(lines, limit)))
     return known

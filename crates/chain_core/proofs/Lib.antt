@@ -1,3 +1,6 @@
 pub mod Among
 pub mod SlotLemmas
 pub mod ReachLemmas
+pub mod PoolLemmas
+pub mod ReachedLemmas
+pub mod StateLemmas

@@ -8,9 +8,9 @@ use Rattle.std.proofs.lemmas.Grind.{common_steps}
 use Rattle.std.proofs.lemmas.List.{get_or_append_left, set-append_left, set_past, get_or-set_same, get_or-set_other, length-set}
 use Rattle.std.proofs.lemmas.Bool.Decides.{nat_tests}
 use Rattle.std.proofs.Math.Seq.{set-append_seam, get_or-append_seam}
-use Rattle.chain_core.specs.Slots.{batch_at, holds_of, KeepsDead}
+use Rattle.chain_core.specs.Slots.{slot_at, holds_of, KeepsDead}
 use Rattle.chain_core.specs.declared.pool.HeldBatch.{HeldBatch}
-use Rattle.chain_core.specs.Kept.{values_below, slots_of, IsKept, IsKeptAt, SetsAt}
+use Rattle.chain_core.specs.PoolMap.{values_below, slots_of, IsKept, IsKeptAt, SetsAt}
 
 pub length-values_below : {X : Type 0} (f : ℕ → X) (n : ℕ) → length (values_below f n) ≡ n
 length-values_below f zero = refl
@@ -73,16 +73,16 @@ module _ {T : Type 0} where
       none (Some b) e = absurd (omega (arith, (kept k b e).below))
 
   -- what is alive is what is kept
-  pub batch_at-slots_of : (batches : BTreeMap ℕ (HeldBatch T)) (drawn k : ℕ) → IsKept batches drawn → batch_at (slots_of batches drawn) k ≡ get nat_cmp batches k
-  batch_at-slots_of batches drawn k kept = ⊎_elim within past cases
+  pub slot_at-slots_of : (batches : BTreeMap ℕ (HeldBatch T)) (drawn k : ℕ) → IsKept batches drawn → slot_at (slots_of batches drawn) k ≡ get nat_cmp batches k
+  slot_at-slots_of batches drawn k kept = ⊎_elim within past cases
     where
       cases : (k < drawn) ⊎ (drawn ≤ k)
       cases = grind arith
 
-      within : k < drawn → batch_at (slots_of batches drawn) k ≡ get nat_cmp batches k
+      within : k < drawn → slot_at (slots_of batches drawn) k ≡ get nat_cmp batches k
       within below = values_below-at (get nat_cmp batches) drawn k None below
 
-      past : drawn ≤ k → batch_at (slots_of batches drawn) k ≡ get nat_cmp batches k
+      past : drawn ≤ k → slot_at (slots_of batches drawn) k ≡ get nat_cmp batches k
       past above = values_below-past (get nat_cmp batches) drawn k None above ∙ sym (undrawn batches drawn k kept above)
 
   -- what a look-up lends is kept
@@ -117,22 +117,22 @@ module _ {T : Type 0} (slots : List (Option (HeldBatch T))) where
   }
 
   -- a change that makes nothing of nothing revives no batch
-  dead-changed : (k : ℕ) (f : Option (HeldBatch T) → Option (HeldBatch T)) → f None ≡ None → KeepsDead slots (set slots k (f (batch_at slots k)))
+  dead-changed : (k : ℕ) (f : Option (HeldBatch T) → Option (HeldBatch T)) → f None ≡ None → KeepsDead slots (set slots k (f (slot_at slots k)))
   dead-changed k f nothing = record { drawn = simp length-set (omega arith); dead = stays }
     where
-      stays : (id : ℕ) → id < length slots → batch_at slots id ≡ None → batch_at (set slots k (f (batch_at slots k))) id ≡ None
+      stays : (id : ℕ) → id < length slots → slot_at slots id ≡ None → slot_at (set slots k (f (slot_at slots k))) id ≡ None
       stays id within e = ⊎_elim here other cases
         where
           cases : (k ≡ id) ⊎ (id ≢ k)
           cases = grind arith
 
-          here : k ≡ id → batch_at (set slots k (f (batch_at slots k))) id ≡ None
+          here : k ≡ id → slot_at (set slots k (f (slot_at slots k))) id ≡ None
           here same =
-              subst (λ i. batch_at (set slots i (f (batch_at slots i))) id ≡ None) (sym same)
-              (get_or-set_same slots id (f (batch_at slots id)) None within ∙ ap f e ∙ nothing)
+              subst (λ i. slot_at (set slots i (f (slot_at slots i))) id ≡ None) (sym same)
+              (get_or-set_same slots id (f (slot_at slots id)) None within ∙ ap f e ∙ nothing)
 
-          other : id ≢ k → batch_at (set slots k (f (batch_at slots k))) id ≡ None
-          other apart = get_or-set_other slots k id (f (batch_at slots k)) None apart ∙ e
+          other : id ≢ k → slot_at (set slots k (f (slot_at slots k))) id ≡ None
+          other apart = get_or-set_other slots k id (f (slot_at slots k)) None apart ∙ e
 
 module _ {T : Type 0} (batches : BTreeMap ℕ (HeldBatch T)) (drawn : ℕ) (slots : List (Option (HeldBatch T))) (is : slots_of batches drawn ≡ slots) where
   pub drawn-is : drawn ≡ length slots
@@ -157,18 +157,18 @@ module _ {T : Type 0} (batches : BTreeMap ℕ (HeldBatch T)) (drawn : ℕ) (slot
           ∙ is ∙ sym (set_past slots k w (omega (arith, drawn-is)))
 
   module _ (kept : IsKept batches drawn) (j k : ℕ) (same : j ≡ k) where
-    pub batch_at-found : batch_at slots k ≡ get nat_cmp batches j
-    batch_at-found = ap (λ xs. batch_at xs k) (sym is) ∙ batch_at-slots_of batches drawn k kept ∙ ap (get nat_cmp batches) (sym same)
+    pub slot_at-found : slot_at slots k ≡ get nat_cmp batches j
+    slot_at-found = ap (λ xs. slot_at xs k) (sym is) ∙ slot_at-slots_of batches drawn k kept ∙ ap (get nat_cmp batches) (sym same)
 
     pub holds_of-found : (b : HeldBatch T) → get nat_cmp batches j ≡ Some b → holds_of slots k ≡ b.holds
-    holds_of-found b e = ap (λ o. option_map_or (λ (x : HeldBatch T). x.holds) o 0) (batch_at-found ∙ e)
+    holds_of-found b e = ap (λ o. option_map_or (λ (x : HeldBatch T). x.holds) o 0) (slot_at-found ∙ e)
 
     pub slots-changed : (new : BTreeMap ℕ (HeldBatch T)) (f : Option (HeldBatch T) → Option (HeldBatch T)) → SetsAt batches new j (f (get nat_cmp batches j))
-        → slots_of new drawn ≡ set slots k (f (batch_at slots k))
+        → slots_of new drawn ≡ set slots k (f (slot_at slots k))
     slots-changed new f sets =
         set-slots new j (f (get nat_cmp batches j)) sets
         ∙ ap (λ i. set slots i (f (get nat_cmp batches j))) same
-        ∙ ap (λ o. set slots k (f o)) (sym batch_at-found)
+        ∙ ap (λ o. set slots k (f o)) (sym slot_at-found)
 
     pub dead-kept : (new : BTreeMap ℕ (HeldBatch T)) (f : Option (HeldBatch T) → Option (HeldBatch T)) → SetsAt batches new j (f (get nat_cmp batches j))
         → f None ≡ None → KeepsDead slots (slots_of new drawn)

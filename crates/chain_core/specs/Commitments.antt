@@ -20,9 +20,9 @@ is_same_equivalence bytes =
     and_equiv (on_equiv (λ c. c.size) nat_eq_equiv) (on_equiv (λ c. bytes c.root) (lists_equiv nat_eq_equiv))
 
 -- The later of a boundary and a base; the boundary where there is no base, or one that is no later.
-abbrev pub effective_boundary : {F D : Type 0} → Commitment F D → Option (Commitment F D) → Commitment F D
-effective_boundary inherited None = inherited
-effective_boundary inherited (Some base) = if nat_lt inherited.size base.size then base else inherited
+abbrev pub later_state : {F D : Type 0} → Commitment F D → Option (Commitment F D) → Commitment F D
+later_state inherited None = inherited
+later_state inherited (Some base) = if nat_lt inherited.size base.size then base else inherited
 
 -- Where roots with the same bytes are equal, states that are the same are equal.
 pub is_same-exact : {F D : Type 0} (bytes : D → List ℕ) → ((x y : D) → bytes x ≡ bytes y → x ≡ y) → (a b : Commitment F D) → is_same bytes a b ≡ true → a ≡ b

@@ -1,10 +1,10 @@
 ghost use Rattle.std.specs.Prelude.{◌≡◌, ◌↔◌, [], ◌∷◌, IsTrue, IsOk, IfOk, Ok, IsOkUnless, Contains};
-ghost use Rattle.chain_core.specs.Commitments.{effective_boundary};
+ghost use Rattle.chain_core.specs.Commitments.{later_state};
 
 use crate::{Commitment, Compatible, Error};
 use codec_base::ListOf;
 use std::alloc::Global;
-use tree_core::{Digest, Location};
+use tree_shape::{Digest, Location};
 
 /// The states of a sealed batch: before its own operations, where its chain began, and after them.
 #[derive(Drop)]
@@ -118,7 +118,7 @@ pub fn effective_boundary<F, D: Digest>(
     inherited: Commitment<F, D>,
     oldest_live_base: Option<Commitment<F, D>>,
 ) -> Commitment<F, D>
-    ensures { result ≡ effective_boundary inherited oldest_live_base }
+    ensures { result ≡ later_state inherited oldest_live_base }
 {
     match oldest_live_base {
         Some(base) if base.size > inherited.size => base,

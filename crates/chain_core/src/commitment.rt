@@ -1,7 +1,7 @@
 ghost use Rattle.std.specs.Prelude.{◌≡◌, ◌↔◌, IsTrue, IsOk, IfOk, IsOkUnless};
 
 use crate::Error;
-use tree_core::{Digest, Location};
+use tree_shape::{Digest, Location};
 
 /// A state of a database: how many operations it has, and its root.
 #[derive_where(Clone, Copy; D)]

@@ -3,7 +3,7 @@ ghost use Rattle.chain_core.specs.Texts.{fault_text};
 ghost use Rattle.chain_core.specs.declared.error.Error.TheVariants.{Memory};
 
 use std::alloc::{AllocError, AllocFailed};
-use tree_core::Location;
+use tree_shape::Location;
 use volume_base::JournalError;
 
 /// Which data of a database is not what it has to be.
@@ -39,7 +39,7 @@ impl DataFault {
 #[derive_where(Clone, Copy, Debug, PartialEq, Eq)]
 pub enum Error<F> {
     Journal(JournalError),
-    Merkle(tree_core::Error<F>),
+    Merkle(tree_store::Error<F>),
     /// The location, and the size that it reaches or passes.
     LocationOutOfBounds(Location<F>, Location<F>),
     /// A location, and the next one, which isn't above it.
@@ -96,15 +96,15 @@ impl<F> From<JournalError> for Error<F> {
     }
 }
 
-impl<F> From<tree_core::Error<F>> for Error<F> {
+impl<F> From<tree_store::Error<F>> for Error<F> {
     ghost use Rattle.chain_core.specs.Errors.{from_tree};
 
     ghost from_gives = { λ error e. e ≡ from_tree error };
 
-    fn from(error: tree_core::Error<F>) -> Self {
+    fn from(error: tree_store::Error<F>) -> Self {
         match error {
-            tree_core::Error::Volume => Error::Volume,
-            tree_core::Error::Memory => Error::Memory,
+            tree_store::Error::Volume => Error::Volume,
+            tree_store::Error::Memory => Error::Memory,
             other => Error::Merkle(other),
         }
     }

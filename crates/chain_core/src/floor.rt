@@ -1,7 +1,7 @@
 ghost use Rattle.std.specs.Prelude.{◌≡◌, ◌↔◌, ◌≤◌, ◌<◌, IsOk, IsErrOf};
 
 use crate::Error;
-use tree_core::Location;
+use tree_shape::Location;
 
 /// Tests the floor of a batch that is to be sealed: it has to stand between the floor that the batch builds on, `start`, and the
 /// location of its commit. Refuses, in this order: `FloorRegressed(floor, start)` below, `FloorBeyondSize(floor, commit_loc)` above.

@@ -5,13 +5,14 @@ mod bounds;
 mod commitment;
 mod error;
 mod floor;
+mod place;
 mod pool;
+mod reach;
 
 pub use bounds::{Bounds, effective_boundary, merkleizable, validate_batch_applicable};
 pub use commitment::{Commitment, Compatible};
 pub use error::{DataFault, Error};
 pub use floor::validate_merkleize_floor;
+pub use place::Place;
 pub use pool::{BatchId, HeldBatch, Pool, PoolError};
-
-#[cfg(test)]
-mod tests;
+pub use reach::{Chained, Reach, reach_of};

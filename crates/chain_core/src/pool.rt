@@ -2,8 +2,9 @@ ghost use Rattle.std.specs.Prelude.{◌≡◌, ℕ, ◌+◌, ◌<◌, ◌↔◌,
 ghost use Rattle.std.specs.Option.{option_copied, option_map, ok_or, ForSome};
 ghost use Rattle.std.specs.Ordering.{nat_cmp};
 ghost use Rattle.std.specs.BTreeMap.{get};
-ghost use Rattle.chain_core.specs.Kept.{SetsAt};
-ghost use Rattle.chain_core.specs.Slots.{batch_at, holds_of, IsAlive, with_hold, without_hold, IsReach, KeepsDead};
+ghost use Rattle.chain_core.specs.PoolMap.{SetsAt};
+ghost use Rattle.chain_core.specs.Slots.{slot_at, holds_of, IsAlive, with_hold, without_hold, link_held, link_released, IsReach, KeepsDead};
+ghost use Rattle.chain_core.specs.Reached.{item_at};
 
 use std::alloc::{AllocError, AllocFailed, Global};
 use std::collections::BTreeMap;
@@ -87,7 +88,7 @@ impl<T> Model for Pool<T> {
 
     ghost Value = { List (Option (HeldBatch T)) };
 
-    ghost use Rattle.chain_core.specs.Kept.{slots_of, IsKept};
+    ghost use Rattle.chain_core.specs.PoolMap.{slots_of, IsKept};
 
     ghost view = { λ p. slots_of p.batches p.drawn };
 
@@ -114,7 +115,7 @@ impl<T: Drop> Pool<T> {
     }
 
     fn find(&self, id: BatchId) -> Option<&HeldBatch<T>>
-        ensures value { option_copied result ≡ batch_at self.now id }
+        ensures value { option_copied result ≡ slot_at self.now id }
         ensures held { IfSome result (λ b. 0 < b.now.holds) }
         ensures after { IfSome result (λ b. ForSome b.now.parent (λ p. p < id)) }
     {
@@ -142,7 +143,7 @@ impl<T: Drop> Pool<T> {
     /// The item of a batch that is alive.
     pub fn get(&self, id: BatchId) -> Result<&T, PoolError>
         ensures alive { IsOk result ↔ IsAlive self.now id }
-        ensures item { IfOk result (λ item. option_map (λ b. b.item) (batch_at self.now id) ≡ Some item.now) }
+        ensures item { IfOk result (λ item. option_map (λ b. b.item) (slot_at self.now id) ≡ Some item.now) }
         ensures dead { IsOkUnless result PoolError.NoBatch }
     {
         match self.find(id) {
@@ -151,9 +152,20 @@ impl<T: Drop> Pool<T> {
         }
     }
 
+    /// The item of a batch that the caller knows to be alive.
+    pub fn item(&self, id: BatchId) -> &T
+        requires { IsAlive self.now id }
+        ensures { item_at self.now id ≡ Some result.now }
+    {
+        match self.get(id) {
+            Ok(item) => item,
+            Err(_) => unreachable!(),
+        }
+    }
+
     /// The link of a batch that is alive. It may name a dead one.
     pub fn parent(&self, id: BatchId) -> Result<Option<BatchId>, PoolError>
-        ensures link { result ≡ ok_or (option_map (λ b. b.parent) (batch_at self.now id)) PoolError.NoBatch }
+        ensures link { result ≡ ok_or (option_map (λ b. b.parent) (slot_at self.now id)) PoolError.NoBatch }
         ensures after { IfOk result (λ link. IfSome link (λ p. p < id)) }
     {
         match self.find(id) {
@@ -164,15 +176,16 @@ impl<T: Drop> Pool<T> {
 
     /// The ancestors of a batch that is alive, from its parent on, to the last one before the first that is dead.
     pub fn ancestors_of(&self, id: BatchId) -> Result<Vec<BatchId>, PoolError>
-        ensures reach { IfOk result (λ ids. IfSome (batch_at self.now id) (λ b. IsReach (batch_at self.now) b.parent ids.items)) }
-        ensures dead { IsErrOf result PoolError.NoBatch ↔ (batch_at self.now id ≡ None) }
+        ensures reach { IfOk result (λ ids. IfSome (slot_at self.now id) (λ b. IsReach (slot_at self.now) b.parent ids.items)) }
+        ensures dead { IsErrOf result PoolError.NoBatch ↔ (slot_at self.now id ≡ None) }
     {
         let link = self.parent(id)?;
         self.reach_from(link)
     }
 
-    fn reach_from(&self, link: Option<BatchId>) -> Result<Vec<BatchId>, PoolError>
-        ensures reach { IfOk result (λ ids. IsReach (batch_at self.now) link ids.items) }
+    /// The batches from a link on, from parent to parent, to the last one before the first that is dead.
+    pub fn reach_from(&self, link: Option<BatchId>) -> Result<Vec<BatchId>, PoolError>
+        ensures reach { IfOk result (λ ids. IsReach (slot_at self.now) link ids.items) }
         ensures memory { IsOkUnless result PoolError.Memory }
     {
         let mut next = link;
@@ -212,7 +225,7 @@ impl<T: Drop> Pool<T> {
     pub fn hold(&mut self, id: BatchId) -> Result<(), PoolError>
         requires room { holds_of self.old id < 2 ^ 64 - 1 }
         ensures alive { IsOk result ↔ IsAlive self.old id }
-        ensures ok { OnOk result (self.new ≡ slice_set self.old id (option_map with_hold (batch_at self.old id))) }
+        ensures ok { OnOk result (self.new ≡ slice_set self.old id (option_map with_hold (slot_at self.old id))) }
         ensures for_ever { KeepsDead self.old self.new }
         ensures err { OnErr result (self.new ≡ self.old) }
         ensures dead { IsOkUnless result PoolError.NoBatch }
@@ -223,12 +236,44 @@ impl<T: Drop> Pool<T> {
     /// Holds a batch once less. Where this was its last hold its item is dropped, and the number stays dead.
     pub fn release(&mut self, id: BatchId) -> Result<(), PoolError>
         ensures alive { IsOk result ↔ IsAlive self.old id }
-        ensures ok { OnOk result (self.new ≡ slice_set self.old id (option_and_then without_hold (batch_at self.old id))) }
+        ensures ok { OnOk result (self.new ≡ slice_set self.old id (option_and_then without_hold (slot_at self.old id))) }
         ensures for_ever { KeepsDead self.old self.new }
         ensures err { OnErr result (self.new ≡ self.old) }
         ensures dead { IsOkUnless result PoolError.NoBatch }
     {
         release_at(&mut self.batches, id.number)
+    }
+
+    /// Holds the batch once more that a link names, where it names one.
+    pub fn hold_link(&mut self, link: &Option<BatchId>)
+        requires alive { ForSome link.now (IsAlive self.old) }
+        requires room { ForSome link.now (λ id. holds_of self.old id < 2 ^ 64 - 1) }
+        ensures { self.new ≡ link_held self.old link.now }
+    {
+        if let Some(id) = link {
+            match self.hold(*id) {
+                Ok(()) => (),
+                Err(_) => unreachable!(),
+            }
+        }
+    }
+
+    /// Holds the batch once less that a link names, where it names one.
+    pub fn release_link(&mut self, link: &Option<BatchId>)
+        requires alive { ForSome link.now (IsAlive self.old) }
+        ensures { self.new ≡ link_released self.old link.now }
+    {
+        if let Some(id) = link {
+            match self.release(*id) {
+                Ok(()) => (),
+                Err(_) => unreachable!(),
+            }
+        }
+    }
+
+    /// The allocator of the pool.
+    pub fn allocator(&self) -> Global {
+        self.alloc
     }
 }
 

@@ -44,6 +44,13 @@ impl Bytes {
         Bytes { items }
     }
 
+    /// The bytes, as a `Vec`. It takes no memory.
+    pub fn into_vec(self) -> Vec<u8>
+        ensures { result.items ≡ self }
+    {
+        self.items
+    }
+
     /// The bytes, as a slice.
     pub fn as_slice(&self) -> &[u8]
         ensures { result.now ≡ self.now }

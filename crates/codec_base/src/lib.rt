@@ -27,6 +27,3 @@ pub use parts::{LengthCfg, ListCfg};
 pub use varint::{read_varint, varint_size, write_varint};
 pub use whole::{decode, encode};
 pub use zeros::{read_zeros, write_zeros};
-
-#[cfg(test)]
-mod tests;

@@ -6,12 +6,13 @@ use Rattle.std.proofs.lemmas.Fmt.{decimal_injective}
 use Rattle.std.proofs.lemmas.List.{append-nil, length-append}
 use Rattle.command_text.specs.declared.command.Command.{Command}
 use Rattle.command_text.specs.declared.command.Command.TheVariants.{New, Append, Seal, Apply, Hold, Release, Snapshot, Size, Metadata}
-use Rattle.command_text.specs.Lines.{words_of}
-use Rattle.command_text.specs.Grammar.{IsNumberWord, IsBytesWord, IsMetadataWord, WordsSay, IsSkipped, Says, LinesSay}
+use Rattle.line_text.specs.Lines.{words_of}
+use Rattle.line_text.specs.Said.{IsNumberWord, IsBytesWord, IsOptionalWord, IsSkipped}
+use Rattle.command_text.specs.Grammar.{WordsSay, Says, LinesSay}
 use Rattle.command_text.specs.declared.parse.LineError.{LineError}
 use Rattle.command_text.specs.declared.parse.LineError.TheVariants.{Bad, Memory}
 use Rattle.command_text.specs.Bad.{IsBad, IsFirstBad, IsCause, IsBadHere, Adds}
-use Rattle.command_text.proofs.HexWords.{decodes}
+use Rattle.line_text.proofs.HexWords.{decodes}
 
 -- a word is one number
 one_number : (text : List ℕ) (m n : ℕ) → IsNumberWord text m → IsNumberWord text n → m ≡ n
@@ -36,7 +37,7 @@ unfolding first_of
 hyphen_is_no_stop e = let f = ap first_of e in omega (arith, f)
 
 -- metadata is one word
-one_metadata : (text : List ℕ) (m n : Option (List ℕ)) → IsMetadataWord text m → IsMetadataWord text n → m ≡ n
+one_metadata : (text : List ℕ) (m n : Option (List ℕ)) → IsOptionalWord text m → IsOptionalWord text n → m ≡ n
 one_metadata text None None p q = refl
 one_metadata text None (Some []) p q = absurd (hyphen_is_no_stop (sym p ∙ q))
 one_metadata text None (Some (b ∷ bytes)) p q = absurd (rw p at q)

@@ -3,8 +3,9 @@ use Rattle.std.specs.Prelude.{◌≡◌, ◌⊎◌, ℕ, ◌+◌, List, [], ◌�
 use Rattle.command_text.specs.declared.command.Command.{Command}
 use Rattle.command_text.specs.declared.parse.LineError.{LineError}
 use Rattle.command_text.specs.declared.parse.LineError.TheVariants.{Bad, Memory}
-use Rattle.command_text.specs.Lines.{words_of}
-use Rattle.command_text.specs.Grammar.{IsSkipped, Says, LinesSay, SayNothing}
+use Rattle.line_text.specs.Lines.{words_of}
+use Rattle.line_text.specs.Said.{IsSkipped}
+use Rattle.command_text.specs.Grammar.{Says, LinesSay, SayNothing}
 
 -- the line says no command and isn't skipped
 pub record IsBad (line : List ℕ) : Type 0 where

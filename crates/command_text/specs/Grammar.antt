@@ -1,39 +1,16 @@
 -- The grammar of the input: which command a line says.
-use Rattle.std.specs.Prelude.{◌≡◌, ◌⊎◌, ℕ, ◌/◌, ◌%◌, ◌^◌, ◌<◌, List, [], ◌∷◌, Option, Some, None, codes, decimal}
-use Rattle.hex.specs.Hex.{hex_digit_value}
+use Rattle.std.specs.Prelude.{◌≡◌, ◌⊎◌, ℕ, List, [], ◌∷◌, Option, Some, None, codes}
 use Rattle.command_text.specs.declared.command.Command.{Command}
 use Rattle.command_text.specs.declared.command.Command.TheVariants.{New, Append, Seal, Apply, Hold, Release, Snapshot, Size, Metadata}
-use Rattle.command_text.specs.Lines.{lines_of, words_of}
-
--- each byte stands in two digits, of either case, the high half first
-abbrev pub IsHex : List ℕ → List ℕ → Type 0
-IsHex [] [] = Unit {0}
-IsHex [] (b ∷ bytes) = ⊥
-IsHex (digit ∷ []) bytes = ⊥
-IsHex (high ∷ low ∷ text) [] = ⊥
-IsHex (high ∷ low ∷ text) (b ∷ bytes) = (hex_digit_value high ≡ Some (b / 16)) × (hex_digit_value low ≡ Some (b % 16)) × IsHex text bytes
-
--- a full stop stands for no bytes
-abbrev pub IsBytesWord : List ℕ → List ℕ → Type 0
-IsBytesWord text [] = text ≡ codes "."
-IsBytesWord text (b ∷ bytes) = IsHex text (b ∷ bytes)
-
--- a hyphen stands for no metadata
-abbrev pub IsMetadataWord : List ℕ → Option (List ℕ) → Type 0
-IsMetadataWord text None = text ≡ codes "-"
-IsMetadataWord text (Some bytes) = IsBytesWord text bytes
-
--- the word is the number, in decimal
-pub record IsNumberWord (text : List ℕ) (n : ℕ) : Type 0 where
-  pub digits : text ≡ decimal n
-  pub fits : n < 2 ^ 64
+use Rattle.line_text.specs.Lines.{lines_of, words_of}
+use Rattle.line_text.specs.Said.{IsNumberWord, IsBytesWord, IsOptionalWord, IsSkipped}
 
 -- these words say the command
 abbrev pub WordsSay : List (List ℕ) → Command → Type 0
 WordsSay words (New None) = words ≡ codes "new" ∷ []
 WordsSay words (New (Some b)) = (number : List ℕ) × (words ≡ codes "new" ∷ number ∷ []) × IsNumberWord number b
 WordsSay words (Append b value) = (number : List ℕ) × (text : List ℕ) × (words ≡ codes "append" ∷ number ∷ text ∷ []) × IsNumberWord number b × IsBytesWord text value
-WordsSay words (Seal b metadata floor) = (number : List ℕ) × (text : List ℕ) × (last : List ℕ) × (words ≡ codes "seal" ∷ number ∷ text ∷ last ∷ []) × IsNumberWord number b × IsMetadataWord text metadata × IsNumberWord last floor
+WordsSay words (Seal b metadata floor) = (number : List ℕ) × (text : List ℕ) × (last : List ℕ) × (words ≡ codes "seal" ∷ number ∷ text ∷ last ∷ []) × IsNumberWord number b × IsOptionalWord text metadata × IsNumberWord last floor
 WordsSay words (Apply b) = (number : List ℕ) × (words ≡ codes "apply" ∷ number ∷ []) × IsNumberWord number b
 WordsSay words (Hold b) = (number : List ℕ) × (words ≡ codes "hold" ∷ number ∷ []) × IsNumberWord number b
 WordsSay words (Release b) = (number : List ℕ) × (words ≡ codes "release" ∷ number ∷ []) × IsNumberWord number b
@@ -52,11 +29,6 @@ IsReading words (Some command) = WordsSay words command
 -- the line says the command
 abbrev pub Says : List ℕ → Command → Type 0
 Says line command = WordsSay (words_of line) command
-
--- an empty line, or a comment, which begins with a number sign
-abbrev pub IsSkipped : List ℕ → Type 0
-IsSkipped [] = Unit {0}
-IsSkipped (b ∷ line) = b ≡ 35
 
 -- the lines say these commands, in their order, between lines that are skipped
 abbrev pub LinesSay : List (List ℕ) → List Command → Type 0

@@ -1,5 +1,3 @@
-pub mod Lines
 pub mod Grammar
 pub mod Bad
-pub mod Pending
 pub mod Text

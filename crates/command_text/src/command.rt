@@ -1,5 +1,7 @@
 use codec_base::{Bytes, ListOf};
-use tree_shape::Sha256Digest;
+use log_model::Refusal;
+use tree_proof::Proof;
+use tree_shape::{Mmr, Sha256Digest};
 
 /// A command of the program, one line of its input.
 #[derive(PartialEq, Eq, Drop)]
@@ -24,21 +26,12 @@ pub enum Command {
     Metadata,
 }
 
-/// Why a command is refused.
-#[derive(Clone, Copy, Debug, PartialEq, Eq)]
-pub enum Refusal {
-    /// The batch of this number isn't there in the phase that the command needs.
-    NoBatch(u64),
-    /// The value has this length, which is above the limit.
-    ValueTooLong(u64),
-    /// The batch doesn't fit the present list.
-    StaleBatch,
-    /// This size would be above the greatest.
-    LocationOverflow(u64),
-    /// The floor, and the floor on which the batch builds, which is above it.
-    FloorRegressed(u64, u64),
-    /// The floor, and the location of the commit, which is below it.
-    FloorBeyondSize(u64, u64),
+/// A proof, from which location on it shows operations, and the encodings of these.
+#[derive(Debug, PartialEq, Eq, Drop)]
+pub struct ProofAnswer {
+    pub proof: Proof<Mmr, Sha256Digest>,
+    pub start: u64,
+    pub operations: ListOf<Bytes>,
 }
 
 /// What a command answers.
@@ -54,10 +47,24 @@ pub enum Answer {
     Sealed { size: u64, root: Sha256Digest },
     /// A batch was applied.
     Applied,
+    /// The value at a location; of a commit, its metadata.
+    Value(Option<Bytes>),
+    /// The values at several locations.
+    Values(ListOf<Option<Bytes>>),
     /// The size, the first location that is kept and the floor of the last commit.
     Size { size: u64, start: u64, floor: u64 },
     /// The metadata of the last commit.
     Metadata(Option<Bytes>),
+    /// A proof of operations, or of a commit.
+    Proof(ProofAnswer),
+    /// The operations are durable.
+    Committed,
+    /// The operations and the nodes are durable.
+    Synced,
+    /// The same, by a sync that was started and has ended.
+    SyncStarted,
+    /// What lies below a location was given up. This is the first location that is kept.
+    Pruned(u64),
     /// Nothing was done, for this reason.
     Refused(Refusal),
 }

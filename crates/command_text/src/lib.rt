@@ -2,11 +2,10 @@
 #![tactic(auto)]
 
 mod command;
-mod lines;
 mod parse;
-mod piece;
 mod text;
 
-pub use command::{Answer, Command, Refusal, Replies, Reply};
+pub use command::{Answer, Command, ProofAnswer, Replies, Reply};
+pub use log_model::Refusal;
 pub use parse::{LineError, parse_commands};
 pub use text::write_replies;

@@ -1,17 +1,17 @@
 ghost use Rattle.std.specs.Prelude.{◌≡◌, [], ◌∷◌, ◌++◌, ℕ, List, Option, codes, IfOk, IfErr, OnOk, IsOkUnless, MatchOption, MatchResult, ◌↔◌, IsTrue};
 ghost use Rattle.command_text.specs.declared.command.Command.{Command};
-ghost use Rattle.command_text.specs.Lines.{words_of};
+ghost use Rattle.line_text.specs.Lines.{words_of};
 ghost use Rattle.command_text.specs.declared.parse.LineError.TheVariants.{Memory};
-ghost use Rattle.command_text.specs.Lines.{lines_of};
-ghost use Rattle.command_text.specs.Grammar.{IsNumberWord, IsBytesWord, IsMetadataWord, IsReading, IsSkipped, InputSays};
+ghost use Rattle.line_text.specs.Lines.{lines_of};
+ghost use Rattle.command_text.specs.Grammar.{IsReading, InputSays};
 ghost use Rattle.command_text.specs.Bad.{IsCause, IsBadHere, Adds};
 
 use crate::command::Command;
-use crate::lines::{Lines, Words};
-use codec_base::{Bytes, CodecError};
-use hex::FromHexError;
-use std::alloc::{AllocError, Global};
-use std::str;
+use codec_base::CodecError;
+use line_text::{
+    Lines, Words, is_skipped, next_number, only_number, parse_bytes, parse_optional_bytes,
+};
+use std::alloc::Global;
 
 /// Why an input isn't read as commands.
 #[derive(Clone, Copy, Debug, PartialEq, Eq)]
@@ -30,77 +30,6 @@ impl From<CodecError> for LineError {
     }
 }
 
-impl From<AllocError> for LineError {
-    ghost from_gives = { λ _ e. e ≡ Memory };
-
-    fn from(_: AllocError) -> Self {
-        LineError::Memory
-    }
-}
-
-/// The number that a word is, in decimal without sign and without zeros in front.
-fn number_of(word: &[u8]) -> Option<u64>
-    ensures { MatchOption result ((n : ℕ) → IsNumberWord word.now n → ⊥) (IsNumberWord word.now) }
-{
-    if word.is_empty() {
-        return None;
-    }
-    if word[0] == b'+' {
-        return None;
-    }
-    if word[0] == b'0' {
-        return if word.len() == 1 { Some(0) } else { None };
-    }
-    let Ok(text) = str::from_utf8(word) else {
-        return None;
-    };
-    let Ok(number) = text.parse::<u64>() else {
-        return None;
-    };
-    Some(number)
-}
-
-/// The bytes that a word stands for, in hexadecimal, or a full stop for none.
-fn bytes_of(alloc: Global, word: &[u8]) -> Result<Option<Bytes>, CodecError>
-    ensures bytes { IfOk result (λ o. MatchOption o ((value : List ℕ) → IsBytesWord word.now value → ⊥) (IsBytesWord word.now)) }
-    ensures memory { IsOkUnless result CodecError.Memory }
-{
-    if word == b".".as_slice() {
-        return Ok(Some(Bytes::new(alloc)));
-    }
-    if word.is_empty() {
-        return Ok(None);
-    }
-    match hex::decode(alloc, word) {
-        Ok(bytes) => Ok(Some(Bytes::from_vec(bytes))),
-        Err(e) => match e {
-            FromHexError::OutOfMemory => Err(CodecError::Memory),
-            _ => Ok(None),
-        },
-    }
-}
-
-/// Reads the next word as a number.
-fn next_number(words: &mut Words<'_>) -> Option<u64>
-    ensures { MatchOption result ((number : List ℕ) (rest : List (List ℕ)) (n : ℕ) → words.old ≡ number ∷ rest → IsNumberWord number n → ⊥) (λ n. (number : List ℕ) × (words.old ≡ number ∷ words.new) × IsNumberWord number n) }
-{
-    number_of(words.next_word()?)
-}
-
-/// Reads the next word as metadata: a hyphen for none, or bytes.
-fn metadata_of(alloc: Global, word: &[u8]) -> Result<Option<Option<Bytes>>, CodecError>
-    ensures metadata { IfOk result (λ o. MatchOption o ((metadata : Option (List ℕ)) → IsMetadataWord word.now metadata → ⊥) (IsMetadataWord word.now)) }
-    ensures memory { IsOkUnless result CodecError.Memory }
-{
-    if word == b"-".as_slice() {
-        return Ok(Some(None));
-    }
-    match bytes_of(alloc, word)? {
-        Some(bytes) => Ok(Some(Some(bytes))),
-        None => Ok(None),
-    }
-}
-
 /// Reads the words behind `append`.
 fn read_append(alloc: Global, mut words: Words<'_>) -> Result<Option<Command>, CodecError>
     ensures command { IfOk result (IsReading (codes "append" ∷ words.entry)) }
@@ -115,7 +44,7 @@ fn read_append(alloc: Global, mut words: Words<'_>) -> Result<Option<Command>, C
     if !words.is_empty() {
         return Ok(None);
     }
-    match bytes_of(alloc, word)? {
+    match parse_bytes(alloc, word)? {
         Some(value) => Ok(Some(Command::Append(b, value))),
         None => Ok(None),
     }
@@ -138,18 +67,10 @@ fn read_seal(alloc: Global, mut words: Words<'_>) -> Result<Option<Command>, Cod
     if !words.is_empty() {
         return Ok(None);
     }
-    match metadata_of(alloc, word)? {
+    match parse_optional_bytes(alloc, word)? {
         Some(metadata) => Ok(Some(Command::Seal(b, metadata, floor))),
         None => Ok(None),
     }
-}
-
-/// Reads the words that are left as one number.
-fn only_number(mut words: Words<'_>) -> Option<u64>
-    ensures { MatchOption result ((number : List ℕ) (n : ℕ) → words.entry ≡ number ∷ [] → IsNumberWord number n → ⊥) (λ n. (number : List ℕ) × (words.entry ≡ number ∷ []) × IsNumberWord number n) }
-{
-    let number = next_number(&mut words)?;
-    if words.is_empty() { Some(number) } else { None }
 }
 
 /// Reads the words behind `new`.
@@ -233,16 +154,6 @@ fn read_line(alloc: Global, line: &[u8]) -> Result<Option<Command>, CodecError>
     read_words(alloc, name, words)
 }
 
-/// Whether a line is empty or a comment.
-fn is_skipped(line: &[u8]) -> bool
-    ensures { IsTrue result ↔ IsSkipped line.now }
-{
-    match line {
-        [] => true,
-        [first, ..] => *first == b'#',
-    }
-}
-
 /// Adds the command that the line of this number says, where it isn't skipped.
 fn push_command(commands: &mut Vec<Command>, number: u64, line: &[u8]) -> Result<(), LineError>
     ensures ok { OnOk result (Adds line.now commands.old.items commands.new.items) }
@@ -260,15 +171,14 @@ fn push_command(commands: &mut Vec<Command>, number: u64, line: &[u8]) -> Result
     }
 }
 
-/// Reads an input as commands, one a line; empty lines and comments are skipped. Room for the commands is taken once.
+/// Reads an input as commands, one a line; empty lines and comments are skipped, and take no memory.
 pub fn parse_commands(alloc: Global, input: &[u8]) -> Result<Vec<Command>, LineError>
     ensures read { IfOk result (λ commands. InputSays input.now commands.items) }
     ensures bad { IfErr result (IsCause (lines_of input.now)) }
     ensures again { (commands : List Command) → InputSays input.now commands → MatchResult result (λ read. read.items ≡ commands) (λ e. e ≡ LineError.Memory) }
 {
     let mut lines = Lines::new(input);
-    let count = lines.count();
-    let mut commands = Vec::with_capacity(alloc, count)?;
+    let mut commands = Vec::new(alloc);
     let mut number = 0;
     while let Some(line) = lines.next_line() {
         number += 1;
@@ -276,6 +186,3 @@ pub fn parse_commands(alloc: Global, input: &[u8]) -> Result<Vec<Command>, LineE
     }
     Ok(commands)
 }
-
-#[cfg(test)]
-mod tests;

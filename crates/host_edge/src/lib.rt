@@ -5,8 +5,6 @@ mod faults;
 mod sink;
 mod source;
 
+pub use folder_volume::{FolderVolume, Lock};
 pub use sink::StdSink;
 pub use source::StdSource;
-
-#[cfg(test)]
-mod tests;

@@ -7,7 +7,9 @@ use Rattle.std.proofs.lemmas.Option.{slice_get-map}
 use Rattle.volume_base.specs.Log.{Log, IsItemAt, appended, cut_to, pruned_to}
 use Rattle.volume_base.specs.Bounds.{IsRunOf}
 use Rattle.volume_base.proofs.BoundLemmas.{run_appended}
-use Rattle.journal_base.specs.Items.{Spells}
+use Rattle.journal_base.specs.Items.{Spells, items_of, Holds, IsCorrupt}
+use Rattle.journal_base.specs.View.{View, log_of}
+use Rattle.volume_base.specs.Volume.{State}
 
 pub spells_appended : {A : Type 0} (spelling : A → List ℕ) (list items : List A) (log : Log) → Spells spelling list log → Spells spelling (list ++ items) (appended log (map spelling items))
 spells_appended spelling list items log run =
@@ -49,3 +51,15 @@ spells_item spelling list log position x run low there = record {
 
 pub same_item : (log : Log) (position : ℕ) (one two : List ℕ) → IsItemAt log position one → IsItemAt log position two → one ≡ two
 same_item log position one two a b = let both : Some one ≡ Some two = sym a.here ∙ b.here in cc
+
+-- What stood in the log at another moment stands there now, where the log is the same.
+
+pub holds_here : {A C : Type 0} (spelling : A → List ℕ) (admits : C → A → Type 0) (view : View C) (a b : State) (position : ℕ) (x : A) → log_of view b ≡ log_of view a → Holds (items_of spelling admits view b) position x → Holds (items_of spelling admits view a) position x
+holds_here spelling admits view a b position x same there = subst (λ (log : Log). IsItemAt log position (spelling x)) same there
+
+pub corrupt_here : {A C : Type 0} (spelling : A → List ℕ) (admits : C → A → Type 0) (view : View C) (a b : State) (p q : ℕ) → log_of view b ≡ log_of view a → p ≡ q → IsCorrupt (items_of spelling admits view b) q → IsCorrupt (items_of spelling admits view a) p
+corrupt_here spelling admits view a b p q same is there = record {
+  bytes = there.bytes;
+  here = subst (λ (r : ℕ). IsItemAt (log_of view a) r there.bytes) (sym is) (subst (λ (log : Log). IsItemAt log q there.bytes) same there.here);
+  unspelled = there.unspelled;
+}

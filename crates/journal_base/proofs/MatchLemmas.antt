@@ -1,8 +1,9 @@
 -- A search down a log for an item that matches.
-use Rattle.std.proofs.Common.{◌≡◌, inl, inr, ℕ, ◌-◌, ◌≤◌, Bool, false, List, sym, ◌∙◌, ap, subst, arith}
+use Rattle.std.proofs.Common.{◌≡◌, inl, inr, ℕ, ◌-◌, ◌≤◌, Bool, false, sym, ◌∙◌, ap, subst, arith}
 use Rattle.std.proofs.lemmas.Bool.{cases_lt}
 use Rattle.volume_base.specs.Log.{Log, end_of}
 use Rattle.volume_base.specs.Volume.{State}
+use Rattle.journal_base.specs.Items.{Items}
 use Rattle.journal_base.specs.View.{View, IsWithin}
 use Rattle.journal_base.specs.Matches.{IsAnswered, NoneMatches}
 
@@ -14,8 +15,8 @@ within_later view a b same within = record {
 }
 
 -- one item more, below the others
-pub none_more : {A : Type 0} (spelling : A → List ℕ) (admits : A → Type 0) (says : A → Bool → Type 0) (log : Log) (from to : ℕ) → NoneMatches spelling admits says log from to → IsAnswered spelling admits says log (from - 1) false → NoneMatches spelling admits says log (from - 1) to
-none_more spelling admits says log from to none here position lo hi = elim (cases_lt position from) [
-  | inl before ↦ subst (λ p. IsAnswered spelling admits says log p false) (omega arith) here
+pub none_more : {A : Type 0} (items : Items A) (says : A → Bool → Type 0) (from to : ℕ) → NoneMatches items says from to → IsAnswered items says (from - 1) false → NoneMatches items says (from - 1) to
+none_more items says from to none here position lo hi = elim (cases_lt position from) [
+  | inl before ↦ subst (λ p. IsAnswered items says p false) (omega arith) here
   | inr behind ↦ none position behind hi
 ]

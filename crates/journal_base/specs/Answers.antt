@@ -1,80 +1,83 @@
 -- Which errors a call answers.
+use Rattle.std.specs.Prelude.{◌≡◌, ◌⊎◌, ℕ, Bool, true, false, List, [], ◌∷◌, Result, IsTrue, IsErrOf}
+use Rattle.std.specs.List.{list_any}
+use Rattle.volume_base.specs.Volume.{State}
 use Rattle.volume_base.specs.declared.error.JournalError.{JournalError}
 use Rattle.volume_base.specs.declared.error.JournalError.TheVariants.{ItemPruned, ItemOutOfRange, EmptyAppend, SizeOverflow, Corruption, Tree, Volume, Memory}
 
+-- The variants of an error, each as a test.
+
+abbrev pub item_pruned : JournalError → Bool
+item_pruned (ItemPruned p) = true
+item_pruned error = false
+
+abbrev pub item_out_of_range : JournalError → Bool
+item_out_of_range (ItemOutOfRange p) = true
+item_out_of_range error = false
+
+abbrev pub empty_append : JournalError → Bool
+empty_append EmptyAppend = true
+empty_append error = false
+
+abbrev pub size_overflow : JournalError → Bool
+size_overflow SizeOverflow = true
+size_overflow error = false
+
+abbrev pub corruption : JournalError → Bool
+corruption (Corruption p) = true
+corruption error = false
+
+abbrev pub tree : JournalError → Bool
+tree (Tree cause) = true
+tree error = false
+
+abbrev pub volume : JournalError → Bool
+volume Volume = true
+volume error = false
+
+abbrev pub memory : JournalError → Bool
+memory Memory = true
+memory error = false
+
+-- The error is of one of these variants.
+abbrev pub IsAnyOf : List (JournalError → Bool) → JournalError → Type 0
+IsAnyOf variants error = IsTrue (list_any (λ is. is error) variants)
+
 -- a refusal by name: neither a failure of the outside nor want of memory
 abbrev pub IsRefusal : JournalError → Type 0
-IsRefusal (ItemPruned p) = Unit {0}
-IsRefusal (ItemOutOfRange p) = Unit {0}
-IsRefusal EmptyAppend = Unit {0}
-IsRefusal SizeOverflow = Unit {0}
-IsRefusal (Corruption p) = Unit {0}
-IsRefusal (Tree cause) = Unit {0}
-IsRefusal Volume = ⊥
-IsRefusal Memory = ⊥
+IsRefusal = IsAnyOf (item_pruned ∷ item_out_of_range ∷ empty_append ∷ size_overflow ∷ corruption ∷ tree ∷ [])
 
 -- a failure of the outside, or want of memory
 abbrev pub IsOfVolume : JournalError → Type 0
-IsOfVolume Volume = Unit {0}
-IsOfVolume Memory = Unit {0}
-IsOfVolume (ItemPruned p) = ⊥
-IsOfVolume (ItemOutOfRange p) = ⊥
-IsOfVolume EmptyAppend = ⊥
-IsOfVolume SizeOverflow = ⊥
-IsOfVolume (Corruption p) = ⊥
-IsOfVolume (Tree cause) = ⊥
+IsOfVolume = IsAnyOf (volume ∷ memory ∷ [])
 
--- that the end would pass the greatest, a failure of the outside, or want of memory
+-- what a call answers that puts an end at a position
 abbrev pub IsOfSize : JournalError → Type 0
-IsOfSize SizeOverflow = Unit {0}
-IsOfSize Volume = Unit {0}
-IsOfSize Memory = Unit {0}
-IsOfSize (ItemPruned p) = ⊥
-IsOfSize (ItemOutOfRange p) = ⊥
-IsOfSize EmptyAppend = ⊥
-IsOfSize (Corruption p) = ⊥
-IsOfSize (Tree cause) = ⊥
+IsOfSize = IsAnyOf (size_overflow ∷ volume ∷ memory ∷ [])
 
--- that there are no items, that the end would pass the greatest, a failure of the outside, or want of memory
+-- what an append of several items answers
 abbrev pub IsOfAppend : JournalError → Type 0
-IsOfAppend EmptyAppend = Unit {0}
-IsOfAppend SizeOverflow = Unit {0}
-IsOfAppend Volume = Unit {0}
-IsOfAppend Memory = Unit {0}
-IsOfAppend (ItemPruned p) = ⊥
-IsOfAppend (ItemOutOfRange p) = ⊥
-IsOfAppend (Corruption p) = ⊥
-IsOfAppend (Tree cause) = ⊥
+IsOfAppend = IsAnyOf (empty_append ∷ size_overflow ∷ volume ∷ memory ∷ [])
 
 -- what a read of an item answers
 abbrev pub IsOfRead : JournalError → Type 0
-IsOfRead (ItemPruned p) = Unit {0}
-IsOfRead (ItemOutOfRange p) = Unit {0}
-IsOfRead (Corruption p) = Unit {0}
-IsOfRead Volume = Unit {0}
-IsOfRead Memory = Unit {0}
-IsOfRead EmptyAppend = ⊥
-IsOfRead SizeOverflow = ⊥
-IsOfRead (Tree cause) = ⊥
+IsOfRead = IsAnyOf (item_pruned ∷ item_out_of_range ∷ corruption ∷ volume ∷ memory ∷ [])
 
--- that a size lies below the start, a failure of the outside, or want of memory
+-- what a call answers that is given a size below the start
 abbrev pub IsOfStart : JournalError → Type 0
-IsOfStart (ItemPruned p) = Unit {0}
-IsOfStart Volume = Unit {0}
-IsOfStart Memory = Unit {0}
-IsOfStart (ItemOutOfRange p) = ⊥
-IsOfStart EmptyAppend = ⊥
-IsOfStart SizeOverflow = ⊥
-IsOfStart (Corruption p) = ⊥
-IsOfStart (Tree cause) = ⊥
+IsOfStart = IsAnyOf (item_pruned ∷ volume ∷ memory ∷ [])
 
--- that a range lies outside
+-- what a call answers that is given a range
 abbrev pub IsOfRange : JournalError → Type 0
-IsOfRange (ItemPruned p) = Unit {0}
-IsOfRange (ItemOutOfRange p) = Unit {0}
-IsOfRange EmptyAppend = ⊥
-IsOfRange SizeOverflow = ⊥
-IsOfRange (Corruption p) = ⊥
-IsOfRange (Tree cause) = ⊥
-IsOfRange Volume = ⊥
-IsOfRange Memory = ⊥
+IsOfRange = IsAnyOf (item_pruned ∷ item_out_of_range ∷ [])
+
+-- A read was refused at this position.
+abbrev pub IsRefusedAt : {T : Type 0} → Result T JournalError → ℕ → Type 0
+IsRefusedAt result position =
+    IsErrOf result (ItemPruned position)
+    ⊎ (IsErrOf result (ItemOutOfRange position) ⊎ IsErrOf result (Corruption position))
+
+-- A refusal by name comes before anything is written.
+abbrev pub RefusesUnwritten : {T : Type 0} → State → State → Result T JournalError → Type 0
+RefusesUnwritten old new result =
+    (error : JournalError) → IsErrOf result error → IsRefusal error → new.clock ≡ old.clock

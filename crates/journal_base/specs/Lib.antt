@@ -1,5 +1,6 @@
 pub mod Answers
 pub mod Blobs
+pub mod Clears
 pub mod Items
 pub mod Matches
 pub mod Reads

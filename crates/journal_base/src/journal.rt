@@ -1,11 +1,8 @@
-ghost use Rattle.std.specs.Prelude.{◌≡◌, ◌↔◌, ◌≤◌, ◌-◌, ◌^◌, map, false, string_bytes, IfOk, IfErr, OnOk, IsErrOf, IsOkUnless};
+ghost use Rattle.std.specs.Prelude.{◌≡◌, ◌≤◌, map, false, IfOk, IsOkUnless};
 ghost use Rattle.std.specs.NonZero.{non_zero_u64_get};
-ghost use Rattle.journal_base.specs.Answers.{IsRefusal, IsOfSize};
 ghost use Rattle.journal_base.specs.Blobs.{blob_start};
-ghost use Rattle.journal_base.specs.View.{at_bounds};
-ghost use Rattle.volume_base.specs.Log.{cleared_at, BecomesOneOf};
-ghost use Rattle.volume_base.specs.Volume.{OnlyLog, OnlyLeft, LogMoves, Writes};
-ghost use Rattle.volume_base.specs.declared.error.JournalError.TheVariants.{SizeOverflow};
+ghost use Rattle.journal_base.specs.Clears.{Clears};
+ghost use Rattle.journal_base.specs.View.{view_of, config_of, at_bounds};
 
 use crate::{Contiguous, Mutable, SyncTicket};
 use codec_base::{
@@ -55,7 +52,15 @@ pub struct Journal<T: Read, K> {
 impl<T: Read, K> Journal<T, K> {
     /// The journal of a configuration at these bounds. It keeps no failure.
     pub(crate) fn new(cfg: JournalConfig<T::Cfg>, start: u64, end: u64) -> Self
-        ensures { result ≡ record { name = cfg.name; items_per_blob = cfg.items_per_blob; codec = cfg.codec; start = start; end = end; failed = false; kind = result.kind } }
+        ensures { result ≡ record {
+          name = cfg.name;
+          items_per_blob = cfg.items_per_blob;
+          codec = cfg.codec;
+          start = start;
+          end = end;
+          failed = false;
+          kind = result.kind;
+        } }
     {
         Journal {
             name: cfg.name,
@@ -110,7 +115,7 @@ pub(crate) fn start_of_blob(items_per_blob: NonZeroU64, position: u64) -> u64
 impl<T: Write + EncodeSize + Read + Duplicate + Drop, K: Kind<T>> Contiguous for Journal<T, K> {
     type Item = T;
 
-    ghost view = { λ j. record { name = string_bytes j.name; blob = non_zero_u64_get j.items_per_blob; codec = j.codec; start = j.start; end = j.end; failed = j.failed } };
+    ghost view = { λ journal. view_of journal };
 
     fn bounds(&self) -> (u64, u64) {
         (self.start, self.end)
@@ -137,6 +142,10 @@ impl<T: Write + EncodeSize + Read + Duplicate + Drop, K: Kind<T>> Contiguous for
 
 impl<T: Write + EncodeSize + Read + Duplicate + Drop, K: Kind<T>> Mutable for Journal<T, K> {
     ghost one_log = { Unit {0} };
+
+    fn keeps_failure(&self) -> bool {
+        self.failed
+    }
 
     fn append<V: Volume>(self, vol: &mut V, item: &T) -> Result<(Self, u64), JournalError> {
         let text = encode_one(*self.name.allocator(), item)?;
@@ -231,18 +240,22 @@ impl<T: Write + EncodeSize + Read + Duplicate + Drop, K: Kind<T>> Mutable for Jo
 }
 
 impl<T: Write + EncodeSize + Read + Duplicate + Drop, K: Kind<T>> Journal<T, K> {
+    /// The journal of a configuration over an empty log at a position. It refuses 2^64 - 1 with `SizeOverflow`.
+    pub fn cleared<V: Volume>(
+        vol: &mut V,
+        cfg: JournalConfig<T::Cfg>,
+        size: u64,
+    ) -> Result<Self, JournalError>
+        ensures made { IfOk result (λ made. view_of made ≡ at_bounds (config_of cfg) size size) }
+        ensures clears { Clears V.tells (config_of cfg) size (V.state vol.old) (V.state vol.new) result }
+    {
+        Journal::new(cfg, size, size).clear_to_size(vol, size)
+    }
+
     /// Leaves an empty log at a position. It refuses 2^64 - 1 with `SizeOverflow`.
     pub fn clear_to_size<V: Volume>(self, vol: &mut V, size: u64) -> Result<Self, JournalError>
-        ensures overflow { IsErrOf result SizeOverflow ↔ (size ≡ 2 ^ 64 - 1) }
-        ensures made { IfOk result (λ made. ⟦<Journal<T, K> as Contiguous>⟧.view made ≡ at_bounds (⟦<Journal<T, K> as Contiguous>⟧.view self) size size) }
-        ensures cleared { OnOk result (V.tells → (V.state vol.new).log (⟦<Journal<T, K> as Contiguous>⟧.view self).name ≡ cleared_at size) }
-        ensures durable { OnOk result (V.tells → OnlyLeft ((V.state vol.new).log_left (V.state vol.new).clock (⟦<Journal<T, K> as Contiguous>⟧.view self).name) (cleared_at size)) }
-        ensures others { V.tells → OnlyLog (⟦<Journal<T, K> as Contiguous>⟧.view self).name (V.state vol.old) (V.state vol.new) }
-        ensures images { V.tells → LogMoves (⟦<Journal<T, K> as Contiguous>⟧.view self).name (BecomesOneOf (cleared_at size)) (V.state vol.old) (V.state vol.new) }
-        // A refusal by name comes before anything is written.
-        ensures refused { (e : JournalError) → IsErrOf result e → IsRefusal e → (V.state vol.new).clock ≡ (V.state vol.old).clock }
-        ensures errors { IfErr result IsOfSize }
-        ensures writes { Writes V.tells JournalError.Volume (V.state vol.old) (V.state vol.new) result }
+        ensures made { IfOk result (λ made. view_of made ≡ at_bounds (view_of self) size size) }
+        ensures clears { Clears V.tells (view_of self) size (V.state vol.old) (V.state vol.new) result }
     {
         if size == u64::MAX {
             return Err(JournalError::SizeOverflow);

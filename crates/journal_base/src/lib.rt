@@ -1,6 +1,7 @@
 //! Journals: logs of a volume that hold items, each with its one spelling.
 #![tactic(auto)]
 
+mod append;
 mod backing;
 mod contiguous;
 mod journal;
@@ -11,6 +12,7 @@ mod recovery;
 mod replay;
 mod ticket;
 
+pub use append::append_all;
 pub use backing::{Backing, BackingRecovery};
 pub use contiguous::Contiguous;
 pub use journal::{Fixed, FixedJournal, Journal, JournalConfig, Kind, Variable, VariableJournal};
@@ -19,6 +21,3 @@ pub use mutable::Mutable;
 pub use recovery::Recovery;
 pub use replay::Replay;
 pub use ticket::SyncTicket;
-
-#[cfg(test)]
-mod tests;

@@ -1,11 +1,10 @@
-ghost use Rattle.std.specs.Prelude.{◌≡◌, ◌↔◌, ◌≤◌, ◌<◌, ◌+◌, ◌-◌, ◌^◌, ℕ, min, max, IfOk, IfErr, OnOk, IsErrOf};
-ghost use Rattle.journal_base.specs.Answers.{IsRefusal, IsOfVolume, IsOfSize, IsOfStart};
-ghost use Rattle.journal_base.specs.Blobs.{blob_start};
-ghost use Rattle.journal_base.specs.View.{capped, at_bounds, IsHeld, IsWithin};
-ghost use Rattle.std.specs.NonZero.{non_zero_u64_get};
-ghost use Rattle.volume_base.specs.Log.{end_of, cut_to, pruned_to, cleared_at, Shrinks, Advances, BecomesOneOf};
-ghost use Rattle.volume_base.specs.Volume.{OnlyLog, OnlyLeft, LogMoves, Writes, Reads};
-ghost use Rattle.volume_base.specs.declared.error.JournalError.TheVariants.{ItemPruned, SizeOverflow};
+ghost use Rattle.std.specs.Prelude.{◌≡◌, ◌≤◌, ◌<◌, ◌+◌, ◌-◌, ◌^◌, ℕ, min, max, IfOk, IfErr, OnOk, IsErrOf};
+ghost use Rattle.journal_base.specs.Answers.{IsOfVolume, IsOfStart, RefusesUnwritten};
+ghost use Rattle.journal_base.specs.Clears.{Clears};
+ghost use Rattle.journal_base.specs.View.{view_of, seen_of, config_of, log_of, prune_point, at_bounds, SameButBounds, capped, IsHeld, IsWithin};
+ghost use Rattle.volume_base.specs.Log.{end_of, cut_to, pruned_to, Shrinks, Advances};
+ghost use Rattle.volume_base.specs.Volume.{OnlyLog, LogMoves, Writes, Reads};
+ghost use Rattle.volume_base.specs.declared.error.JournalError.TheVariants.{ItemPruned};
 
 use crate::journal::start_of_blob;
 use crate::matching::match_below;
@@ -61,9 +60,9 @@ impl<T: Write + EncodeSize + Read + Duplicate + Drop, K: Kind<T>> BackingRecover
 
     type Journal = Journal<T, K>;
 
-    ghost view = { λ r. ⟦<Journal<T, K> as Contiguous>⟧.view r.seen };
+    ghost view = { λ recovery. seen_of recovery };
 
-    ghost opened = { λ j. ⟦<Journal<T, K> as Contiguous>⟧.view j };
+    ghost opened = { λ journal. view_of journal };
 
     fn bounds(&self) -> (u64, u64) {
         (self.seen.start, self.seen.end)
@@ -124,18 +123,23 @@ impl<T: Write + EncodeSize + Read + Duplicate + Drop, K: Kind<T>> BackingRecover
 impl<T: Write + EncodeSize + Read + Duplicate + Drop, K: Kind<T>> Recovery<T, K> {
     /// Cuts the log to the lesser of the view's end and a size, where its end falls, and the view ends there. It refuses a size below the log's start with `ItemPruned`.
     pub fn truncate<V: Volume>(self, vol: &mut V, size: u64) -> Result<Self, JournalError>
-        ensures pruned { (p : ℕ) → IsErrOf result (ItemPruned p) → (p ≡ size) × (V.tells → size < ((V.state vol.old).log (⟦<Recovery<T, K> as BackingRecovery>⟧.view self).name).start) }
-        ensures reached { OnOk result (V.tells → ((V.state vol.old).log (⟦<Recovery<T, K> as BackingRecovery>⟧.view self).name).start ≤ size) }
-        ensures made { IfOk result (λ made. ⟦<Recovery<T, K> as BackingRecovery>⟧.view made ≡ at_bounds (⟦<Recovery<T, K> as BackingRecovery>⟧.view self) (⟦<Recovery<T, K> as BackingRecovery>⟧.view made).start (⟦<Recovery<T, K> as BackingRecovery>⟧.view made).end) }
-        ensures end { IfOk result (λ made. V.tells → IsWithin (⟦<Recovery<T, K> as BackingRecovery>⟧.view self) (V.state vol.old) → (⟦<Recovery<T, K> as BackingRecovery>⟧.view made).end ≡ min size (⟦<Recovery<T, K> as BackingRecovery>⟧.view self).end) }
-        ensures within { IfOk result (λ made. V.tells → IsWithin (⟦<Recovery<T, K> as BackingRecovery>⟧.view made) (V.state vol.new)) }
-        ensures cut { OnOk result (V.tells → (V.state vol.new).log (⟦<Recovery<T, K> as BackingRecovery>⟧.view self).name ≡ cut_to ((V.state vol.old).log (⟦<Recovery<T, K> as BackingRecovery>⟧.view self).name) (min size (⟦<Recovery<T, K> as BackingRecovery>⟧.view self).end)) }
+        ensures pruned { let start = (log_of (seen_of self) (V.state vol.old)).start in
+            (p : ℕ) → IsErrOf result (ItemPruned p) → (p ≡ size) × (V.tells → size < start) }
+        ensures reached { OnOk result (V.tells → (log_of (seen_of self) (V.state vol.old)).start ≤ size) }
+        ensures made { IfOk result (λ made. SameButBounds (seen_of self) (seen_of made)) }
+        ensures end { IfOk result (λ made. V.tells → IsWithin (seen_of self) (V.state vol.old) →
+            (seen_of made).end ≡ min size (seen_of self).end) }
+        ensures within { IfOk result (λ made. V.tells → IsWithin (seen_of made) (V.state vol.new)) }
+        ensures cut { let log = log_of (seen_of self) (V.state vol.old) in
+            OnOk result (V.tells →
+            log_of (seen_of self) (V.state vol.new) ≡ cut_to log (min size (seen_of self).end)) }
         // Where the log's end doesn't fall nothing is written.
-        ensures still { V.tells → end_of ((V.state vol.old).log (⟦<Recovery<T, K> as BackingRecovery>⟧.view self).name) ≤ min size (⟦<Recovery<T, K> as BackingRecovery>⟧.view self).end → (V.state vol.new).clock ≡ (V.state vol.old).clock }
-        ensures others { V.tells → OnlyLog (⟦<Recovery<T, K> as BackingRecovery>⟧.view self).name (V.state vol.old) (V.state vol.new) }
-        ensures images { V.tells → LogMoves (⟦<Recovery<T, K> as BackingRecovery>⟧.view self).name (Shrinks (min size (⟦<Recovery<T, K> as BackingRecovery>⟧.view self).end)) (V.state vol.old) (V.state vol.new) }
-        // A refusal by name comes before anything is written.
-        ensures refused { (e : JournalError) → IsErrOf result e → IsRefusal e → (V.state vol.new).clock ≡ (V.state vol.old).clock }
+        ensures still { V.tells → end_of (log_of (seen_of self) (V.state vol.old)) ≤ min size (seen_of self).end →
+            (V.state vol.new).clock ≡ (V.state vol.old).clock }
+        ensures others { V.tells → OnlyLog (seen_of self).name (V.state vol.old) (V.state vol.new) }
+        ensures images { let step = Shrinks (min size (seen_of self).end) in
+            V.tells → LogMoves (seen_of self).name step (V.state vol.old) (V.state vol.new) }
+        ensures refused { RefusesUnwritten (V.state vol.old) (V.state vol.new) result }
         ensures errors { IfErr result IsOfStart }
         ensures writes { Writes V.tells JournalError.Volume (V.state vol.old) (V.state vol.new) result }
     {
@@ -156,12 +160,21 @@ impl<T: Write + EncodeSize + Read + Duplicate + Drop, K: Kind<T>> Recovery<T, K>
 
     /// Takes whole blobs below a position of the view away.
     pub fn prune<V: Volume>(self, vol: &mut V, least: u64) -> Result<Self, JournalError>
-        ensures made { IfOk result (λ made. ⟦<Recovery<T, K> as BackingRecovery>⟧.view made ≡ at_bounds (⟦<Recovery<T, K> as BackingRecovery>⟧.view self) (⟦<Recovery<T, K> as BackingRecovery>⟧.view made).start (⟦<Recovery<T, K> as BackingRecovery>⟧.view made).end) }
-        ensures end { IfOk result (λ made. V.tells → IsWithin (⟦<Recovery<T, K> as BackingRecovery>⟧.view self) (V.state vol.old) → (⟦<Recovery<T, K> as BackingRecovery>⟧.view made).end ≡ (⟦<Recovery<T, K> as BackingRecovery>⟧.view self).end) }
-        ensures within { IfOk result (λ made. V.tells → IsWithin (⟦<Recovery<T, K> as BackingRecovery>⟧.view self) (V.state vol.old) → IsWithin (⟦<Recovery<T, K> as BackingRecovery>⟧.view made) (V.state vol.new)) }
-        ensures pruned { OnOk result (V.tells → (V.state vol.new).log (⟦<Recovery<T, K> as BackingRecovery>⟧.view self).name ≡ pruned_to ((V.state vol.old).log (⟦<Recovery<T, K> as BackingRecovery>⟧.view self).name) (blob_start (⟦<Recovery<T, K> as BackingRecovery>⟧.view self).blob (min (min least (⟦<Recovery<T, K> as BackingRecovery>⟧.view self).end) (end_of ((V.state vol.old).log (⟦<Recovery<T, K> as BackingRecovery>⟧.view self).name))))) }
-        ensures others { V.tells → OnlyLog (⟦<Recovery<T, K> as BackingRecovery>⟧.view self).name (V.state vol.old) (V.state vol.new) }
-        ensures images { V.tells → LogMoves (⟦<Recovery<T, K> as BackingRecovery>⟧.view self).name (Advances (blob_start (⟦<Recovery<T, K> as BackingRecovery>⟧.view self).blob (min (min least (⟦<Recovery<T, K> as BackingRecovery>⟧.view self).end) (end_of ((V.state vol.old).log (⟦<Recovery<T, K> as BackingRecovery>⟧.view self).name))))) (V.state vol.old) (V.state vol.new) }
+        ensures made { IfOk result (λ made. SameButBounds (seen_of self) (seen_of made)) }
+        ensures end { IfOk result (λ made. V.tells → IsWithin (seen_of self) (V.state vol.old) →
+            (seen_of made).end ≡ (seen_of self).end) }
+        ensures within { IfOk result (λ made. V.tells → IsWithin (seen_of self) (V.state vol.old) →
+            IsWithin (seen_of made) (V.state vol.new)) }
+        ensures pruned { let log = log_of (seen_of self) (V.state vol.old) in
+            let point = prune_point (seen_of self) (min least (seen_of self).end) (V.state vol.old) in
+            OnOk result (V.tells → log_of (seen_of self) (V.state vol.new) ≡ pruned_to log point) }
+        // Where the start doesn't rise nothing is written.
+        ensures still { let point = prune_point (seen_of self) (min least (seen_of self).end) (V.state vol.old) in
+            V.tells → point ≤ (log_of (seen_of self) (V.state vol.old)).start →
+            (V.state vol.new).clock ≡ (V.state vol.old).clock }
+        ensures others { V.tells → OnlyLog (seen_of self).name (V.state vol.old) (V.state vol.new) }
+        ensures images { let point = prune_point (seen_of self) (min least (seen_of self).end) (V.state vol.old) in
+            V.tells → LogMoves (seen_of self).name (Advances point) (V.state vol.old) (V.state vol.new) }
         ensures errors { IfErr result IsOfVolume }
         ensures writes { Writes V.tells JournalError.Volume (V.state vol.old) (V.state vol.new) result }
     {
@@ -182,25 +195,17 @@ impl<T: Write + EncodeSize + Read + Duplicate + Drop, K: Kind<T>> Recovery<T, K>
 
     /// As `reset`.
     pub fn clear_to_size<V: Volume>(self, vol: &mut V, size: u64) -> Result<Self, JournalError>
-        ensures overflow { IsErrOf result SizeOverflow ↔ (size ≡ 2 ^ 64 - 1) }
-        ensures made { IfOk result (λ made. ⟦<Recovery<T, K> as BackingRecovery>⟧.view made ≡ at_bounds (⟦<Recovery<T, K> as BackingRecovery>⟧.view self) size size) }
-        ensures cleared { OnOk result (V.tells → (V.state vol.new).log (⟦<Recovery<T, K> as BackingRecovery>⟧.view self).name ≡ cleared_at size) }
-        ensures durable { OnOk result (V.tells → OnlyLeft ((V.state vol.new).log_left (V.state vol.new).clock (⟦<Recovery<T, K> as BackingRecovery>⟧.view self).name) (cleared_at size)) }
-        ensures others { V.tells → OnlyLog (⟦<Recovery<T, K> as BackingRecovery>⟧.view self).name (V.state vol.old) (V.state vol.new) }
-        ensures images { V.tells → LogMoves (⟦<Recovery<T, K> as BackingRecovery>⟧.view self).name (BecomesOneOf (cleared_at size)) (V.state vol.old) (V.state vol.new) }
-        // A refusal by name comes before anything is written.
-        ensures refused { (e : JournalError) → IsErrOf result e → IsRefusal e → (V.state vol.new).clock ≡ (V.state vol.old).clock }
-        ensures errors { IfErr result IsOfSize }
-        ensures writes { Writes V.tells JournalError.Volume (V.state vol.old) (V.state vol.new) result }
+        ensures made { IfOk result (λ made. seen_of made ≡ at_bounds (seen_of self) size size) }
+        ensures within { IfOk result (λ made. V.tells → IsWithin (seen_of made) (V.state vol.new)) }
+        ensures clears { Clears V.tells (seen_of self) size (V.state vol.old) (V.state vol.new) result }
     {
-        let cleared = self.reset(vol, size)?;
-        Ok(cleared)
+        self.reset(vol, size)
     }
 
     /// Ends the view at the log's end.
     pub fn unbounded<V: Volume>(self, vol: &mut V) -> Result<Self, JournalError>
-        ensures made { IfOk result (λ made. ⟦<Recovery<T, K> as BackingRecovery>⟧.view made ≡ at_bounds (⟦<Recovery<T, K> as BackingRecovery>⟧.view self) (⟦<Recovery<T, K> as BackingRecovery>⟧.view made).start (⟦<Recovery<T, K> as BackingRecovery>⟧.view made).end) }
-        ensures held { IfOk result (λ made. V.tells → IsHeld (⟦<Recovery<T, K> as BackingRecovery>⟧.view made) (V.state vol.old)) }
+        ensures made { IfOk result (λ made. SameButBounds (seen_of self) (seen_of made)) }
+        ensures held { IfOk result (λ made. V.tells → IsHeld (seen_of made) (V.state vol.old)) }
         ensures errors { IfErr result IsOfVolume }
         ensures answers { Reads V.tells JournalError.Volume (V.state vol.old) (V.state vol.new) result }
         ensures reads { (V.state vol.new).reads ≡ (V.state vol.old).reads }
@@ -220,10 +225,9 @@ impl<T: Write + EncodeSize + Read + Duplicate + Drop, K: Kind<T>> Backing for Jo
 
     type Recovery = Recovery<T, K>;
 
-    ghost use Rattle.std.specs.Prelude.{string_bytes, false, refl};
-    ghost use Rattle.std.specs.NonZero.{non_zero_u64_get};
+    ghost use Rattle.std.specs.Prelude.{refl};
 
-    ghost config = { λ cfg. record { name = string_bytes cfg.name; blob = non_zero_u64_get cfg.items_per_blob; codec = cfg.codec; start = 0; end = 0; failed = false } };
+    ghost config = { λ cfg. config_of cfg };
 
     ghost is_one_log = { tt };
 
@@ -251,8 +255,7 @@ impl<T: Write + EncodeSize + Read + Duplicate + Drop, K: Kind<T>> Backing for Jo
         let recovery = Recovery {
             seen: Journal::new(cfg, size, size),
         };
-        let cleared = recovery.reset(vol, size)?;
-        Ok(cleared)
+        recovery.reset(vol, size)
     }
 
     fn span<V: Volume>(

@@ -6,9 +6,9 @@ use Rattle.std.proofs.lemmas.List.{length-append, take-append-le}
 use Rattle.log_model.specs.Meaning.{Meaning}
 use Rattle.log_model.specs.Operations.{floor_of}
 use Rattle.log_model.specs.Batches.{Batch, Unsealed, Sealed, Gone, UnsealedBatch, SealedBatch, begun_on, size_of, appended, sealed, snapshot_of}
-use Rattle.log_model.specs.Machine.{State, max_leaves, opened, batch_at, with_batch, with_new, begun, snapshot_taken, applied}
+use Rattle.log_model.specs.Machine.{State, max_leaves, batch_at, with_batch, with_new, begun, snapshot_taken}
 use Rattle.log_model.specs.Reach.{as_sealed, reach, tips_of, effective_boundary, sealed_here}
-use Rattle.log_model.specs.Good.{EndsWithCommit, FloorsRise, ValuesAre, AreAppends, IsGoodList, IsMark, AreMarks, IsGoodBatch, ParentFits, HasParent, IsGood}
+use Rattle.log_model.specs.Good.{EndsWithCommit, FloorsRise, ValuesAre, AreAppends, IsGoodList, IsMark, AreMarks, IsGoodBatch, ParentFits, HasParent, IsGood, IsGoodLog}
 use Rattle.log_model.proofs.ReachLemmas.{marks_here}
 
 none_is : (o : Option ℕ) → IsNone o → o ≡ None
@@ -39,23 +39,23 @@ module _ {Op V : Type 0} (m : Meaning Op V) (among : List Op → Type 0) (allowe
   appends_append (x ∷ xs) ys h k = (h.0, appends_append xs ys h.1 k)
 
   -- the floor of the last commit of a list, or this one
-  abbrev floor_from : ℕ → List Op → ℕ
+  abbrev pub floor_from : ℕ → List Op → ℕ
   floor_from low [] = low
   floor_from low (op ∷ ops) = floor_from (unwrap_or (m.floor op) low) ops
 
-  rise_append : (low i : ℕ) (xs ys : List Op) → FloorsRise m low i xs → FloorsRise m (floor_from low xs) (i + length xs) ys → FloorsRise m low i (xs ++ ys)
+  pub rise_append : (low i : ℕ) (xs ys : List Op) → FloorsRise m low i xs → FloorsRise m (floor_from low xs) (i + length xs) ys → FloorsRise m low i (xs ++ ys)
   rise_append low i [] ys h k = let e : i + 0 ≡ i = omega arith in let P : ℕ → Type 0 = λ n. FloorsRise m low n ys in subst P e k
   rise_append low i (x ∷ xs) ys h k =
       let e : i + length (x ∷ xs) ≡ i + 1 + length xs = omega arith in
       let P : ℕ → Type 0 = λ n. FloorsRise m (floor_from low (x ∷ xs)) n ys in
       (h.0, rise_append (unwrap_or (m.floor x) low) (i + 1) xs ys h.1 (subst P e k))
 
-  floor_from-ends : (low : ℕ) (xs : List Op) → EndsWithCommit m xs → floor_from low xs ≡ floor_of m xs
+  pub floor_from-ends : (low : ℕ) (xs : List Op) → EndsWithCommit m xs → floor_from low xs ≡ floor_of m xs
   floor_from-ends low [] h = absurd h
   floor_from-ends low (x ∷ []) h = same_default (m.floor x) low 0 h
   floor_from-ends low (x ∷ next ∷ xs) h = floor_from-ends (unwrap_or (m.floor x) low) (next ∷ xs) h
 
-  floor_from-appends : (low : ℕ) (xs : List Op) → AreAppends m xs → floor_from low xs ≡ low
+  pub floor_from-appends : (low : ℕ) (xs : List Op) → AreAppends m xs → floor_from low xs ≡ low
   floor_from-appends low [] h = refl
   floor_from-appends low (x ∷ xs) h = let e = none_is (m.floor x) h.0 in rw e (floor_from-appends low xs h.1)
 
@@ -63,7 +63,7 @@ module _ {Op V : Type 0} (m : Meaning Op V) (among : List Op → Type 0) (allowe
   appends_rise low i [] h = tt
   appends_rise low i (x ∷ xs) h = let e = none_is (m.floor x) h.0 in rw e (tt, appends_rise low (i + 1) xs h.1)
 
-  whole_mark : (list : List Op) → IsGoodList m among allowed first list → IsMark m among list (length list)
+  pub whole_mark : (list : List Op) → IsGoodList m among allowed first list → IsMark m among list (length list)
   whole_mark list g = (omega arith, rw (take-length list) g.stand)
 
   pub good_begun_on : (parent : Option ℕ) (list : List Op) → IsGoodList m among allowed first list → IsGoodBatch m among allowed first (Unsealed (begun_on parent list))
@@ -156,7 +156,7 @@ module _ {Op V : Type 0} (m : Meaning Op V) (among : List Op → Type 0) (allowe
   abbrev pub Keeps : Batch Op → Batch Op → Type 0
   Keeps old new = IfSome (as_sealed old) (λ c. IsSomeAnd (as_sealed new) (λ d. d.list ≡ c.list))
 
-  keeps_self : (x : Batch Op) → Keeps x x
+  pub keeps_self : (x : Batch Op) → Keeps x x
   keeps_self (Unsealed u) = tt
   keeps_self (Sealed c) = refl
   keeps_self Gone = tt
@@ -171,7 +171,7 @@ module _ {Op V : Type 0} (m : Meaning Op V) (among : List Op → Type 0) (allowe
   still_fits s t keeps b list base None h = tt
   still_fits s t keeps b list base (Some p) h = (h.0, still_sealed (take base list) (as_sealed (batch_at s p)) (as_sealed (batch_at t p)) (keeps p) h.1)
 
-  still_has : (s t : State Op) → ((q : ℕ) → Keeps (batch_at s q) (batch_at t q)) → (b : ℕ) (x : Batch Op) → HasParent s b x → HasParent t b x
+  pub still_has : (s t : State Op) → ((q : ℕ) → Keeps (batch_at s q) (batch_at t q)) → (b : ℕ) (x : Batch Op) → HasParent s b x → HasParent t b x
   still_has s t keeps b (Unsealed u) h = still_fits s t keeps b u.list u.base u.parent h
   still_has s t keeps b (Sealed c) h = still_fits s t keeps b c.list c.base c.parent h
   still_has s t keeps b Gone h = tt
@@ -188,12 +188,27 @@ module _ {Op V : Type 0} (m : Meaning Op V) (among : List Op → Type 0) (allowe
   push_keeps (y ∷ bs) x zero = keeps_self y
   push_keeps (y ∷ bs) x (suc q) = push_keeps bs x q
 
+  -- two states that differ in their batches alone
+  same_log : (s t : State Op) → IsGoodLog m s → t.ops ≡ s.ops → t.sizes ≡ s.sizes → t.durable ≡ s.durable → t.node_durable ≡ s.node_durable → t.prune ≡ s.prune → t.start ≡ s.start → t.wstart ≡ s.wstart → IsGoodLog m t
+  same_log s t g a b c d e f h = record {
+    sizes = rw (a, b) g.sizes;
+    commits = rw (a, b) g.commits;
+    nodes = rw (c, d) g.nodes;
+    within = rw (a, c) g.within;
+    durable = rw (b, c) g.durable;
+    start = rw (e, f) g.start;
+    pruned = rw (d, e) g.pruned;
+    floor = rw (a, c, e) g.floor;
+    wstart = rw (b, e, h) g.wstart;
+  }
+
   pub good_with : (s : State Op) (b : ℕ) (x : Batch Op) → IsGood m among allowed first s → IsGoodBatch m among allowed first x → HasParent s b x → Keeps (batch_at s b) x → IsGood m among allowed first (with_batch s b x)
   good_with s b x g good has keeps =
       let t : State Op = with_batch s b x in
       let kept : (q : ℕ) → Keeps (batch_at s q) (batch_at t q) = set_keeps s.batches b x keeps in
       record {
         ops = g.ops;
+        log = same_log s t g.log refl refl refl refl refl refl refl;
         batches = set_good (λ q. IsGoodBatch m among allowed first) s.batches b x g.batches good;
         parents = set_good (HasParent t) s.batches b x (λ q. still_has s t kept q (batch_at s q) (g.parents q)) (still_has s t kept b x has);
       }
@@ -239,6 +254,7 @@ module _ {Op V : Type 0} (m : Meaning Op V) (among : List Op → Type 0) (allowe
       let kept : (q : ℕ) → Keeps (batch_at s q) (batch_at t q) = push_keeps s.batches x in
       record {
         ops = g.ops;
+        log = same_log s t g.log refl refl refl refl refl refl refl;
         batches = push_good (λ q. IsGoodBatch m among allowed first) s.batches x g.batches good;
         parents = push_good (HasParent t) s.batches x (λ q. still_has s t kept q (batch_at s q) (g.parents q)) (still_has s t kept (length s.batches) x has);
       }
@@ -263,17 +279,3 @@ module _ {Op V : Type 0} (m : Meaning Op V) (among : List Op → Type 0) (allowe
 
   pub good_snapshot_taken : (s : State Op) → IsGood m among allowed first s → IsGood m among allowed first (snapshot_taken s (floor_of m s.ops))
   good_snapshot_taken s g = good_new s (Sealed (snapshot_of s.ops (floor_of m s.ops))) g (good_snapshot s.ops g.ops) tt
-
-  pub good_applied : (s : State Op) (b : ℕ) (c : SealedBatch Op) → IsGood m among allowed first s → batch_at s b ≡ Sealed c → IsGood m among allowed first (applied s c)
-  good_applied s b c g is =
-      let good : IsGoodBatch m among allowed first (Sealed c) = subst (IsGoodBatch m among allowed first) is (g.batches b) in
-      let t : State Op = applied s c in
-      let kept : (q : ℕ) → Keeps (batch_at s q) (batch_at t q) = λ q. keeps_self (batch_at s q) in
-      record { ops = good.0; batches = g.batches; parents = λ q. still_has s t kept q (batch_at s q) (g.parents q) }
-
-  pub good_opened : among (first ∷ []) → m.floor first ≡ Some 0 → IfSome (m.value first) allowed → IsGood m among allowed first (opened first)
-  good_opened known is value = record {
-    ops = record { begins = refl; stand = (rw is refl, known); few = omega arith; values = (value, tt); floors = rw is ((omega arith, omega arith), tt) };
-    batches = λ b. tt;
-    parents = λ b. tt;
-  }

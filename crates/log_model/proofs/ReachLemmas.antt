@@ -227,15 +227,15 @@ module _ {Op : Type 0} (one other : SameTest Op) (s : State Op) (list : List Op)
   pub stands_agree : (boundary : ℕ) (tips : List ℕ) → Agree boundary → AllAgree tips → stands_on one s list boundary tips ≡ stands_on other s list boundary tips
   stands_agree boundary tips here all = rw (here, any_agree tips all) refl
 
-module _ {Op V : Type 0} (m : Meaning Op V) (decide : (a b : Op) → Decides (m.same a b) (a ≡ b)) where
-  pub lists_decide : (xs ys : List Op) → Decides (same_operations m xs ys) (xs ≡ ys)
+module _ {Op : Type 0} (same : Op → Op → Bool) (decide : (a b : Op) → Decides (same a b) (a ≡ b)) where
+  pub lists_decide : (xs ys : List Op) → Decides (same_operations same xs ys) (xs ≡ ys)
   lists_decide xs ys = slice_eq-Decides decide xs ys _ refl
 
   -- a batch without parent stands on the whole present list where it may be sealed
-  pub stood_alone : (s : State Op) (u : UnsealedBatch Op) → u.base ≡ length u.list → may_seal (same_operations m) s u ≡ true → u.parent ≡ None → s.ops ≡ u.list
+  pub stood_alone : (s : State Op) (u : UnsealedBatch Op) → u.base ≡ length u.list → may_seal (same_operations same) s u ≡ true → u.parent ≡ None → s.ops ≡ u.list
   stood_alone s u base may none =
-      let here : stands_on (same_operations m) s u.list u.base [] ≡ true = rw none at may in
-      let at : s.ops ≡ take u.base u.list = alone (stands_at (same_operations m) s u.list u.base) here (lists_decide s.ops (take u.base u.list)).0 in
+      let here : stands_on (same_operations same) s u.list u.base [] ≡ true = rw none at may in
+      let at : s.ops ≡ take u.base u.list = alone (stands_at (same_operations same) s u.list u.base) here (lists_decide s.ops (take u.base u.list)).0 in
       at ∙ rw base (take-length u.list)
     where
       alone : {P : Type 0} (a : Bool) → (a || false) ≡ true → (a ≡ true → P) → P

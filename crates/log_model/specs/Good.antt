@@ -1,10 +1,11 @@
 -- Good states: what every state of a log and its batches keeps.
-use Rattle.std.specs.Prelude.{◌≡◌, ℕ, ◌+◌, ◌<◌, ◌≤◌, List, [], ◌∷◌, length, take, unwrap_or, IsSome, IsNone, IfSome, IsSomeAnd, Option, Some, None}
+use Rattle.std.specs.Prelude.{◌≡◌, ◌⊎◌, ℕ, ◌+◌, ◌<◌, ◌≤◌, List, [], ◌∷◌, length, take, unwrap_or, IsSome, IsNone, IfSome, IsSomeAnd, Contains, Option, Some, None}
 use Rattle.log_model.specs.Meaning.{Meaning}
 use Rattle.log_model.specs.Operations.{floor_of}
 use Rattle.log_model.specs.Batches.{Batch, Unsealed, Sealed, Gone, size_of}
 use Rattle.log_model.specs.Machine.{State, max_leaves, batch_at}
 use Rattle.log_model.specs.Reach.{as_sealed}
+use Rattle.log_model.specs.Sizes.{AreSizes, first_at_least}
 
 -- A list ends with a commit.
 abbrev pub EndsWithCommit : {Op V : Type 0} → Meaning Op V → List Op → Type 0
@@ -31,6 +32,10 @@ ValuesAre m allowed (op ∷ ops) = IfSome (m.value op) allowed × ValuesAre m al
 abbrev pub AreAppends : {Op V : Type 0} → Meaning Op V → List Op → Type 0
 AreAppends m [] = Unit {0}
 AreAppends m (op ∷ ops) = IsNone (m.floor op) × AreAppends m ops
+
+-- Any list.
+abbrev pub AnyList : {Op : Type 0} → List Op → Type 0
+AnyList list = Unit {0}
 
 -- A place where the log may stand: a list that ends with a commit, and is one of these.
 abbrev pub IsStand : {Op V : Type 0} → Meaning Op V → (List Op → Type 0) → List Op → Type 0
@@ -69,8 +74,36 @@ HasParent s b (Unsealed u) = ParentFits s b u.list u.base u.parent
 HasParent s b (Sealed c) = ParentFits s b c.list c.base c.parent
 HasParent s b Gone = Unit {0}
 
+-- Each of these lengths of a list ends with a commit.
+abbrev pub AreCommits : {Op V : Type 0} → Meaning Op V → List Op → List ℕ → Type 0
+AreCommits m list [] = Unit {0}
+AreCommits m list (n ∷ ns) = EndsWithCommit m (take n list) × AreCommits m list ns
+
+-- The durable size is an applied one; or nothing is durable, and nothing was applied.
+abbrev pub IsDurable : List ℕ → ℕ → Type 0
+IsDurable sizes durable = Contains sizes durable ⊎ ((durable ≡ 0) × (sizes ≡ 1 ∷ []))
+
+-- What stands on the volume, and in its place: each applied size ends with a commit, no more is durable than is there,
+-- what is pruned is durable and at most the floor at the durable size, and both logs keep what isn't pruned.
+pub record IsGoodLog {Op V : Type 0} (m : Meaning Op V) (s : State Op) : Type 0 where
+  pub sizes : AreSizes (length s.ops) s.sizes
+  pub commits : AreCommits m s.ops s.sizes
+  pub nodes : s.node_durable ≤ s.durable
+  pub within : s.durable ≤ length s.ops
+  pub durable : IsDurable s.sizes s.durable
+  pub start : s.start ≤ s.prune
+  pub pruned : s.prune ≤ s.node_durable
+  pub floor : s.prune ≤ floor_of m (take s.durable s.ops)
+  pub wstart : s.wstart ≤ first_at_least s.prune s.sizes
+
 -- The log's list is good, and so is each batch, and its parent fits.
 pub record IsGood {Op V : Type 0} (m : Meaning Op V) (among : List Op → Type 0) (allowed : V → Type 0) (first : Op) (s : State Op) : Type 0 where
   pub ops : IsGoodList m among allowed first s.ops
+  pub log : IsGoodLog m s
   pub batches : (b : ℕ) → IsGoodBatch m among allowed first (batch_at s b)
   pub parents : (b : ℕ) → HasParent s b (batch_at s b)
+
+-- A good state of which something is durable.
+pub record IsGoodState {Op V : Type 0} (m : Meaning Op V) (among : List Op → Type 0) (allowed : V → Type 0) (first : Op) (s : State Op) : Type 0 where
+  pub good : IsGood m among allowed first s
+  pub some : 1 ≤ s.durable

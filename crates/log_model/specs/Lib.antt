@@ -2,6 +2,16 @@ pub mod Meaning
 pub mod Operations
 pub mod Hashed
 pub mod Batches
+pub mod Sizes
 pub mod Machine
 pub mod Reach
 pub mod Good
+pub mod Witness
+pub mod Stored
+pub mod Extent
+pub mod Opening
+pub mod Valid
+pub mod Reads
+pub mod Proofs
+pub mod Sealing
+pub mod Laws

@@ -99,3 +99,13 @@ may_apply same s c = stands_on same s c.list c.boundary c.tips
 -- The sealed batch that an unsealed one becomes here, by a commit of this floor.
 abbrev pub sealed_here : {Op : Type 0} → State Op → UnsealedBatch Op → Op → ℕ → SealedBatch Op
 sealed_here s u commit floor = sealed u (effective_boundary s u) (tips_of (reach s u)) commit floor
+
+-- ---- reads of batches
+
+-- Whether a sealed batch may be read here: where its chain began, at a tip of its ancestors, or at its own.
+abbrev pub may_read_sealed : {Op : Type 0} → SameTest Op → State Op → SealedBatch Op → Bool
+may_read_sealed same s c = stands_on same s c.list c.boundary (length c.list ∷ c.tips)
+
+-- An unsealed batch is judged by its parent; one without stands on the whole present list.
+abbrev pub may_read_unsealed : {Op : Type 0} → SameTest Op → State Op → UnsealedBatch Op → Bool
+may_read_unsealed same s u = option_map_or (λ c. may_read_sealed same s c) (linked s u.parent) (same s.ops u.list)

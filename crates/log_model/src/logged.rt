@@ -1,14 +1,13 @@
 ghost use Rattle.std.specs.Prelude.{◌≡◌, ℕ, List};
-ghost use Rattle.std.specs.Bool.{Decides};
 ghost use Rattle.log_model.specs.Meaning.{Meaning};
 
 use codec_base::Write;
 
-/// An operation that a log can hold.
+/// An operation that a log can hold: what it means there. That two operations are one is no part of it.
 pub trait Logged: Write {
     type Value;
 
-    /// Its bytes, its floor, its value, and a test of equality.
+    /// Its bytes, its floor where it is a commit, and its value.
     ghost meaning: { Meaning Self Self.Value };
 
     /// The floor that it sets, where it is a commit.
@@ -17,7 +16,4 @@ pub trait Logged: Write {
 
     /// Its bytes are its spelling.
     ghost spelled: { (op : Self) → meaning.encoding op ≡ Self.spelling op };
-
-    /// The test tells whether two operations are one.
-    ghost decides: { (a b : Self) → Decides (meaning.same a b) (a ≡ b) };
 }

@@ -1,45 +1,22 @@
 -- A log and a map over an append, a sync and a replacement.
-use Rattle.std.proofs.Common.{◌≡◌, ⊎_elim, inl, inr, ℕ, ◌≤◌, List, length, take, sym, ◌∙◌, ap, subst, arith}
-use Rattle.std.proofs.lemmas.Bool.{cases_lt}
-use Rattle.std.proofs.lemmas.List.{take_all, append-nil}
+use Rattle.std.proofs.Common.{◌≡◌, ◌⊎◌, inl, inr, ℕ, List, take, sym, ◌∙◌, ap, subst, refl}
+use Rattle.std.specs.Prelude.{Result, Ok, Err, OnOk}
+use Rattle.std.specs.Result.{IsErrAnd}
+use Rattle.std.proofs.lemmas.List.{append-nil}
 use Rattle.volume_base.specs.Log.{Log, appended, Grows, Stays, BecomesOneOf}
-use Rattle.volume_base.specs.Moments.{PairHas, PairKeeps}
+use Rattle.volume_base.specs.Moments.{Image, NamesLeft, Now, Keeps}
+use Rattle.volume_base.specs.Names.{Names, log_and_map, OthersStay}
 use Rattle.volume_base.specs.Volume.{State, Map, LogMoves, MapMoves, OnlyLeft}
-use Rattle.volume_base.proofs.MomentLemmas.{iff_then, past_joins, pair_moves_log, pair_moves_map, pair_has_after, pair_keeps_joins}
-use Rattle.marked_log.specs.MarkedLog.{IsUnmarked, IsMarkedAfter, OthersStay}
+use Rattle.volume_base.proofs.ImageLemmas.{with_log_here, with_map_here}
+use Rattle.volume_base.proofs.MomentLemmas.{past_joins}
+use Rattle.volume_base.proofs.NameLemmas.{names_move_log, names_move_map, stay_joins, stay_log, stay_map}
+use Rattle.volume_base.proofs.SyncLemmas.{names_synced}
+use Rattle.volume_base.proofs.TurnLemmas.{names_back, keeps_none, keeps_joins, now_after, turns_at, steps_of_keeps, steps_of_turns}
+use Rattle.marked_log.specs.MarkedLog.{AreDurable, IsUnmarked, IsWhole, Marks}
 
--- a call on the log, and one on the map
-pub stay_log : (one two : List ℕ) (step : Log → Log → Type 0) (a b : State) → LogMoves one step a b → OthersStay one two a b
-stay_log one two step a b moves = record { past = moves.past; logs = moves.logs; maps = λ t other m lo hi ne. moves.maps t other m lo hi }
-
-pub stay_map : (one two : List ℕ) (step : Map → Map → Type 0) (a b : State) → MapMoves two step a b → OthersStay one two a b
-stay_map one two step a b moves = record { past = moves.past; logs = λ t other log lo hi ne. moves.logs t other log lo hi; maps = moves.maps }
-
--- one run after another
-pub stay_joins : (one two : List ℕ) (a b c : State) → OthersStay one two a b → OthersStay one two b c → OthersStay one two a c
-stay_joins one two a b c ab bc = record {
-  past = past_joins a b c ab.past bc.past;
-  logs = λ t other log lo hi ne. ⊎_elim
-      (λ early. let le : t ≤ b.clock = omega (arith, early) in iff_then (bc.past.logs t other log le) (ab.logs t other log lo le ne))
-      (λ late. iff_then (bc.logs t other log late hi ne) (ab.logs b.clock other log ab.past.later (omega arith) ne))
-      (cases_lt t b.clock);
-  maps = λ t other m lo hi ne. ⊎_elim
-      (λ early. let le : t ≤ b.clock = omega (arith, early) in iff_then (bc.past.maps t other m le) (ab.maps t other m lo le ne))
-      (λ late. iff_then (bc.maps t other m late hi ne) (ab.maps b.clock other m ab.past.later (omega arith) ne))
-      (cases_lt t b.clock);
-}
-
--- what was durable in a log is so behind a call on a map
-pub only_left_after : (one two : List ℕ) (step : Map → Map → Type 0) (a b : State) → MapMoves two step a b → OnlyLeft (a.log_left a.clock one) (a.log one) → b.log one ≡ a.log one → OnlyLeft (b.log_left b.clock one) (b.log one)
-only_left_after one two step a b moves only same image left = only image ((moves.logs b.clock one image moves.past.later (omega arith)).0 left) ∙ sym same
-
--- the log grows, and the map stays
-pub record IsGrowing (contents : Log) (items : List (List ℕ)) (unmarked : Map) (log : Log) (m : Map) : Type 0 where
-  pub some : (count : ℕ) × (log ≡ appended contents (take count items))
-  pub map_is : m ≡ unmarked
-
-items_are : (log : Log) (one two : List (List ℕ)) → one ≡ two → appended log one ≡ appended log two
-items_are log one two same = ap (appended log) same
+pub not_ok : {T E : Type 0} (result : Result T E) (P : E → Type 0) → IsErrAnd result P → OnOk result ⊥
+not_ok (Ok answer) P is = absurd is
+not_ok (Err error) P is = tt
 
 nothing_more : (log : Log) → log ≡ appended log (take 0 log.items)
 nothing_more log = ap (λ (l : List (List ℕ)). let made : Log = record { start = log.start; items = l } in made) (sym (append-nil log.items))
@@ -48,32 +25,72 @@ grown_is : (contents : Log) (items : List (List ℕ)) (log : Log) → Grows cont
 grown_is contents items log (inl same) = (0, same ∙ nothing_more contents)
 grown_is contents items log (inr (start, count, le, was, is)) = (count, is)
 
-module _ (one two : List ℕ) (contents : Log) (items : List (List ℕ)) (unmarked mark : Map) (s0 s1 : State)
-    (append : LogMoves one (Grows contents items) s0 s1) (has : PairHas s0 one two (IsUnmarked contents unmarked)) where
-  growing : PairKeeps one two (IsGrowing contents items unmarked) s0 s1
-  growing = pair_moves_log one two (Grows contents items) (IsUnmarked contents unmarked) (IsGrowing contents items unmarked) s0 s1 append has
-      (λ old new m was goes. record { some = grown_is contents items new (subst (λ (l : Log). Grows contents items l new) was.log_is goes); map_is = was.map_is })
+-- every other name
+module _ (log map : List ℕ) (items : List (List ℕ)) (mark : Map) (s0 s1 : State) (append : LogMoves log (Grows (s0.log log) items) s0 s1) (s2 : State) (journal : List ℕ) (same : journal ≡ log) (sync : LogMoves journal Stays s1 s2) where
+  pub sync_stays : OthersStay (log_and_map log map) s0 s2
+  sync_stays = stay_joins (log_and_map log map) s0 s1 s2 (stay_log (log_and_map log map) log (Grows (s0.log log) items) s0 s1 (inl refl) append) (stay_log (log_and_map log map) journal Stays s1 s2 (inl same) sync)
 
-  weaker : (a b : State) → PairKeeps one two (IsGrowing contents items unmarked) a b → PairKeeps one two (IsMarkedAfter contents items unmarked) a b
-  weaker a b keeps = record { past = keeps.past; during = λ t log m lo hi left_log left_map. let is = keeps.during t log m lo hi left_log left_map in record { some = is.some; marked = inl is.map_is } }
+  pub map_stays : (s3 : State) → MapMoves map (BecomesOneOf mark) s2 s3 → OthersStay (log_and_map log map) s0 s3
+  map_stays s3 replace = stay_joins (log_and_map log map) s0 s2 s3 sync_stays (stay_map (log_and_map log map) map (BecomesOneOf mark) s2 s3 (inl refl) replace)
 
-  pub after_append : PairKeeps one two (IsMarkedAfter contents items unmarked) s0 s1
-  after_append = weaker s0 s1 growing
+module _ {T E : Type 0} (log map : List ℕ) (items : List (List ℕ)) (mark : Map) (result : Result T E) (s0 : State) (durable : AreDurable log map s0) where
+  abbrev names : Names
+  names = log_and_map log map
 
-  module _ (s2 : State) (sync : LogMoves one Stays s1 s2) where
-    synced : PairKeeps one two (IsGrowing contents items unmarked) s0 s2
-    synced = pair_keeps_joins one two (IsGrowing contents items unmarked) s0 s1 s2 growing
-        (pair_moves_log one two Stays (IsGrowing contents items unmarked) (IsGrowing contents items unmarked) s1 s2 sync (pair_has_after one two (IsGrowing contents items unmarked) s0 s1 growing)
-        (λ old new m is same. subst (λ (l : Log). IsGrowing contents items unmarked l m) (sym same) is))
+  abbrev Before : Image → Type 0
+  Before = IsUnmarked log map (s0.log log) items (s0.map map)
 
-    pub after_sync : PairKeeps one two (IsMarkedAfter contents items unmarked) s0 s2
-    after_sync = weaker s0 s2 synced
+  abbrev Behind : Image → Type 0
+  Behind = IsWhole log map (appended (s0.log log) items) (s0.map map) mark
 
-    module _ (s3 : State) (durable : OnlyLeft (s2.log_left s2.clock one) (s2.log one)) (whole : s2.log one ≡ appended contents items) (replace : MapMoves two (BecomesOneOf mark) s2 s3) where
-      has_all : PairHas s2 one two (IsUnmarked (appended contents items) unmarked)
-      has_all log m left_log left_map = record { log_is = durable log left_log ∙ whole; map_is = (pair_has_after one two (IsGrowing contents items unmarked) s0 s2 synced log m left_log left_map).map_is }
+  at_first : Now (NamesLeft names) Before s0
+  at_first image at = record { front = (0, durable.items (image.log log) at.logs.0 ∙ nothing_more (s0.log log)); map_is = durable.mark (image.map map) at.maps.0 }
 
-      pub after_mark : PairKeeps one two (IsMarkedAfter contents items unmarked) s0 s3
-      after_mark = pair_keeps_joins one two (IsMarkedAfter contents items unmarked) s0 s2 s3 after_sync
-          (pair_moves_map one two (BecomesOneOf mark) (IsUnmarked (appended contents items) unmarked) (IsMarkedAfter contents items unmarked) s2 s3 replace has_all
-          (λ log old new was goes. record { some = (length items, was.log_is ∙ ap (appended contents) (sym (take_all (length items) items (omega arith)))); marked = inr was.log_is }))
+  -- nothing is written
+  pub none_marked : OnOk result ⊥ → Marks log map items mark s0 s0 result
+  none_marked failed = steps_of_keeps (NamesLeft names) Before Behind s0 s0 result failed (keeps_none (NamesLeft names) Before s0 at_first)
+
+  module _ (s1 : State) (append : LogMoves log (Grows (s0.log log) items) s0 s1) where
+    appending : Keeps (NamesLeft names) Before s0 s1
+    appending = names_move_log names log (λ image. (image.log log ≡ s0.log log) × (image.map map ≡ s0.map map)) Before s0 s1 (Grows (s0.log log) items) (inl refl) append
+        (λ image at. (durable.items (image.log log) at.logs.0, durable.mark (image.map map) at.maps.0))
+        (λ image was held goes. record {
+          front = grown_is (s0.log log) items (image.log log) (subst (λ (l : Log). Grows (s0.log log) items l (image.log log)) (sym (with_log_here log was image) ∙ held.0) goes);
+          map_is = held.1;
+        })
+
+    pub append_marks : OnOk result ⊥ → Marks log map items mark s0 s1 result
+    append_marks failed = steps_of_keeps (NamesLeft names) Before Behind s0 s1 result failed appending
+
+    -- the journal that is synced has the log's name
+    module _ (s2 : State) (journal : List ℕ) (same : journal ≡ log) (moves : LogMoves journal Stays s1 s2) where
+      sync : LogMoves log Stays s1 s2
+      sync = subst (λ (n : List ℕ). LogMoves n Stays s1 s2) same moves
+
+      syncing : Keeps (NamesLeft names) Before s0 s2
+      syncing = keeps_joins (NamesLeft names) (names_back names) Before s0 s1 s2 appending
+          (names_synced names log Before s1 s2 (inl refl) sync (now_after (NamesLeft names) Before s0 s1 appending))
+
+      pub sync_marks : OnOk result ⊥ → Marks log map items mark s0 s2 result
+      sync_marks failed = steps_of_keeps (NamesLeft names) Before Behind s0 s2 result failed syncing
+
+      -- the sync has answered: here it turns
+      module _ (s3 : State) (durable_now : OnlyLeft (s2.log_left s2.clock journal) (s2.log journal)) (contents : s2.log journal ≡ s1.log journal) (all : s1.log log ≡ appended (s0.log log) items) (replace : MapMoves map (BecomesOneOf mark) s2 s3) where
+        only : OnlyLeft (s2.log_left s2.clock log) (s2.log log)
+        only = subst (λ (n : List ℕ). OnlyLeft (s2.log_left s2.clock n) (s2.log n)) same durable_now
+
+        whole : s2.log log ≡ appended (s0.log log) items
+        whole = subst (λ (n : List ℕ). s2.log n ≡ s1.log n) same contents ∙ all
+
+        marking : Keeps (NamesLeft names) Behind s2 s3
+        marking = names_move_map names map (λ image. (image.log log ≡ appended (s0.log log) items) × (image.map map ≡ s0.map map)) Behind s2 s3 (BecomesOneOf mark) (inl refl) replace
+            (λ image at. (only (image.log log) at.logs.0 ∙ whole, (now_after (NamesLeft names) Before s0 s2 syncing image at).map_is))
+            (λ image was held goes. record { log_is = held.0; map_is = of_map (image.map map) was (sym (with_map_here map was image) ∙ held.1) goes })
+          where
+            of_map : (now was : Map) → was ≡ s0.map map → BecomesOneOf mark was now → (now ≡ s0.map map) ⊎ (now ≡ mark)
+            of_map now was is (inl same) = inl (same ∙ is)
+            of_map now was is (inr this) = inr this
+
+        pub map_marks : Marks log map items mark s0 s3 result
+        map_marks = let turns = turns_at (NamesLeft names) (names_back names) Before Behind s0 s2 s3 syncing marking in
+            steps_of_turns (NamesLeft names) Before Behind s0 s3 result (past_joins s0 s2 s3 syncing.past marking.past) turns

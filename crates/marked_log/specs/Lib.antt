@@ -1,2 +1,1 @@
 pub mod MarkedLog
-pub mod Silent

@@ -1,36 +1,57 @@
-ghost use Rattle.std.specs.Prelude.{◌≡◌, ◌≢◌, ◌⊎◌, ◌+◌, ◌<◌, ◌^◌, ℕ, List, length, IfErr, OnOk};
-ghost use Rattle.marked_log.specs.MarkedLog.{IsUnmarked, IsMarkedAfter, OthersStay};
+ghost use Rattle.std.specs.Prelude.{◌≡◌, ◌+◌, ◌-◌, ◌<◌, ◌≤◌, ◌^◌, true, false, length, map, IfOk, IfErr, OnOk, IsErrOf};
+ghost use Rattle.journal_base.specs.Answers.{IsOfSize, RefusesUnwritten};
+ghost use Rattle.journal_base.specs.View.{log_of, SameButBounds, IsHeld};
+ghost use Rattle.marked_log.specs.MarkedLog.{AreDurable, Marks};
 ghost use Rattle.volume_base.specs.Log.{end_of, appended};
-ghost use Rattle.volume_base.specs.Moments.{PairHas, PairKeeps};
-ghost use Rattle.volume_base.specs.Volume.{OnlyLeft, Writes};
+ghost use Rattle.volume_base.specs.Names.{log_and_map, OnlyNames, OthersStay};
+ghost use Rattle.volume_base.specs.Volume.{Writes};
+ghost use Rattle.volume_base.specs.declared.error.JournalError.TheVariants.{SizeOverflow, Volume};
 
-use codec_base::Bytes;
-use volume_base::{MetaMap, Volume, VolumeError};
+use journal_base::{Backing, append_all};
+use volume_base::{JournalError, MetaMap};
 
-/// Appends items to a log, makes them durable, and then puts a map that marks them.
-pub fn append_and_mark<V: Volume>(
+/// Appends items to a journal, makes them durable, and then puts a map of this name that marks them. It refuses with
+/// `SizeOverflow` where the end would pass 2^64 - 1, and with `Volume` a journal that keeps a failed sync.
+pub fn append_and_mark<C: Backing, V: volume_base::Volume>(
+    journal: C,
     vol: &mut V,
-    log: &str,
-    items: &[Bytes],
-    map: &str,
+    items: &[C::Item],
+    name: &str,
     mark: &MetaMap,
-) -> Result<(), VolumeError>
-    requires { V.tells → end_of ((V.state vol.old).log log.now) + length items.now < 2 ^ 64 }
-    ensures appended { OnOk result (V.tells → (V.state vol.new).log log.now ≡ appended ((V.state vol.old).log log.now) items.now) }
-    ensures marked { OnOk result (V.tells → (V.state vol.new).map map.now ≡ mark.now) }
-    ensures log_durable { OnOk result (V.tells → OnlyLeft ((V.state vol.new).log_left (V.state vol.new).clock log.now) ((V.state vol.new).log log.now)) }
-    ensures map_durable { OnOk result (V.tells → OnlyLeft ((V.state vol.new).map_left (V.state vol.new).clock map.now) mark.now) }
-    // At each moment a crash leaves another map than the old one only beside the whole log.
-    ensures each_moment { V.tells → PairHas (V.state vol.old) log.now map.now (IsUnmarked ((V.state vol.old).log log.now) ((V.state vol.old).map map.now)) → PairKeeps log.now map.now (IsMarkedAfter ((V.state vol.old).log log.now) items.now ((V.state vol.old).map map.now)) (V.state vol.old) (V.state vol.new) }
+) -> Result<C, JournalError>
+    ensures kept { (C.view journal).failed ≡ true → IsErrOf result Volume × (vol.new ≡ vol.old) }
+    ensures overflow { let end = end_of (log_of (C.view journal) (V.state vol.old)) in
+        V.tells → IsErrOf result SizeOverflow → 2 ^ 64 - 1 < end + length items.now }
+    ensures fits { let end = end_of (log_of (C.view journal) (V.state vol.old)) in
+        OnOk result (V.tells → 0 < length items.now → end + length items.now ≤ 2 ^ 64 - 1) }
+    ensures made { IfOk result (λ made. SameButBounds (C.view journal) (C.view made)) }
+    ensures held { IfOk result (λ made. V.tells → IsHeld (C.view journal) (V.state vol.old) →
+        IsHeld (C.view made) (V.state vol.new)) }
+    ensures appended { let log = log_of (C.view journal) (V.state vol.old) in
+        OnOk result (V.tells →
+        log_of (C.view journal) (V.state vol.new) ≡ appended log (map C.Item.spelling items.now)) }
+    ensures marked { OnOk result (V.tells → (V.state vol.new).map name.now ≡ mark.now) }
+    ensures durable { OnOk result (V.tells → AreDurable (C.view journal).name name.now (V.state vol.new)) }
+    // Where log and map were durable: up to a turn a crash leaves the old map, and from it on all items.
+    ensures images { let log = (C.view journal).name in
+        let texts = map C.Item.spelling items.now in
+        V.tells → AreDurable log name.now (V.state vol.old) →
+        Marks log name.now texts mark.now (V.state vol.old) (V.state vol.new) result }
     // Every other log and map stays, and so does what a crash leaves of it.
-    ensures logs { V.tells → (other : List ℕ) → other ≢ log.now → (V.state vol.new).log other ≡ (V.state vol.old).log other }
-    ensures maps { V.tells → (other : List ℕ) → other ≢ map.now → (V.state vol.new).map other ≡ (V.state vol.old).map other }
-    ensures images { V.tells → OthersStay log.now map.now (V.state vol.old) (V.state vol.new) }
-    ensures errors { IfErr result (λ e. (e ≡ VolumeError.Failed) ⊎ (e ≡ VolumeError.Memory)) }
-    ensures writes { Writes V.tells VolumeError.Failed (V.state vol.old) (V.state vol.new) result }
+    ensures others { let names = log_and_map (C.view journal).name name.now in
+        V.tells → OnlyNames names (V.state vol.old) (V.state vol.new) }
+    ensures stays { let names = log_and_map (C.view journal).name name.now in
+        V.tells → OthersStay names (V.state vol.old) (V.state vol.new) }
+    ensures refused { RefusesUnwritten (V.state vol.old) (V.state vol.new) result }
+    ensures errors { IfErr result IsOfSize }
+    ensures writes { (C.view journal).failed ≡ false →
+        Writes V.tells Volume (V.state vol.old) (V.state vol.new) result }
 {
-    vol.log_append(log, items)?;
-    vol.log_sync(log)?;
-    vol.map_replace(map, mark)?;
-    Ok(())
+    if journal.keeps_failure() {
+        return Err(JournalError::Volume);
+    }
+    let journal = append_all(journal, vol, items)?;
+    let journal = journal.sync(vol)?;
+    vol.map_replace(name, mark)?;
+    Ok(journal)
 }

@@ -12,6 +12,3 @@ mod table;
 
 pub use choice::LogChoice;
 pub use memory::MemoryVolume;
-
-#[cfg(test)]
-mod tests;

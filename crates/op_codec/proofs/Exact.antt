@@ -6,7 +6,8 @@ use Rattle.codec_base.specs.Codec.{Reading, IsBytes, IsLawful}
 use Rattle.codec_base.specs.Parts.{whole, admits_optional}
 use Rattle.codec_base.specs.PartsLaws.{whole_exact, whole_again}
 use Rattle.codec_base.specs.Reads.{no_front}
-use Rattle.op_codec.specs.Commits.{max_leaves, admits_filled, IsFloor}
+use Rattle.log_model.specs.Machine.{max_leaves}
+use Rattle.op_codec.specs.Commits.{admits_filled, IsFloor}
 use Rattle.op_codec.specs.Decoding.{IsExact}
 
 module _ {A : Type 0} (allows admits : A → Type 0) (spelling : A → List ℕ) (reads : List ℕ → Reading A) (lawful : IsLawful spelling admits reads)

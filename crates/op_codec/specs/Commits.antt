@@ -1,5 +1,5 @@
 -- How a commit's metadata and floor are spelled, in both encodings.
-use Rattle.std.proofs.Common.{◌≡◌, ℕ, suc, ◌+◌, ◌^◌, List, ◌++◌, length, Option, Some, None, refl, ap, arith, inl, inr, ◌⊎◌}
+use Rattle.std.proofs.Common.{◌≡◌, ℕ, suc, ◌+◌, List, ◌++◌, length, Option, Some, None, refl, ap, arith, inl, inr, ◌⊎◌}
 use Rattle.std.proofs.lemmas.List.{length-append}
 use Rattle.codec_base.specs.declared.error.CodecError.{CodecError}
 use Rattle.codec_base.specs.declared.error.CodecError.TheVariants.{Invalid}
@@ -11,12 +11,9 @@ use Rattle.codec_base.specs.VarintLaws.{varint_lawful}
 use Rattle.codec_base.specs.Parts.{optional, optional_at, admits_optional}
 use Rattle.codec_base.specs.PartsLaws.{optional_lawful}
 use Rattle.codec_base.specs.Laws.{eight_bytes, below_64, u64_lawful}
+use Rattle.log_model.specs.Machine.{max_leaves}
 use Rattle.target_codec.specs.Target.{both_sizes}
 use Rattle.codec_base.specs.Combine.{pair_spelling, pair_admits, pair_at, pair_lawful, choice_spelling, choice_admits, choice_at, choice_lawful, through_at, through_lawful, bounded_admits, bounded_at, bounded_lawful, zeros, zeros_at, zeros_spelling, anything, zeros_lawful, length-zeros}
-
--- the most leaves of a tree
-abbrev pub max_leaves : ℕ
-max_leaves = 2 ^ 62
 
 -- a floor is a number of leaves of a tree
 abbrev pub IsFloor : ℕ → Type 0

@@ -7,7 +7,8 @@ use Rattle.codec_base.specs.Parts.{admits_optional}
 use Rattle.codec_base.specs.Combine.{pair_spelling, pair_admits, pair_at, pair_lawful, choice_spelling, choice_admits, choice_at, choice_lawful, zeros, length-zeros, sized_at, sized_lawful}
 use Rattle.op_codec.specs.declared.immutable.Operation.{Operation}
 use Rattle.op_codec.specs.declared.immutable.Operation.TheVariants.{Set, Commit}
-use Rattle.op_codec.specs.Commits.{Commits, max_leaves, variable_commit, admits_commit, variable_commit_at, variable_commit_lawful, padded, padded_at, padded_lawful, fixed_commit, admits_fixed_commit, fixed_commit_at, fixed_commit_lawful, fixed_commit_length}
+use Rattle.log_model.specs.Machine.{max_leaves}
+use Rattle.op_codec.specs.Commits.{Commits, variable_commit, admits_commit, variable_commit_at, variable_commit_lawful, padded, padded_at, padded_lawful, fixed_commit, admits_fixed_commit, fixed_commit_at, fixed_commit_lawful, fixed_commit_length}
 
 -- a key and its value, or a commit's metadata and floor
 abbrev pub Parts : Type 0 → Type 0 → Type 0

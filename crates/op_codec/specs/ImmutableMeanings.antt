@@ -1,4 +1,4 @@
--- What immutable operations mean to the log, where a test of equality decides that of keys and values.
+-- What immutable operations mean to the log; and when two are one, where tests of equality decide that of keys and values.
 use Rattle.std.proofs.Common.{◌≡◌, ℕ, Bool, false, List, Some, None, Option, refl, sym, subst}
 use Rattle.std.specs.Prelude.{◌&&◌, ◌==◌}
 use Rattle.std.specs.Bool.{Decides}
@@ -9,6 +9,9 @@ use Rattle.op_codec.specs.declared.immutable.Operation.TheVariants.{Set, Commit}
 use Rattle.op_codec.specs.Immutable.{Parts, parts, floor_of, value_of}
 use Rattle.op_codec.specs.Meanings.{same_metadata, metadata_decide}
 
+abbrev pub immutable_meaning : {F K V D A C : Type 0} → (Parts K A → List ℕ) → Meaning (Operation F K V D A C) A
+immutable_meaning spelling = record { encoding = λ op. spelling (parts op); floor = floor_of; value = value_of }
+
 module _ {K A : Type 0} (same_key : K → K → Bool) (eq : A → A → Bool) where
   -- whether two operations are one
   abbrev pub same_operation : {F V D C : Type 0} → Operation F K V D A C → Operation F K V D A C → Bool
@@ -16,9 +19,6 @@ module _ {K A : Type 0} (same_key : K → K → Bool) (eq : A → A → Bool) wh
   same_operation (Commit m f) (Commit n g) = same_metadata eq m n && (f == g)
   same_operation (Set k v) (Commit n g) = false
   same_operation (Commit m f) (Set l w) = false
-
-  abbrev pub immutable_meaning : {F V D C : Type 0} → (Parts K A → List ℕ) → Meaning (Operation F K V D A C) A
-  immutable_meaning spelling = record { encoding = λ op. spelling (parts op); floor = floor_of; value = value_of; same = same_operation }
 
   module _ (decide_key : (k l : K) → Decides (same_key k l) (k ≡ l)) (decide : (v w : A) → Decides (eq v w) (v ≡ w)) where
     pub operation_decide : {F V D C : Type 0} → (a b : Operation F K V D A C) → Decides (same_operation a b) (a ≡ b)

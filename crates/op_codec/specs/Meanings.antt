@@ -1,4 +1,4 @@
--- What operations mean to the log, where a test of equality decides that of their values.
+-- What operations mean to the log; and when two are one, where a test of equality decides that of their values.
 use Rattle.std.proofs.Common.{◌≡◌, ℕ, Bool, true, false, List, Some, None, Option, refl, sym, ap, subst}
 use Rattle.std.specs.Prelude.{◌&&◌, ◌==◌}
 use Rattle.std.specs.Bool.{Decides}
@@ -7,6 +7,9 @@ use Rattle.log_model.specs.Meaning.{Meaning}
 use Rattle.op_codec.specs.declared.keyless.Operation.{Operation}
 use Rattle.op_codec.specs.declared.keyless.Operation.TheVariants.{Append, Commit}
 use Rattle.op_codec.specs.Keyless.{Parts, parts, floor_of, value_of}
+
+abbrev pub keyless_meaning : {F V A C : Type 0} → (Parts A → List ℕ) → Meaning (Operation F V A C) A
+keyless_meaning spelling = record { encoding = λ op. spelling (parts op); floor = floor_of; value = value_of }
 
 module _ {A : Type 0} (eq : A → A → Bool) where
   abbrev pub same_metadata : Option A → Option A → Bool
@@ -21,9 +24,6 @@ module _ {A : Type 0} (eq : A → A → Bool) where
   same_operation (Commit m f) (Commit n g) = same_metadata m n && (f == g)
   same_operation (Append v) (Commit n g) = false
   same_operation (Commit m f) (Append w) = false
-
-  abbrev pub keyless_meaning : {F V C : Type 0} → (Parts A → List ℕ) → Meaning (Operation F V A C) A
-  keyless_meaning spelling = record { encoding = λ op. spelling (parts op); floor = floor_of; value = value_of; same = same_operation }
 
   module _ (decide : (v w : A) → Decides (eq v w) (v ≡ w)) where
     pub metadata_decide : (m n : Option A) → Decides (same_metadata m n) (m ≡ n)

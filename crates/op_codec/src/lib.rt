@@ -17,6 +17,3 @@ pub use target_codec::{
     CompactTarget, EngineError, Request, Response, Target, advance_laws, equality_laws,
 };
 pub use traits::{Committable, Floored, OperationTrait};
-
-#[cfg(test)]
-mod tests;

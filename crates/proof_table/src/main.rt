@@ -7,11 +7,7 @@ mod damage;
 mod elements;
 mod error;
 mod pins;
-#[cfg(test)]
-mod store_tests;
 mod table;
-#[cfg(test)]
-mod tests;
 
 use crate::error::TableError;
 use crate::table::print_family;

@@ -10,6 +10,3 @@ pub use failing::FailingCalls;
 pub use io::{ReadFailed, Sink, Source, WriteFailed};
 pub use memory::{MemorySink, MemorySource};
 pub use whole::{ReadAllError, read_all, write_all};
-
-#[cfg(test)]
-mod tests;

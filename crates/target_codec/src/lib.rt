@@ -8,6 +8,3 @@ mod target;
 pub use request::Request;
 pub use response::Response;
 pub use target::{CompactTarget, EngineError, Target, advance_laws, equality_laws};
-
-#[cfg(test)]
-mod tests;

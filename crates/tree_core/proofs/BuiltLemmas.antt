@@ -128,7 +128,7 @@ pub record PeakAt (s : Shape) (e : ℕ) (hs : List ℕ) (p : ℕ) : Type 0 where
   pub peak : PeakIn e hs first height
   pub at : s.position first height ≡ p
 
-peak_at_from : (s : Shape) (e : ℕ) (hs : List ℕ) (p : ℕ) → is_peak_at s e hs p ≡ true → PeakAt s e hs p
+pub peak_at_from : (s : Shape) (e : ℕ) (hs : List ℕ) (p : ℕ) → is_peak_at s e hs p ≡ true → PeakAt s e hs p
 peak_at_from s e [] p t = absurd (cc)
 peak_at_from s e (k ∷ ks) p t = elim (eqb_tells (s.position (e - 2 ^ k) k) p) [
   | inl same ↦ record { first = e - 2 ^ k; height = k; peak = inl (refl, refl); at = same.1 }

@@ -16,15 +16,15 @@ use Rattle.tree_store.specs.Stores.{IsUnread}
 use Rattle.tree_verification.specs.Ranges.{cover_positions, range_answer, leaf_answer, Proves}
 use Rattle.tree_verification.proofs.CoverLemmas.{cover-below}
 use Rattle.tree_verification.proofs.NeededLemmas.{cover-needed}
-use Rattle.tree_core.specs.Pruned.{made_from, IsPruned}
+use Rattle.tree_core.specs.Pruned.{IsPruned}
 use Rattle.tree_core.specs.Links.{joined_nodes}
 use Rattle.tree_core.specs.Tree.{Tree, node_at, IsSound}
 use Rattle.tree_core.specs.Batches.{Sealed, IsSoundSealed}
 use Rattle.tree_core.specs.Overlay.{overlaid}
 use Rattle.tree_core.specs.Reading.{OnlyRefusedBy}
 use Rattle.tree_core.proofs.Held.{get_is_some}
-use Rattle.tree_core.proofs.Later.{length-split}
 use Rattle.tree_core.proofs.LinkLemmas.{joined_length}
+use Rattle.tree_core.proofs.OverlayLemmas.{sealed-size}
 use Rattle.tree_core.proofs.PrunedLemmas.{peak_stands}
 
 -- what is told where each of these stands, is told at each of their positions
@@ -86,7 +86,7 @@ overlay-pruned : {D : Type 0} (s : Shape) (b : Sealed D) (t : Tree D) → IsLawf
 overlay-pruned {D = D} s b t w sound base reach bn = record {
   ended = λ p le. elim (leb_tells (length (made s b.first)) p) [
     | inl t ↦ rw t.0 (slice_get_past (joined_nodes b.links) (p - length (made s b.first)) (omega (arith, le, size)))
-    | inr u ↦ absurd (let grow = made_le s b.first b.leaves j.0 in omega (arith, u.1, grow, le))
+    | inr u ↦ absurd (let grow = made_le s b.first b.leaves j in omega (arith, u.1, grow, le))
   ];
   since = λ p le lt. there p lt (λ low. base.held.since p le (let grow = made_le s b.first t.leaves reach in omega (arith, low, grow)));
   peaks = λ x k peak.
@@ -94,15 +94,11 @@ overlay-pruned {D = D} s b t w sound base reach bn = record {
       there (s.position x k) (let grow = made_le s t.boundary b.leaves bn in omega (arith, lt, grow)) (λ low. base.held.peaks x k peak);
 }
   where
-    j : (b.first ≤ b.leaves) × (length (joined_nodes b.links) ≡ length (made_from s b.first (b.leaves - b.first)))
-    j = joined_length s b.first b.links b.leaves sound.linked
+    j : b.first ≤ b.leaves
+    j = (joined_length s b.first b.links b.leaves sound.linked).0
 
     size : length (made s b.first) + length (joined_nodes b.links) ≡ length (made s b.leaves)
-    size =
-        let all : b.first + (b.leaves - b.first) ≡ b.leaves = omega (arith, j.0) in
-        let split = length-split s b.first (b.leaves - b.first) in
-        let same : length (made s (b.first + (b.leaves - b.first))) ≡ length (made s b.leaves) = ap (λ n. length (made s n)) all in
-        omega (arith, j.1, split, same)
+    size = sealed-size s b sound
 
     there : (p : ℕ) → p < length (made s b.leaves) → (p < length (made s b.first) → IsSome (node_at t p)) → IsSome (overlaid s b t p)
     there p lt low = elim (leb_tells (length (made s b.first)) p) [

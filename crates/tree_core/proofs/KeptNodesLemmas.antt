@@ -174,15 +174,15 @@ pins_run_joined first count more es fs b s e = record {
 
 -- ---- pins and a run of which some entries are kept, and all from a later position on
 
-before_later : {D : Type 0} (es : List (ℕ × D)) (first later : ℕ) → first ≤ later → AreBefore first es → AreBefore later es
+pub before_later : {D : Type 0} (es : List (ℕ × D)) (first later : ℕ) → first ≤ later → AreBefore first es → AreBefore later es
 before_later [] first later le b = tt
 before_later (e ∷ es) first later le b = ((let lt = b.0 in omega (arith, lt)), before_later es first later le b.1)
 
-before_joined : {D : Type 0} (xs ys : List (ℕ × D)) (first : ℕ) → AreBefore first xs → AreBefore first ys → AreBefore first (xs ++ ys)
+pub before_joined : {D : Type 0} (xs ys : List (ℕ × D)) (first : ℕ) → AreBefore first xs → AreBefore first ys → AreBefore first (xs ++ ys)
 before_joined [] ys first a b = b
 before_joined (x ∷ xs) ys first a b = (a.0, before_joined xs ys first a.1 b)
 
-placed_before : {D : Type 0} (ds : List D) (first : ℕ) → AreBefore (first + length ds) (placed first ds)
+pub placed_before : {D : Type 0} (ds : List D) (first : ℕ) → AreBefore (first + length ds) (placed first ds)
 placed_before [] first = tt
 placed_before (d ∷ ds) first = ((omega arith), let e : suc first + length ds ≡ first + suc (length ds) = omega arith in subst (λ (n : ℕ). AreBefore n (placed (suc first) ds)) e (placed_before ds (suc first)))
 

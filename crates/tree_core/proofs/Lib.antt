@@ -8,6 +8,7 @@ pub mod KeptNodesLemmas
 pub mod LinkLemmas
 pub mod FoldLemmas
 pub mod TreeLemmas
+pub mod MarkLemmas
 pub mod ApplyLemmas
 pub mod PinnedLemmas
 pub mod BuiltLemmas
@@ -15,3 +16,4 @@ pub mod PinningLemmas
 pub mod RebuiltLemmas
 pub mod OverlayLemmas
 pub mod CoveredLemmas
+pub mod RestLemmas

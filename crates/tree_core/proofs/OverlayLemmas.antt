@@ -1,8 +1,8 @@
 -- A sealed batch over a tree of the same list.
 use Rattle.std.proofs.Common.{◌≡◌, ℕ, ◌+◌, ◌-◌, ◌<◌, ◌≤◌, Bool, true, false, cond, inl, inr, List, ◌++◌, length, map, Some, None, refl, sym, ◌∙◌, ap, subst, arith}
-use Rattle.std.specs.Prelude.{slice_get, nat_le, Result, Ok, Err, IfOk}
+use Rattle.std.specs.Prelude.{slice_get, nat_le, Result, Ok, Err, IfOk, IfSome, IsSome, Option}
 use Rattle.std.proofs.lemmas.List.{map-append, length-map}
-use Rattle.std.proofs.lemmas.Bool.Decides.{nat_tests}
+use Rattle.std.proofs.lemmas.Bool.Decides.{nat_tests, leb_tells}
 use Rattle.tree_shape.specs.Hashing.{Hashing}
 use Rattle.tree_shape.specs.Shape.{Shape, made, IsLawful}
 use Rattle.tree_shape.specs.Places.{get-append}
@@ -14,8 +14,9 @@ use Rattle.tree_core.specs.Tree.{Tree, node_at, IsOf}
 use Rattle.tree_core.specs.Batches.{Sealed, IsSoundSealed, IsSealedOf, sealed_node}
 use Rattle.tree_core.specs.Overlay.{overlaid, AreAlike}
 use Rattle.tree_shape.proofs.NeededLemmas.{made_le}
-use Rattle.tree_core.proofs.Later.{get_past, get_front, made-split, nodes-grow}
-use Rattle.tree_core.proofs.LinkLemmas.{joined_of, ends_with}
+use Rattle.tree_core.proofs.Held.{get_is_some}
+use Rattle.tree_core.proofs.Later.{get_past, get_front, made-split, length-split, nodes-grow}
+use Rattle.tree_core.proofs.LinkLemmas.{joined_of, joined_length, ends_with}
 
 -- the nodes of a list that another begins, or that it begins, as far as both go
 nodes-alike : {D : Type 0} (s : Shape) (h : Hashing D) (all other : List D) (p : ℕ) (d : D) → IsLawful s → AreAlike all other → p < length (nodes s h other) → slice_get (nodes s h all) p ≡ Some d → slice_get (nodes s h other) p ≡ Some d
@@ -27,7 +28,7 @@ nodes-alike s h all other p d w alike lt e = elim alike [
 ]
 
 -- what the segments have is the list's
-sealed-right : {D : Type 0} (s : Shape) (h : Hashing D) (other : List D) (b : Sealed D) (p : ℕ) (d : D) → IsSealedOf s h other b → length (made s b.first) ≤ p
+pub sealed-right : {D : Type 0} (s : Shape) (h : Hashing D) (other : List D) (b : Sealed D) (p : ℕ) (d : D) → IsSealedOf s h other b → length (made s b.first) ≤ p
     → slice_get (joined_nodes b.links) (p - length (made s b.first)) ≡ Some d → slice_get (nodes s h other) p ≡ Some d
 sealed-right s h other b p d of le e =
     let j = joined_of s h other b.first b.links of.linked in
@@ -38,6 +39,40 @@ sealed-right s h other b p d of le e =
     ap (λ n. map (node_of s h other) (made s n)) (sym all) ∙ ap (map (node_of s h other)) (made-split s b.first (length other - b.first)) ∙ map-append (node_of s h other) (made s b.first) (made_from s b.first (length other - b.first)) in
     ap (λ ns. slice_get ns p) split ∙ ap (λ i. slice_get (map (node_of s h other) (made s b.first) ++ nodes_from s h other b.first (length other - b.first)) i) (sym at)
     ∙ get_past (map (node_of s h other) (made s b.first)) (nodes_from s h other b.first (length other - b.first)) (p - size) ∙ ap (λ ns. slice_get ns (p - size)) (sym j.1) ∙ e
+
+-- the nodes before them and their own are those of the batch's leaves
+pub sealed-size : {D : Type 0} (s : Shape) (b : Sealed D) → IsSoundSealed s b → length (made s b.first) + length (joined_nodes b.links) ≡ length (made s b.leaves)
+sealed-size s b sound =
+    let j = joined_length s b.first b.links b.leaves sound.linked in
+    let all : b.first + (b.leaves - b.first) ≡ b.leaves = omega (arith, j.0) in
+    let split = length-split s b.first (b.leaves - b.first) in
+    let same : length (made s (b.first + (b.leaves - b.first))) ≡ length (made s b.leaves) = ap (λ n. length (made s n)) all in
+    omega (arith, j.1, split, same)
+
+-- so from there on each node is there
+pub sealed-since : {D : Type 0} (s : Shape) (b : Sealed D) (p : ℕ) → IsSoundSealed s b → length (made s b.first) ≤ p → p < length (made s b.leaves) → IsSome (sealed_node s b p)
+sealed-since s b p sound le lt = elim (leb_tells (length (made s b.first)) p) [
+  | inl t ↦ rw t.0 (get_is_some (joined_nodes b.links) (p - length (made s b.first)) (omega (arith, le, lt, sealed-size s b sound)))
+  | inr u ↦ absurd (omega (arith, le, u.1))
+]
+
+-- and before there none is
+pub sealed-before : {D : Type 0} (s : Shape) (b : Sealed D) (p : ℕ) → p < length (made s b.first) → sealed_node s b p ≡ None
+sealed-before s b p lt = elim (leb_tells (length (made s b.first)) p) [
+  | inl t ↦ absurd (omega (arith, lt, t.1))
+  | inr u ↦ rw u.0 refl
+]
+
+-- a node that it has is the list's
+pub sealed-node : {D : Type 0} (s : Shape) (h : Hashing D) (other : List D) (b : Sealed D) (p : ℕ) (d : D) → IsSealedOf s h other b → sealed_node s b p ≡ Some d → slice_get (nodes s h other) p ≡ Some d
+sealed-node s h other b p d of is = elim (leb_tells (length (made s b.first)) p) [
+  | inl t ↦ sealed-right s h other b p d of t.1 (rw t.0 at is)
+  | inr u ↦ absurd (let none = rw u.0 at is in cc)
+]
+
+pub sealed-told : {D : Type 0} (s : Shape) (b : Sealed D) (p : ℕ) (o : Option D) → o ≡ sealed_node s b p → IfSome o (λ d. (h : Hashing D) (other : List D) → IsSealedOf s h other b → slice_get (nodes s h other) p ≡ Some d)
+sealed-told s b p (Some d) e = λ h other of. sealed-node s h other b p d of (sym e)
+sealed-told s b p None e = tt
 
 -- both together are the tree of the batch's list
 pub overlay-tree : {D : Type 0} (s : Shape) (h : Hashing D) (all other : List D) (b : Sealed D) (t : Tree D) → IsLawful s → IsSoundSealed s b → IsOf s h all t → IsSealedOf s h other b → AreAlike all other → IsTreeOf s h other b.leaves (overlaid s b t)

@@ -1,11 +1,11 @@
 -- A tree in memory, as contracts see it.
-use Rattle.std.specs.Prelude.{◌≡◌, ℕ, ◌+◌, ◌-◌, ◌^◌, ◌<◌, ◌≤◌, min, List, [], length, Option, None, Result, Ok, Err, slice_get, is_some, false, nat_le, if◌then◌else◌}
+use Rattle.std.specs.Prelude.{◌≡◌, ℕ, ◌+◌, ◌-◌, ◌^◌, ◌<◌, ◌≤◌, min, List, [], length, Option, None, Result, Ok, Err, slice_get, is_some, false, nat_le, Bool, ◌||◌, if◌then◌else◌}
 use Rattle.tree_shape.specs.Hashing.{Hashing}
 use Rattle.tree_shape.specs.Shape.{Shape, made}
 use Rattle.tree_store.specs.declared.error.Error.{Error}
 use Rattle.tree_store.specs.declared.error.Error.TheVariants.{LocationOverflow, LeafOutOfBounds, InvalidPinnedNodes, MissingNode, Memory}
 use Rattle.tree_shape.specs.Sizes.{HasSize}
-use Rattle.tree_core.specs.Pruned.{IsPruned, keeps, pruned, Extends}
+use Rattle.tree_core.specs.Pruned.{IsPruned, is_peak_at, keeps, pruned, Extends}
 use Rattle.tree_store.specs.Stores.{IsTreeOf}
 use Rattle.tree_core.specs.Reading.{ArePeaks}
 use Rattle.tree_core.specs.KeptNodes.{entry_at, ArePinsThenRun}
@@ -44,6 +44,16 @@ pub record IsPrunedTo {D : Type 0} (s : Shape) (loc : ℕ) (t u : Tree D) : Type
   pub leaves : u.leaves ≡ t.leaves
   pub boundary : u.boundary ≡ loc
   pub nodes : (p : ℕ) → node_at u p ≡ pruned s loc (node_at t) p
+
+-- a tree of n leaves at rest keeps this position: a peak of its leaves, or of b leaves
+abbrev pub rests : Shape → ℕ → ℕ → ℕ → Bool
+rests s n b p = is_peak_at s n (s.heights n) p || is_peak_at s b (s.heights b) p
+
+-- u is t at rest: pruned to its leaves, with the peaks of b leaves that t has
+pub record IsRested {D : Type 0} (s : Shape) (b : ℕ) (t u : Tree D) : Type 0 where
+  pub leaves : u.leaves ≡ t.leaves
+  pub boundary : u.boundary ≡ t.leaves
+  pub nodes : (p : ℕ) → node_at u p ≡ (if rests s t.leaves b p then node_at t p else None)
 
 -- whether a tree of n leaves can be pruned to loc
 abbrev pub prune_answer : {F : Type 0} → ℕ → ℕ → Result (Unit {0}) (Error F)

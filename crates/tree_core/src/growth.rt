@@ -1,8 +1,7 @@
 //! What appends make after a mark.
 ghost use Rattle.std.specs.Prelude.{◌≡◌, ℕ, ◌+◌, ◌-◌, ◌≤◌, ◌<◌, ◌^◌, List, length, map, take, OnOk, IfOk, Some};
-ghost use Rattle.tree_shape.specs.Hashing.{Hashing};
-ghost use Rattle.tree_shape.specs.Kept.{PeakOf};
-ghost use Rattle.tree_shape.specs.Slow.{node, node_of};
+ghost use Rattle.tree_shape.specs.Shape.{peaks_down};
+ghost use Rattle.tree_shape.specs.Slow.{node_of};
 ghost use Rattle.tree_core.specs.Pruned.{made_from, nodes_from, peaks_at, Continues};
 ghost use Rattle.tree_core.specs.Reading.{TellsPeaks};
 
@@ -70,8 +69,7 @@ pub(crate) fn mark_of<F: Family, D: Digest, P: Peaks<F, D>>(
     requires few { leaves ≤ 2 ^ 62 }
     requires there { TellsPeaks F.shape leaves (P.told peaks.now) }
     ensures leaves { IfOk result (λ m. m.leaves ≡ leaves) }
-    ensures peaks { IfOk result (λ m. (h : Hashing D) (all : List D) →
-        ((x k : ℕ) → PeakOf F.shape leaves x k → P.told peaks.now x k ≡ Some (node F.shape h all x k)) → m.peaks.items ≡ peaks_at F.shape h all leaves) }
+    ensures peaks { IfOk result (λ m. map Some m.peaks.items ≡ map (λ c. P.told peaks.now c.0 c.1) (peaks_down leaves (F.shape.heights leaves))) }
 {
     let mut digests = Vec::new(alloc);
     let mut end = leaves;

@@ -5,6 +5,7 @@ ghost use Rattle.tree_shape.specs.Sizes.{HasSize};
 ghost use Rattle.tree_core.specs.Pruned.{is_peak_at, keeps};
 ghost use Rattle.tree_core.specs.Reading.{ArePeaks};
 ghost use Rattle.tree_core.specs.KeptNodes.{entry_at, AreBefore};
+ghost use Rattle.tree_core.specs.Tree.{rests};
 
 use crate::Error;
 use std::alloc::{AllocError, Global};
@@ -33,6 +34,15 @@ pub(crate) fn is_kept<F: Family>(leaves: u64, position: u64) -> bool
     ensures { result ≡ keeps F.shape leaves position }
 {
     F::size(leaves) <= position || is_peak_position::<F>(leaves, position)
+}
+
+/// Whether a tree of so many leaves keeps what stands here when it rests, with the peaks of `boundary` leaves.
+pub(crate) fn is_resting<F: Family>(leaves: u64, boundary: u64, position: u64) -> bool
+    requires few { leaves ≤ 2 ^ 62 }
+    requires low { boundary ≤ 2 ^ 62 }
+    ensures { result ≡ rests F.shape leaves boundary position }
+{
+    is_peak_position::<F>(leaves, position) || is_peak_position::<F>(boundary, position)
 }
 
 /// The peaks of a number of leaves, the oldest first, each at its position.

@@ -25,6 +25,3 @@ pub use tree_shape::{
 };
 pub use tree_store::{Error, Readable, Storage, TreeData};
 pub use unsealed::UnmerkleizedBatch;
-
-#[cfg(test)]
-mod tests;

@@ -1,5 +1,5 @@
 use crate::growth::mark_of;
-use crate::kept::{is_kept, leaves_with, pins_of};
+use crate::kept::{is_kept, is_resting, leaves_with, pins_of};
 use crate::kept_nodes::{node_among, push_all, with_pins};
 use crate::mark::Mark;
 use crate::peaks::{Peaks, root_from};
@@ -58,16 +58,17 @@ impl<F: Family, D: Digest> Mem<F, D> {
     ghost use Rattle.tree_shape.specs.Root.{root, root_over};
     ghost use Rattle.tree_core.specs.Pruned.{made_from, nodes_from, peaks_at, Extends};
     ghost use Rattle.tree_core.specs.Reading.{ArePeaks, OnlyRefusedBy};
-    ghost use Rattle.tree_core.specs.Tree.{Tree, node_at, IsSound, IsOf, IsPrunedTo, IsGrown, IsBuilt, NotBuilt, IsPinned, empty_tree, prune_answer};
+    ghost use Rattle.tree_core.specs.Tree.{Tree, node_at, IsSound, IsOf, IsPrunedTo, IsGrown, IsBuilt, NotBuilt, IsPinned, IsRested, empty_tree, prune_answer};
     ghost use Rattle.tree_core.specs.Batches.{BeginsAt, StandsAt, IsUnsealedOf, IsSealedOf};
-    ghost use Rattle.tree_core.specs.Applied.{IsLonger, Fits, Refused};
+    ghost use Rattle.tree_core.specs.Applied.{IsLonger, IsMarkOf, FitsTree, RefusedByTree, Fits, Refused};
     ghost use Rattle.tree_proof.specs.Cover.{meets};
     ghost use Rattle.tree_verification.specs.Ranges.{range_answer, leaf_answer, Proves};
 
-    /// The empty tree. It takes no memory.
+    /// The empty tree, where memory allows.
     pub fn new(alloc: Global) -> Result<Self, Error<F>>
-        ensures empty { result ≡ Ok empty_tree }
+        ensures empty { IfOk result (λ t. t ≡ empty_tree) }
         ensures tree { IfOk result (λ t. (h : Hashing D) → IsOf F.shape h [] t) }
+        ensures memory { IsOkUnless result Error.Memory }
     {
         Ok(Mem {
             alloc,
@@ -233,6 +234,21 @@ impl<F: Family, D: Digest> Mem<F, D> {
         }
     }
 
+    /// Prunes to the leaves, but keeps the peaks of `boundary` leaves that it has. It takes no memory.
+    pub fn rest(&mut self, boundary: Location<F>)
+        requires { boundary ≤ 2 ^ 62 }
+        ensures rested { IsRested F.shape boundary self.old self.new }
+        ensures sound { IsSound F.shape self.new }
+        ensures tree { (h : Hashing D) (all : List D) → IsOf F.shape h all self.old → IsOf F.shape h all self.new }
+    {
+        let leaves = self.leaves;
+        let kept = boundary.as_u64();
+        self.nodes
+            .retain(|entry| is_resting::<F>(leaves, kept, entry.0));
+        self.pins = self.nodes.len();
+        self.boundary = leaves;
+    }
+
     /// Keeps more nodes of this tree, where it has none, until a prune moves the boundary.
     pub fn add_pinned_nodes(&mut self, pins: BTreeMap<Position<F>, D>) -> Result<(), Error<F>>
         requires { (p : ℕ) (d : D) → get nat_cmp pins p ≡ Some d → p < length (made F.shape self.old.leaves) }
@@ -251,6 +267,7 @@ impl<F: Family, D: Digest> Mem<F, D> {
     /// The mark of the tree.
     pub(crate) fn mark(&self) -> Result<Mark<F, D>, AllocError>
         ensures leaves { IfOk result (λ m. m.leaves ≡ self.now.leaves) }
+        ensures mark { IfOk result (λ m. IsMarkOf F.shape self.now m.leaves m.peaks.items) }
         ensures peaks { IfOk result (λ m. (h : Hashing D) (all : List D) → IsOf F.shape h all self.now → m.peaks.items ≡ peaks_at F.shape h all self.now.leaves) }
     {
         let mark = mark_of::<F, D, Mem<F, D>>(self.alloc, self, self.leaves)?;
@@ -273,6 +290,7 @@ impl<F: Family, D: Digest> Mem<F, D> {
     /// An empty batch on this tree.
     pub fn new_batch(&self) -> Result<UnmerkleizedBatch<F, D>, Error<F>>
         ensures begins { IfOk result (λ b. BeginsAt self.now.leaves b) }
+        ensures marked { IfOk result (λ b. IsMarkOf F.shape self.now b.began b.peaks × IsMarkOf F.shape self.now b.base b.base_peaks) }
         ensures batch { IfOk result (λ b. (h : Hashing D) (all : List D) → IsOf F.shape h all self.now → IsUnsealedOf F.shape h all b) }
         ensures memory { IsOkUnless result Error.Memory }
     {
@@ -285,6 +303,7 @@ impl<F: Family, D: Digest> Mem<F, D> {
     /// An empty sealed batch of this tree.
     pub fn to_batch(&self) -> Result<MerkleizedBatch<F, D>, Error<F>>
         ensures stands { IfOk result (λ b. StandsAt self.now.leaves b) }
+        ensures marked { IfOk result (λ b. IsMarkOf F.shape self.now b.began b.peaks × FitsTree F.shape self.now b 0) }
         ensures batch { IfOk result (λ b. (h : Hashing D) (all : List D) → IsOf F.shape h all self.now → IsSealedOf F.shape h all b) }
         ensures memory { IsOkUnless result Error.Memory }
     {
@@ -297,23 +316,40 @@ impl<F: Family, D: Digest> Mem<F, D> {
         Ok(MerkleizedBatch::seal(self.alloc, boundary, segments, self.leaves, self.leaves))
     }
 
-    /// Appends what the batch has behind the mark of this tree. Refuses, in this order: `AncestorDropped` of a batch that began at
-    /// this tree but no longer has what stands behind it, `StaleBatch` of another that doesn't fit; or with `Memory`.
+    /// The place, among the batch's kept segments, of one that goes on from the mark of this tree. Refuses, in this order:
+    /// `AncestorDropped` of a batch that began at this tree but no longer has what stands behind it, `StaleBatch` of another that
+    /// doesn't fit; or with `Memory`.
+    pub fn place_of(&self, batch: &MerkleizedBatch<F, D>) -> Result<u64, Error<F>>
+        ensures place { IfOk result (λ i. FitsTree F.shape self.now batch.now i) }
+        ensures answer { IfErr result (RefusedByTree F.shape self.now batch.now) }
+        ensures fits { IfOk result (λ i. (h : Hashing D) (all : List D) → IsOf F.shape h all self.now → Fits F.shape h all self.now.leaves batch.now i) }
+        ensures refused { IfErr result (λ e. (h : Hashing D) (all : List D) → IsOf F.shape h all self.now → Refused F.shape h all self.now.leaves batch.now e) }
+    {
+        let mark = self.mark()?;
+        match batch.place_of(&mark) {
+            Some(place) => Ok(place as u64),
+            None => Err(batch.refusal(&mark)),
+        }
+    }
+
+    /// Appends what the batch has behind the mark of this tree. Refuses as `place_of`.
     pub fn apply_batch(&mut self, batch: &MerkleizedBatch<F, D>) -> Result<(), Error<F>>
         ensures longer { OnOk result (IsLonger F.shape batch.now.leaves self.old self.new) }
+        ensures marked { OnOk result ((i : ℕ) × FitsTree F.shape self.old batch.now i) }
+        ensures answer { IfErr result (RefusedByTree F.shape self.old batch.now) }
         ensures fits { OnOk result ((h : Hashing D) (all : List D) → IsOf F.shape h all self.old → (i : ℕ) × Fits F.shape h all self.old.leaves batch.now i) }
         ensures tree { OnOk result ((h : Hashing D) (all made : List D) → IsOf F.shape h all self.old → IsSealedOf F.shape h made batch.now → IsOf F.shape h (all ++ drop (length all) made) self.new) }
         ensures refused { IfErr result (λ e. (h : Hashing D) (all : List D) → IsOf F.shape h all self.old → Refused F.shape h all self.old.leaves batch.now e) }
         ensures err { OnErr result (self.new ≡ self.old) }
     {
-        let mark = self.mark()?;
-        match batch.place_of(&mark) {
-            Some(place) => {
-                let nodes = batch.nodes_from_place(self.alloc, place)?;
-                self.append_nodes(&nodes, batch.leaves().as_u64() - mark.leaves)?;
+        match self.place_of(batch) {
+            Ok(place) => {
+                let later = batch.leaves().as_u64() - self.leaves;
+                let nodes = batch.nodes_from_place(self.alloc, place as usize)?;
+                self.append_nodes(&nodes, later)?;
                 Ok(())
             }
-            None => Err(batch.refusal(&mark)),
+            Err(error) => Err(error),
         }
     }
 }

@@ -32,10 +32,11 @@ impl<F: Family, D: Digest> Model for MerkleizedBatch<F, D> {
 }
 
 impl<F: Family, D: Digest> MerkleizedBatch<F, D> {
-    ghost use Rattle.std.specs.Prelude.{◌≡◌, ℕ, ◌+◌, ◌-◌, ◌≤◌, ◌<◌, ◌^◌, List, [], length, map, drop, slice_get, IfOk, IfSome, IsOk, IsOkUnless};
+    ghost use Rattle.std.specs.Prelude.{◌≡◌, ℕ, ◌+◌, ◌-◌, ◌≤◌, ◌<◌, ◌^◌, List, [], length, map, drop, slice_get, Some, None, IfOk, IfSome, IsOk, IsOkUnless, IsSome};
     ghost use Rattle.tree_shape.specs.Hashing.{Hashing};
     ghost use Rattle.tree_shape.specs.Shape.{made};
     ghost use Rattle.tree_shape.specs.Root.{root};
+    ghost use Rattle.tree_shape.specs.Slow.{nodes};
     ghost use Rattle.tree_core.specs.Links.{ChainSegment, IsLinked, HasMark, joined_nodes};
     ghost use Rattle.tree_core.specs.Batches.{Sealed, IsSoundSealed, IsSealedOf, IsUnsealedOf, IsChildOf, sealed_node};
     ghost use Rattle.tree_core.specs.Applied.{WhyNot};
@@ -43,7 +44,8 @@ impl<F: Family, D: Digest> MerkleizedBatch<F, D> {
     ghost use Rattle.tree_core.specs.Overlay.{overlaid, AreAlike};
     ghost use Rattle.tree_core.specs.Reading.{OnlyRefusedBy};
     ghost use Rattle.tree_proof.specs.Cover.{meets};
-    ghost use Rattle.tree_verification.specs.Ranges.{range_answer, leaf_answer, proof_of, Proves};
+    ghost use Rattle.tree_verification.specs.Ranges.{range_answer, leaf_answer, Proves};
+    ghost use Rattle.tree_proof.specs.SlowProof.{proof_of};
 
     /// The batch of these segments, whose leaves follow one another from `first` to `leaves`.
     pub(crate) fn seal(
@@ -78,6 +80,7 @@ impl<F: Family, D: Digest> MerkleizedBatch<F, D> {
     pub fn leaves(&self) -> Location<F>
         ensures leaves { result ≡ self.now.leaves }
         ensures valid { result ≤ 2 ^ 62 }
+        ensures sound { IsSoundSealed F.shape self.now }
     {
         Location::new(self.leaves)
     }
@@ -97,9 +100,12 @@ impl<F: Family, D: Digest> MerkleizedBatch<F, D> {
         F::size(self.first)
     }
 
-    /// The node at a position, of those that this batch and its kept ancestors made.
+    /// The node at a position, of those that this batch and its kept ancestors made: each from the size of their first leaf on.
     pub fn get_node(&self, pos: Position<F>) -> Option<D>
-        ensures { result ≡ sealed_node F.shape self.now pos }
+        ensures told { result ≡ sealed_node F.shape self.now pos }
+        ensures node { IfSome result (λ d. (h : Hashing D) (all : List D) → IsSealedOf F.shape h all self.now → slice_get (nodes F.shape h all) pos ≡ Some d) }
+        ensures before { pos < length (made F.shape self.now.first) → result ≡ None }
+        ensures since { length (made F.shape self.now.first) ≤ pos → pos < length (made F.shape self.now.leaves) → IsSome result }
     {
         let first = self.first_position();
         if pos.as_u64() < first {

@@ -16,6 +16,3 @@ pub use known::{Items, Known};
 pub use laws::{cover_count_law, one_root_law, slow_pins_law, slow_proof_law};
 pub use pinned::verify_proof_and_pinned_nodes;
 pub use proof::Proof;
-
-#[cfg(test)]
-mod tests;

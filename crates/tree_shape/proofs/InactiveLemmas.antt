@@ -1,11 +1,11 @@
 -- The peaks that end at or below a floor stand before the others.
-use Rattle.std.proofs.Common.{ℕ, ◌+◌, ◌-◌, ◌^◌, ◌<◌, ◌≤◌, inl, inr, List, [], ◌∷◌, ◌++◌, length, take, drop, reverse, sym, ◌∙◌, subst, arith}
+use Rattle.std.proofs.Common.{ℕ, ◌+◌, ◌-◌, ◌^◌, ◌<◌, ◌≤◌, inl, inr, List, [], ◌∷◌, ◌++◌, ◌≡◌, length, take, drop, reverse, sym, ◌∙◌, subst, arith}
 use Rattle.std.specs.Prelude.{All, count_by}
 use Rattle.std.proofs.lemmas.Bool.{cases_lt}
 use Rattle.std.proofs.lemmas.List.{reverse-append, length-reverse, take_all, drop_all, take-append-le, drop-append-le}
 use Rattle.std.proofs.lemmas.List.Elements.{All-nil, All-cons, All-append}
 use Rattle.std.proofs.lemmas.List.Sums.{count_by-le-length}
-use Rattle.tree_shape.specs.Shape.{Shape, PeaksStand, peaks_down, ends_by}
+use Rattle.tree_shape.specs.Shape.{Shape, made, PeaksStand, IsLawful, peaks_down, ends_by, inactive}
 use Rattle.tree_shape.proofs.NodeLemmas.{past_count, all_count}
 use Rattle.tree_shape.proofs.PinLemmas.{length-peaks_down}
 
@@ -59,3 +59,14 @@ inactive_lead s cs f e (k ∷ ks) p = elim (cases_lt f e) [
       let all = length-reverse (peaks_down e (k ∷ ks)) ∙ length-peaks_down e (k ∷ ks) in
       all_lead f (rising e (k ∷ ks)) _ (omega (arith, count, all)) (all_within s cs f e (k ∷ ks) le p)
 ]
+
+-- no more are inactive than there are peaks
+pub inactive-within : (s : Shape) (n f : ℕ) → inactive s n f ≤ length (s.heights n)
+inactive-within s n f =
+    let few = count_by-le-length (ends_by f) (peaks_down n (s.heights n)) in
+    let long = length-peaks_down n (s.heights n) in
+    omega (arith, few, long)
+
+-- all are, where the leaves are the floor
+pub inactive-all : (s : Shape) → IsLawful s → (n : ℕ) → inactive s n n ≡ length (s.heights n)
+inactive-all s w n = all_count s (made s n) n n (s.heights n) (omega arith) (w.peaks n)

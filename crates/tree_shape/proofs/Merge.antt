@@ -6,7 +6,8 @@ use Rattle.std.proofs.Math.Nat.{pow-suc}
 use Rattle.std.proofs.lemmas.Nat.{leading_top, pow_below, one_shl}
 use Rattle.std.proofs.lemmas.Bool.Decides.{eqb_tells}
 use Rattle.tree_shape.specs.Mmb.{merge, mmb_heights, mmb_size, mmb_position}
-use Rattle.tree_shape.proofs.MmbBits.{mmb_heights-odd, mmb_heights-even, mmb_peaks-digits}
+use Rattle.tree_shape.specs.MmbSize.{mmb_peaks-digits}
+use Rattle.tree_shape.proofs.MmbBits.{mmb_heights-odd, mmb_heights-even}
 use Rattle.tree_shape.proofs.MmrBits.{raised}
 use Rattle.std.specs.Int.{bit_at, trailing_ones}
 use Rattle.std.proofs.lemmas.Nat.{shr-shr}

@@ -1,12 +1,12 @@
 -- What a tree needs later is at hand before.
-use Rattle.std.proofs.Common.{◌≡◌, ℕ, zero, suc, ◌+◌, ◌-◌, ◌^◌, ◌<◌, ◌≤◌, ◌⊎◌, inl, inr, List, [], ◌∷◌, ◌++◌, length, Some, refl, sym, ◌∙◌, ap, subst, arith, length-append}
+use Rattle.std.proofs.Common.{◌≡◌, ℕ, zero, suc, ◌+◌, ◌-◌, ◌^◌, ◌<◌, ◌≤◌, ◌⊎◌, inl, inr, List, [], ◌∷◌, ◌++◌, length, Some, sym, ◌∙◌, ap, subst, arith, length-append}
 use Rattle.std.specs.Prelude.{slice_get}
 use Rattle.std.proofs.lemmas.Bool.{cases_lt}
 use Rattle.std.proofs.lemmas.Option.{some_pair_parts, slice_get_within}
 use Rattle.tree_shape.specs.Shape.{Shape, made, Stands, IsLawful}
 use Rattle.tree_shape.specs.Places.{get-append, get-behind}
 use Rattle.tree_shape.specs.Kept.{PeakOf, IsPeakOrLater, KeepsPeaks}
-use Rattle.tree_shape.specs.Needed.{IsNeeded, IsChildPast}
+use Rattle.tree_shape.specs.Needed.{IsNeeded}
 
 -- a place of a joined list is one of the first list or of the second
 pub data Side {X : Type 0} (xs ys : List X) (i : ℕ) (x : X) : Type 0 where

@@ -7,6 +7,7 @@ pub mod Places
 pub mod MmrSize
 pub mod MmrPlaces
 pub mod MmbPlaces
+pub mod MmbSize
 pub mod Kept
 pub mod Needed
 pub mod Pins

@@ -4,7 +4,7 @@ use Rattle.std.proofs.lemmas.List.{length-map}
 use Rattle.std.specs.Prelude.{count_ones, ◌==◌}
 use Rattle.std.proofs.Math.Dec.{eqb-suc-suc, eqb-zero-suc}
 use Rattle.std.proofs.lemmas.Bool.Decides.{eqb_tells}
-use Rattle.std.proofs.lemmas.Nat.{ones_le_self}
+use Rattle.std.proofs.lemmas.Nat.{ones_le_self, ones-le}
 use lib.Count.{ones_step}
 use Rattle.tree_shape.specs.Shape.{made}
 use Rattle.tree_shape.specs.Mmr.{joined, joins, mmr_heights, mmr_size, mmr}
@@ -83,3 +83,7 @@ length-made_mmr n = omega (arith, made_count n, length-mmr_heights n)
 
 pub mmr_small : (n : ℕ) → length (made mmr n) ≤ 2 * n
 mmr_small n = omega (arith, made_count n)
+
+-- as many ones as 2^62 leaves have digits
+pub mmr_few_peaks : (n : ℕ) → n ≤ 2 ^ 62 → length (mmr_heights n) ≤ 64
+mmr_few_peaks n few = let digits = ones-le 63 n (omega (arith, few)) in omega (arith, length-mmr_heights n, digits)

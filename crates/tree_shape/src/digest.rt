@@ -1,9 +1,9 @@
 ghost use Rattle.std.specs.Prelude.{◌≡◌, ℕ, List, length};
 
-use codec_base::{EncodeSize, FixedSize, Read, Write};
+use codec_base::{Duplicate, EncodeSize, FixedSize, Read, Write};
 
 /// What a hash function answers.
-pub trait Digest: Copy + Eq + Drop + Write + EncodeSize + FixedSize + Read<Cfg = ()> {
+pub trait Digest: Copy + Eq + Drop + Duplicate + Write + EncodeSize + FixedSize + Read<Cfg = ()> {
     /// Its bytes.
     ghost bytes: { Self → List ℕ };
 

@@ -49,6 +49,9 @@ pub trait Family: Drop {
     /// A tree has at most twice as many nodes as leaves.
     ghost small: { (n : ℕ) → length (made shape n) ≤ 2 * n };
 
+    /// A tree has at most 64 peaks.
+    ghost few_peaks: { (n : ℕ) → n ≤ 2 ^ 62 → length (shape.heights n) ≤ 64 };
+
     /// The number of nodes of a number of leaves, which is the position of the next leaf.
     final fn location_to_position(loc: Location<Self>) -> Position<Self>
         requires { loc ≤ 2 ^ 62 }

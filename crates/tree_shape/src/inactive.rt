@@ -1,4 +1,4 @@
-ghost use Rattle.std.specs.Prelude.{◌≡◌, ℕ, ◌+◌, ◌≤◌, ◌<◌, ◌^◌, All, take, drop};
+ghost use Rattle.std.specs.Prelude.{◌≡◌, ℕ, ◌+◌, ◌≤◌, ◌<◌, ◌^◌, All, take, drop, length};
 ghost use Rattle.tree_shape.specs.Shape.{inactive, peaks};
 
 use crate::{Family, width};
@@ -20,7 +20,10 @@ pub(crate) fn inactive_of<F: Family>(n: u64, floor: u64) -> u64
 }
 
 /// The peaks that end at or below a floor lead: of the peaks of n leaves, the oldest first, the first `inactive` do, and no other.
+/// With the leaves as the floor they are all the peaks.
 pub fn inactive_law<F: Family>()
     ensures leading { (n f : ℕ) → All (λ p. p.0 + 2 ^ p.1 ≤ f) (take (inactive F.shape n f) (peaks F.shape n)) }
     ensures others { (n f : ℕ) → All (λ p. f < p.0 + 2 ^ p.1) (drop (inactive F.shape n f) (peaks F.shape n)) }
+    ensures within { (n f : ℕ) → inactive F.shape n f ≤ length (F.shape.heights n) }
+    ensures all { (n : ℕ) → inactive F.shape n n ≡ length (F.shape.heights n) }
 {}

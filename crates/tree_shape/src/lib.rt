@@ -29,14 +29,11 @@ pub use inactive::inactive_law;
 pub use mmb::Mmb;
 pub use mmr::Mmr;
 pub use needed::needed_nodes;
-pub use pins::Pins;
-pub use places::{Location, MAX_LEAVES, Position};
+pub use pins::{Pins, few_peaks_law};
+pub use places::{Location, MAX_LEAVES, MAX_PINNED_NODES, Position};
 pub use root::{root_digest, root_of_peaks};
 pub use sha256::{Sha256Digest, Sha256Hasher};
 pub use slow::{slow_node, slow_peaks, slow_root};
 pub use standard::{Standard, begin, update_number};
 pub use table::table_laws;
 pub use widths::{half_width, width};
-
-#[cfg(test)]
-mod tests;

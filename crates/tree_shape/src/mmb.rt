@@ -17,6 +17,7 @@ fn size(n: u64) -> u64
 impl Family for Mmb {
     ghost use Rattle.tree_shape.specs.Mmb.{mmb};
     ghost use Rattle.tree_shape.specs.MmbPlaces.{mmb_lawful, mmb_small};
+    ghost use Rattle.tree_shape.specs.MmbSize.{mmb_few_peaks};
     ghost use Rattle.tree_shape.specs.MmbKept.{mmb_keeps};
 
     ghost shape = { mmb };
@@ -26,6 +27,8 @@ impl Family for Mmb {
     ghost keeps = { mmb_keeps };
 
     ghost small = { mmb_small };
+
+    ghost few_peaks = { mmb_few_peaks };
 
     fn position(start: u64, height: u32) -> u64 {
         if height == 0 {

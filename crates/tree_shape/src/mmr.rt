@@ -18,7 +18,7 @@ impl Family for Mmr {
     ghost use Rattle.tree_shape.specs.Mmr.{mmr};
     ghost use Rattle.tree_shape.specs.MmrPlaces.{mmr_lawful};
     ghost use Rattle.tree_shape.specs.MmrKept.{mmr_keeps};
-    ghost use Rattle.tree_shape.specs.MmrSize.{mmr_small};
+    ghost use Rattle.tree_shape.specs.MmrSize.{mmr_small, mmr_few_peaks};
 
     ghost shape = { mmr };
 
@@ -27,6 +27,8 @@ impl Family for Mmr {
     ghost keeps = { mmr_keeps };
 
     ghost small = { mmr_small };
+
+    ghost few_peaks = { mmr_few_peaks };
 
     fn position(start: u64, height: u32) -> u64 {
         size(start + (1 << height) - 1) + u64::from(height)

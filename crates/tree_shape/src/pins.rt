@@ -1,5 +1,12 @@
-use crate::{Family, Position, width};
+ghost use Rattle.std.specs.Prelude.{ℕ, ◌≤◌, length};
+
+use crate::{Family, MAX_LEAVES, MAX_PINNED_NODES, Position, width};
 use std::marker::{Model, PhantomData};
+
+/// A tree has at most `MAX_PINNED_NODES` peaks.
+pub fn few_peaks_law<F: Family>()
+    ensures { (n : ℕ) → n ≤ MAX_LEAVES → length (F.shape.heights n) ≤ MAX_PINNED_NODES }
+{}
 
 /// The positions of the peaks of a number of leaves, the oldest first. Contracts see it as those that are left.
 #[derive(Drop)]

@@ -7,6 +7,9 @@ use std::marker::{Model, PhantomData};
 /// The most leaves that a tree may have.
 pub const MAX_LEAVES: u64 = 1 << 62;
 
+/// The most peaks that a tree may have.
+pub const MAX_PINNED_NODES: u64 = 64;
+
 /// A number of leaves, or the place of a leaf. Contracts see it as its number.
 #[derive_where(Clone, Copy, Debug)]
 pub struct Location<F> {

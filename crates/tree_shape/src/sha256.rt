@@ -1,7 +1,9 @@
 ghost use Rattle.std.specs.Prelude.{◌≡◌, length};
 
 use crate::{Digest, Hasher};
-use codec_base::{Bytes, CodecError, Cursor, EncodeSize, FixedSize, Read, Spelled, Write};
+use codec_base::{
+    Bytes, CodecError, Cursor, Duplicate, EncodeSize, FixedSize, Read, Spelled, Write,
+};
 use sha2::{Digest as _, Sha256};
 use std::alloc::Global;
 
@@ -58,6 +60,12 @@ impl FixedSize for Sha256Digest {
 
     fn size() -> u64 {
         32
+    }
+}
+
+impl Duplicate for Sha256Digest {
+    fn duplicate(&self) -> Result<Self, CodecError> {
+        Ok(*self)
     }
 }
 

@@ -1,1 +1,3 @@
 pub mod StoreLemmas
+pub mod ErrorLemmas
+pub mod StoredLemmas

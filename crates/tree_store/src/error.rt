@@ -1,10 +1,10 @@
 ghost use Rattle.std.specs.Prelude.{◌≡◌, codes};
-ghost use Rattle.tree_store.specs.Errors.{from_journal};
+ghost use Rattle.tree_store.specs.Errors.{from_journal, from_volume};
 ghost use Rattle.tree_store.specs.declared.error.Error.TheVariants.{Memory};
 
 use std::alloc::{AllocError, AllocFailed};
 use tree_shape::{Location, Position};
-use volume_base::JournalError;
+use volume_base::{JournalError, VolumeError};
 
 /// What is wrong with the data of a stored tree.
 #[derive(Clone, Copy, Debug, PartialEq, Eq)]
@@ -93,5 +93,13 @@ impl<F> From<JournalError> for Error<F> {
             JournalError::Memory => Error::Memory,
             other => Error::Journal(other),
         }
+    }
+}
+
+impl<F> From<VolumeError> for Error<F> {
+    ghost from_gives = { λ error e. e ≡ from_volume error };
+
+    fn from(error: VolumeError) -> Self {
+        Error::from(JournalError::from(error))
     }
 }

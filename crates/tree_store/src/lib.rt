@@ -2,7 +2,9 @@
 #![tactic(auto)]
 
 mod error;
+mod laws;
 mod stores;
 
 pub use error::{Error, TreeData};
+pub use laws::stored_laws;
 pub use stores::{Readable, Storage};

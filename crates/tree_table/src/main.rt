@@ -4,8 +4,6 @@
 mod digests;
 mod error;
 mod shapes;
-#[cfg(test)]
-mod tests;
 
 use crate::digests::{nodes_digest, roots_digest, tree_of};
 use crate::error::TableError;

@@ -1,6 +1,6 @@
 pub mod CoverLemmas
 pub mod NeededLemmas
-mod NodeLemmas
+pub mod NodeLemmas
 mod WalkLemmas
 mod SeveralLemmas
 pub mod KeyLemmas

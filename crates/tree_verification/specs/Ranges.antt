@@ -4,7 +4,8 @@ use Rattle.tree_shape.specs.Hashing.{Hashing}
 use Rattle.tree_shape.specs.Shape.{Shape}
 use Rattle.tree_shape.specs.Pins.{position_of}
 use Rattle.tree_proof.specs.declared.proof.Proof.{Proof}
-use Rattle.tree_proof.specs.Cover.{Opened, cover, cover_digests}
+use Rattle.tree_proof.specs.Cover.{Opened, cover}
+use Rattle.tree_proof.specs.SlowProof.{proof_of}
 use Rattle.tree_store.specs.Stores.{IsTreeOf, IsUnread}
 use Rattle.tree_store.specs.declared.error.Error.{Error}
 use Rattle.tree_store.specs.declared.error.Error.TheVariants.{Empty, LocationOverflow, RangeOutOfBounds}
@@ -12,10 +13,6 @@ use Rattle.tree_store.specs.declared.error.Error.TheVariants.{Empty, LocationOve
 -- where the nodes of the cover stand, in its order
 abbrev pub cover_positions : Shape → Opened → ℕ → List ℕ
 cover_positions s met n = map (position_of s) (cover s met n)
-
--- the proof of what is met in the tree of a list of leaf digests
-abbrev pub proof_of : {F D : Type 0} → Shape → Hashing D → List D → ℕ → Opened → Proof F D
-proof_of s h all inactive met = record { leaves = length all; inactive_peaks = inactive; digests = cover_digests s h all met (length all) }
 
 -- of so many leaves and inactive peaks, with as many digests as the cover has nodes
 pub record HasForm {F D : Type 0} (s : Shape) (n inactive : ℕ) (met : Opened) (proof : Proof F D) : Type 0 where

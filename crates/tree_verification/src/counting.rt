@@ -21,6 +21,9 @@ fn left_behind<W: Wanted>(wanted: &W, x: u64, height: u32, digests: u64) -> Opti
     ensures some { IfSome result (λ left. digests ≡ length (cover_in (W.met wanted.now) x height) + left) }
     ensures none { IfNone result (digests < length (cover_in (W.met wanted.now) x height)) }
 {
+    if wanted.is_whole(x, height) {
+        return Some(digests);
+    }
     if !wanted.is_met(x, height) {
         return one_less(digests);
     }

@@ -8,8 +8,7 @@ ghost use Rattle.tree_shape.specs.declared.bagging.Bagging.{Bagging};
 ghost use Rattle.tree_proof.specs.declared.proof.Proof.{Proof};
 ghost use Rattle.tree_proof.specs.Cover.{meets, cover};
 ghost use Rattle.tree_proof.specs.Check.{item_leaf, wholly_rebuilt, Checks};
-ghost use Rattle.tree_proof.specs.SlowProof.{IsRange};
-ghost use Rattle.tree_verification.specs.Ranges.{proof_of};
+ghost use Rattle.tree_proof.specs.SlowProof.{IsRange, proof_of};
 ghost use Rattle.tree_verification.specs.Told.{in_tree, IsTold};
 
 use tree_shape::{Family, Hasher};

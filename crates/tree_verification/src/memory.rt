@@ -3,7 +3,8 @@ ghost use Rattle.std.specs.Prelude.{◌≡◌, ℕ, ◌+◌, ◌≤◌, ◌^◌,
 ghost use Rattle.tree_shape.specs.Hashing.{Hashing};
 ghost use Rattle.tree_store.specs.Stores.{IsTreeOf, IsUnread};
 ghost use Rattle.tree_proof.specs.Cover.{meets};
-ghost use Rattle.tree_verification.specs.Ranges.{cover_positions, proof_of, range_answer, leaf_answer, HasForm, Proves};
+ghost use Rattle.tree_verification.specs.Ranges.{cover_positions, range_answer, leaf_answer, HasForm, Proves};
+ghost use Rattle.tree_proof.specs.SlowProof.{proof_of};
 
 use crate::bounds::check_range;
 use crate::walk::find_cover;

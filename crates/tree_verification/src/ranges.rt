@@ -6,7 +6,8 @@ ghost use Rattle.volume_base.specs.Moments.{present};
 ghost use Rattle.tree_store.specs.declared.error.Error.{Error};
 ghost use Rattle.tree_store.specs.Stores.{IsTreeOf, IsReadRefusal, IsOutsideOr};
 ghost use Rattle.tree_proof.specs.Cover.{meets};
-ghost use Rattle.tree_verification.specs.Ranges.{cover_positions, proof_of, range_answer, HasForm};
+ghost use Rattle.tree_verification.specs.Ranges.{cover_positions, range_answer, HasForm};
+ghost use Rattle.tree_proof.specs.SlowProof.{proof_of};
 
 use crate::bounds::{check_range, leaves_of};
 use crate::reading::read_nodes;

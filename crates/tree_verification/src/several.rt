@@ -6,7 +6,8 @@ ghost use Rattle.volume_base.specs.Moments.{present};
 ghost use Rattle.tree_store.specs.declared.error.Error.{Error};
 ghost use Rattle.tree_store.specs.Stores.{IsTreeOf, IsReadRefusal, IsOutsideOr};
 ghost use Rattle.tree_proof.specs.Cover.{holds_one};
-ghost use Rattle.tree_verification.specs.Ranges.{cover_positions, proof_of, HasForm};
+ghost use Rattle.tree_verification.specs.Ranges.{cover_positions, HasForm};
+ghost use Rattle.tree_proof.specs.SlowProof.{proof_of};
 ghost use Rattle.tree_verification.specs.Several.{several_answer};
 
 use crate::bounds::leaves_of;

@@ -33,6 +33,9 @@ fn push_cover<F: Family, W: Wanted>(
     requires low { height < 63 }
     ensures { OnOk result (positions.new.items ≡ positions.old.items ++ map (position_of F.shape) (cover_in (W.met wanted.now) x height)) }
 {
+    if wanted.is_whole(x, height) {
+        return Ok(());
+    }
     if !wanted.is_met(x, height) {
         push_position(positions, x, height)?;
         return Ok(());

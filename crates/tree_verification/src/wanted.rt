@@ -1,6 +1,6 @@
 //! What is to be proved, as the walk over the peaks asks for it.
-ghost use Rattle.std.specs.Prelude.{◌≡◌, ◌≤◌, ◌<◌, ◌+◌, ◌^◌, AllPairs};
-ghost use Rattle.tree_proof.specs.Cover.{Opened, meets, holds_one};
+ghost use Rattle.std.specs.Prelude.{◌≡◌, ◌≤◌, ◌<◌, ◌+◌, ◌^◌, [], AllPairs, IsTrue};
+ghost use Rattle.tree_proof.specs.Cover.{Opened, meets, holds_one, cover_in};
 
 use crate::order::first_from;
 use tree_shape::{Location, width};
@@ -19,6 +19,12 @@ pub(crate) trait Wanted {
         requires low { height < 63 }
         requires room { x + 2 ^ height ≤ 2 ^ 62 }
         ensures { result ≡ met self.now x height };
+
+    /// Whether each leaf under a node is one of them, so that the cover has no node inside it. It may say no of such a node too.
+    fn is_whole(&self, x: u64, height: u32) -> bool
+        requires low { height < 63 }
+        requires room { x + 2 ^ height ≤ 2 ^ 62 }
+        ensures { IsTrue result → cover_in (met self.now) x height ≡ [] };
 }
 
 /// The leaves from one on, up to another.
@@ -36,6 +42,10 @@ impl Wanted for LeafRange {
     fn is_met(&self, x: u64, height: u32) -> bool {
         self.start < x + width(height) && x < self.end
     }
+
+    fn is_whole(&self, x: u64, height: u32) -> bool {
+        self.start <= x && x + width(height) <= self.end
+    }
 }
 
 /// These leaves, each past the one before it.
@@ -52,5 +62,9 @@ impl<F> Wanted for Several<'_, F> {
     fn is_met(&self, x: u64, height: u32) -> bool {
         let at = first_from(self.locations, x);
         at < self.locations.len() && self.locations[at].as_u64() < x + width(height)
+    }
+
+    fn is_whole(&self, _x: u64, _height: u32) -> bool {
+        false
     }
 }

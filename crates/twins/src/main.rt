@@ -1,26 +1,12 @@
 //! Runs commands over one list in memory, which stands for both forms of the log, and writes the replies.
 #![tactic(auto)]
 
-mod batch;
-mod config;
-mod ending;
-mod history;
-mod laws;
-mod machine;
-mod main_call;
-mod operation;
-mod pool;
-mod reach;
-mod report;
-mod run;
-
-use ending::Status;
 use host_edge::{StdSink, StdSource};
-use main_call::twins_main;
 use memory_volume::MemoryVolume;
 use std::env;
 use std::io::ErrorKind;
 use std::process::ExitCode;
+use twin_run::{Status, twins_main};
 
 /// Runs the program over standard input and output and a volume in memory, and says how it ends.
 fn run_program(rt: &HostRuntime) -> Status {

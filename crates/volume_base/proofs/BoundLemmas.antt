@@ -1,10 +1,12 @@
 -- How bounds on the images of a log go on from call to call.
-use Rattle.std.proofs.Common.{◌≡◌, inl, inr, ℕ, ◌+◌, ◌-◌, ◌≤◌, min, max, List, ◌++◌, length, take, drop, sym, ◌∙◌, ap, subst, arith, length-append}
+use Rattle.std.proofs.Common.{◌≡◌, ◌⊎◌, inl, inr, ℕ, ◌+◌, ◌-◌, ◌≤◌, min, max, List, ◌++◌, length, take, drop, sym, ◌∙◌, ap, subst, arith, length-append}
 use Rattle.std.proofs.lemmas.List.{take_all, take-take, take-append-le, length-take, length-drop, drop-take, drop-drop, drop-append-le}
 use Rattle.std.proofs.lemmas.Bool.{cases_lt}
 use Rattle.std.proofs.Math.Seq.{take-append-add}
-use Rattle.volume_base.specs.Log.{Log, end_of, appended, Grows, Shrinks, Advances}
+use Rattle.volume_base.specs.Log.{Log, end_of, no_log, appended, cut_to, pruned_to, Grows, Shrinks, Advances, Vanishes, BecomesOneOf}
 use Rattle.volume_base.specs.Bounds.{IsRunOf, IsPartOf}
+use Rattle.volume_base.specs.Moments.{LogHas}
+use Rattle.volume_base.specs.Volume.{State, OnlyLeft}
 
 length-run : (list : List (List ℕ)) (log : Log) → IsRunOf list log → end_of log ≡ length list
 length-run list log run = omega (arith, ap length run.items, length-drop log.start list, run.within)
@@ -39,6 +41,20 @@ run_appended list items log run = record {
   within = omega (arith, run.within, length-append list items);
 }
 
+pub run_pruned : (list : List (List ℕ)) (log : Log) (to : ℕ) → to ≤ length list → IsRunOf list log → IsRunOf list (pruned_to log to)
+run_pruned list log to le run = record {
+  items = ap (drop (to - log.start)) run.items ∙ drop-drop (to - log.start) log.start list ∙ ap (λ (n : ℕ). drop n list) (omega arith);
+  within = omega (arith, run.within);
+}
+
+pub run_cut : (list : List (List ℕ)) (log : Log) (end : ℕ) → log.start ≤ end → IsRunOf list log → IsRunOf (take end list) (cut_to log end)
+run_cut list log end low run =
+    let split : end ≡ log.start + (end - log.start) = omega (arith, low) in
+    record {
+      items = ap (take (end - log.start)) run.items ∙ sym (ap (λ (n : ℕ). drop log.start (take n list)) split ∙ drop-take log.start (end - log.start) list);
+      within = omega (arith, low, run.within, length-take end list);
+    }
+
 take_min : (n : ℕ) (xs : List (List ℕ)) → take (min n (length xs)) xs ≡ take n xs
 take_min n xs = elim (cases_lt n (length xs)) [
   | inl lt ↦ ap (λ (k : ℕ). take k xs) (let e : min n (length xs) ≡ n = omega arith in e)
@@ -66,6 +82,16 @@ part_grows list items contents old new start end run (inr (from, count, le, is_b
       start_high = omega (arith, same_start, part.start_high);
       end_low = omega (arith, same_start, long, part.end_low);
     }
+
+-- The same, where what was left may have been a part of the longer list already.
+pub part_grows_whole : (list items : List (List ℕ)) (contents old new : Log) (start end : ℕ) → IsRunOf list contents → Grows contents items old new → IsPartOf (list ++ items) start end old → IsPartOf (list ++ items) start end new
+part_grows_whole list items contents old new start end run (inl same) part = subst (IsPartOf (list ++ items) start end) (sym same) part
+part_grows_whole list items contents old new start end run (inr (from, count, le, back, is)) part =
+    let all : IsPartOf list contents.start (length list) contents = part_of_run list contents run in
+    let back_run : IsRunOf list old = subst (IsRunOf list) (sym back) (run_pruned list contents from (omega (arith, le, all.within)) run) in
+    let here : IsPartOf list old.start (length list) old = part_of_run list old back_run in
+    let wider : IsPartOf list start end old = part_wider list old.start start (length list) end old part.start_high (omega (arith, part.end_low, here.within)) here in
+    part_grows list items contents old new start end run (inr (from, count, le, back, is)) wider
 
 -- A cut. The least end is at least the lesser.
 pub part_shrinks : (list : List (List ℕ)) (old new : Log) (start end to : ℕ) → Shrinks to old new → IsPartOf list start end old → IsPartOf list start (min end to) new
@@ -96,3 +122,20 @@ part_advances list old new start end to (at, le, reach, is) part =
       start_high = omega (arith, its_start, le, part.start_high);
       end_low = omega (arith, its_start, long, reach, part.end_low);
     }
+
+-- A removal. Some items at the front are gone, or all is.
+pub part_vanishes : (list : List (List ℕ)) (old new : Log) (start end : ℕ) → Vanishes old new → IsPartOf list start end old → IsPartOf list (length list) end new ⊎ (new ≡ no_log)
+part_vanishes list old new start end (inl (to, reach, is)) part =
+    let moved : IsPartOf list (max start to) end new = part_advances list old new start end to (to, omega arith, reach, is) part in
+    inl (record { items = moved.items; within = moved.within; start_high = omega (arith, moved.within); end_low = moved.end_low })
+part_vanishes list old new start end (inr gone) part = inr gone
+
+-- A replacement: what the old one and the new one have, each one in between has.
+pub becomes : {A : Type 0} (P : A → Type 0) (made old new : A) → BecomesOneOf made old new → P old → P made → P new
+becomes P made old new (inl same) was is = subst P (sym same) was
+becomes P made old new (inr this) was is = subst P (sym this) is
+
+-- what a log holds, where nothing else is left of it
+pub part_of_all : (list : List (List ℕ)) (name : List ℕ) (greatest : ℕ) (s : State) → IsRunOf list (s.log name) → (s.log name).start ≤ greatest → OnlyLeft (s.log_left s.clock name) (s.log name) → LogHas s name (IsPartOf list greatest (length list))
+part_of_all list name greatest s run low only log left =
+    subst (IsPartOf list greatest (length list)) (sym (only log left)) (part_wider list (s.log name).start greatest (length list) (length list) (s.log name) low (omega arith) (part_of_run list (s.log name) run))

@@ -1,6 +1,10 @@
 pub mod BoundLemmas
 pub mod ImageLemmas
+pub mod JoinLemmas
 pub mod MomentLemmas
+pub mod NameLemmas
 pub mod PairLemmas
 pub mod ReadLemmas
 pub mod StepLemmas
+pub mod SyncLemmas
+pub mod TurnLemmas

@@ -3,7 +3,7 @@ use Rattle.std.proofs.Common.{◌≡◌, ◌≢◌, ◌↔◌, ⊎_elim, ℕ, �
 use Rattle.std.proofs.lemmas.Bool.{cases_lt}
 use Rattle.volume_base.specs.Log.{Log, Stays}
 use Rattle.volume_base.specs.Volume.{State, Map, Follows, OnlyLeft, PastStays, LogMoves, MapMoves}
-use Rattle.volume_base.specs.Moments.{Image, LeftAt, present, LogHas, MapHas, LogKeeps, MapKeeps, EachMoment, EachNow, PairKeeps, PairHas}
+use Rattle.volume_base.specs.Moments.{Image, LeftAt, present, LogHas, MapHas, LogKeeps, MapKeeps, EachMoment, PairKeeps, PairHas}
 
 pub iff_then : {A B C : Type 0} → (A ↔ B) → (B ↔ C) → (A ↔ C)
 iff_then ab bc = (λ a. bc.0 (ab.0 a), λ c. ab.1 (bc.1 c))
@@ -24,13 +24,6 @@ past_joins a b c ab bc = record {
 }
 
 -- One name, over runs of calls.
-
--- what a log keeps over a run, a crash at its end leaves
-pub log_has_after : (name : List ℕ) (Q : Log → Type 0) (a b : State) → LogKeeps name Q a b → LogHas b name Q
-log_has_after name Q a b keeps log left = keeps.during b.clock log keeps.past.later (omega arith) left
-
-pub map_has_after : (name : List ℕ) (Q : Map → Type 0) (a b : State) → MapKeeps name Q a b → MapHas b name Q
-map_has_after name Q a b keeps m left = keeps.during b.clock m keeps.past.later (omega arith) left
 
 -- a call on this log: what was left has Q, and what follows from it has R
 pub log_moves : (name : List ℕ) (step : Log → Log → Type 0) (Q R : Log → Type 0) (a b : State) → LogMoves name step a b → LogHas a name Q → ((old new : Log) → Q old → step old new → R new) → LogKeeps name R a b
@@ -58,35 +51,7 @@ map_stays_map name other step Q a b moves ne has = record { past = moves.past; d
 pub map_stays_log : (name other : List ℕ) (step : Log → Log → Type 0) (Q : Map → Type 0) (a b : State) → LogMoves name step a b → MapHas a other Q → MapKeeps other Q a b
 map_stays_log name other step Q a b moves has = record { past = moves.past; during = λ t m lo hi left. has m ((moves.maps t other m lo hi).0 left) }
 
--- one run after another
-pub log_keeps_joins : (name : List ℕ) (Q : Log → Type 0) (a b c : State) → LogKeeps name Q a b → LogKeeps name Q b c → LogKeeps name Q a c
-log_keeps_joins name Q a b c ab bc = record {
-  past = past_joins a b c ab.past bc.past;
-  during = λ t log lo hi left. ⊎_elim (λ early. let le : t ≤ b.clock = omega (arith, early) in ab.during t log lo le ((bc.past.logs t name log le).0 left)) (λ late. bc.during t log late hi left) (cases_lt t b.clock);
-}
-
 -- The whole volume.
-
-pub each_moment_here : (P : Image → Type 0) (s : State) → ((image : Image) → LeftAt s s.clock image → P image) → EachMoment P s s
-each_moment_here P s here = record {
-  past = past_same s;
-  during = λ t image lo hi left. let now : t ≡ s.clock = omega (arith, lo, hi) in here image (subst (λ u. LeftAt s u image) now left);
-}
-
-pub each_moment_joins : (P : Image → Type 0) (a b c : State) → EachMoment P a b → EachMoment P b c → EachMoment P a c
-each_moment_joins P a b c ab bc = record {
-  past = past_joins a b c ab.past bc.past;
-  during = λ t image lo hi left. ⊎_elim (λ early. let le : t ≤ b.clock = omega (arith, early) in ab.during t image lo le (back t image le left)) (λ late. bc.during t image late hi left) (cases_lt t b.clock);
-}
-  where
-    back : (t : ℕ) (image : Image) → t ≤ b.clock → LeftAt c t image → LeftAt b t image
-    back t image early left = record {
-      logs = λ name. (bc.past.logs t name (image.log name) early).0 (left.logs name);
-      maps = λ name. (bc.past.maps t name (image.map name) early).0 (left.maps name);
-    }
-
-pub each_moment_weaker : (P Q : Image → Type 0) (a b : State) → EachMoment P a b → ((image : Image) → P image → Q image) → EachMoment Q a b
-each_moment_weaker P Q a b each weaker = record { past = each.past; during = λ t image lo hi left. weaker image (each.during t image lo hi left) }
 
 -- two logs over one run, joined
 pub each_moment_of_two : (one two : List ℕ) (Q R : Log → Type 0) (P : Image → Type 0) (a b : State) → LogKeeps one Q a b → LogKeeps two R a b → ((image : Image) → Q (image.log one) → R (image.log two) → P image) → EachMoment P a b
@@ -204,6 +169,3 @@ pub contents_step : (name : List ℕ) (step : Log → Log → Type 0) (a b : Sta
 contents_step name step a b only moves now =
     let from = contents_follow name step a b moves now in
     subst (λ (l : Log). step l (b.log name)) (only from.0 from.1) from.2
-
-pub each_now_after : (P : Image → Type 0) (a b : State) → EachMoment P a b → EachNow P b
-each_now_after P a b each image left = each.during b.clock image each.past.later (omega arith) left

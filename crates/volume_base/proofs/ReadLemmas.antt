@@ -3,6 +3,7 @@ use Rattle.std.proofs.Common.{◌≡◌, Ok, Err, ◌∙◌, refl, subst, arith}
 use Rattle.std.specs.Prelude.{Result, IsErrOf, OnOk}
 use Rattle.codec_base.specs.Causes.{Rose}
 use Rattle.volume_base.specs.Volume.{State, PastStays, SameContents, StaysSteady, Reads}
+use Rattle.volume_base.proofs.JoinLemmas.{on_ok, same_joins}
 use Rattle.volume_base.proofs.MomentLemmas.{past_same, past_joins}
 
 -- Calls that each answered Ok: nothing was written, and no fault was counted.
@@ -27,17 +28,10 @@ pub only_read_joins : {T E : Type 0} (tells : Type 0) (fault : E) (a b c : State
 only_read_joins tells fault a b c answer ab bc = record {
   clock = bc.clock ∙ ab.clock;
   past = λ told. past_joins a b c (ab.past told) (bc.past told);
-  contents = λ told. record {
-    logs = λ name. (bc.contents told).logs name ∙ (ab.contents told).logs name;
-    maps = λ name. (bc.contents told).maps name ∙ (ab.contents told).maps name;
-  };
+  contents = λ told. same_joins a b c (ab.contents told) (bc.contents told);
   faults = bc.kept ∙ ab.faults;
   steady = λ steady. let one = ab.steady steady in let two = bc.steady one.steady in record { steady = two.steady; faults = two.faults ∙ one.faults };
 }
-
-on_ok : {T E : Type 0} (r : Result T E) (P Q : Type 0) → (P → Q) → OnOk r P → OnOk r Q
-on_ok (Ok answer) P Q then is = then is
-on_ok (Err error) P Q then is = tt
 
 on_each_ok : {T E : Type 0} (r : Result T E) (P : Type 0) → P → OnOk r P
 on_each_ok (Ok answer) P is = is
@@ -48,10 +42,7 @@ pub reads_joins : {T S E : Type 0} (tells : Type 0) (fault : E) (a b c : State) 
 reads_joins tells fault a b c r s ab bc same kept = record {
   clock = bc.clock ∙ ab.clock;
   past = λ told. past_joins a b c (ab.past told) (bc.past told);
-  contents = λ told. record {
-    logs = λ name. (bc.contents told).logs name ∙ (ab.contents told).logs name;
-    maps = λ name. (bc.contents told).maps name ∙ (ab.contents told).maps name;
-  };
+  contents = λ told. same_joins a b c (ab.contents told) (bc.contents told);
   faults = omega (arith, ab.faults, bc.faults);
   failed = λ is. subst (λ before. Rose before c.faults) ab.faults (bc.failed (same is));
   kept = on_ok s (c.faults ≡ b.faults) (c.faults ≡ a.faults) (λ is. is ∙ ab.faults) kept;

@@ -7,7 +7,8 @@ pub record IsRunOf (list : List (List ℕ)) (log : Log) : Type 0 where
   pub items : log.items ≡ drop log.start list
   pub within : log.start ≤ length list
 
--- The log has the list's items between its start and its end. Its start is at most the one bound, and its end at least the other.
+-- The log has the list's items between its start and its end. Its start is at most the one bound, and its end at least
+-- the other.
 pub record IsPartOf (list : List (List ℕ)) (greatest_start least_end : ℕ) (log : Log) : Type 0 where
   pub items : log.items ≡ take (length log.items) (drop log.start list)
   pub within : end_of log ≤ length list

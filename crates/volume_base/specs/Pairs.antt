@@ -1,9 +1,18 @@
--- Where a key stands in a list of pairs.
-use Rattle.std.specs.Prelude.{ℕ, suc, List, [], ◌∷◌, if◌then◌else◌}
-use Rattle.std.specs.Ordering.{nat_cmp, eq_by_cmp}
-use Rattle.std.specs.Cmp.Lexicographic.{slice_cmp}
+-- The entries of an ordered map, as pairs of byte lists.
+use Rattle.std.specs.Prelude.{ℕ, List, map}
+use Rattle.std.specs.Global.{Vec}
+use Rattle.std.specs.Map.Iter.{ShowsInOrder, deref_pair}
 
--- the index of the first pair with this key, or the length
-abbrev pub place_of : List ℕ → List (List ℕ × List ℕ) → ℕ
-place_of key [] = 0
-place_of key (pair ∷ pairs) = if eq_by_cmp (slice_cmp nat_cmp) key pair.0 then 0 else suc (place_of key pairs)
+-- a key with its value
+abbrev pub Entry : Type 0
+Entry = Vec ℕ × List ℕ
+
+abbrev pub pair_of : Entry → List ℕ × List ℕ
+pair_of entry = (entry.0.items, entry.1)
+
+abbrev pub pairs_of : List Entry → List (List ℕ × List ℕ)
+pairs_of entries = map pair_of entries
+
+-- an iterator over the entries gives them from the first on
+abbrev pub GivesEntries : Type 0
+GivesEntries = ShowsInOrder (deref_pair {K = Vec ℕ} {X = List ℕ})

@@ -49,6 +49,15 @@ pub record PastStays (old new : State) : Type 0 where
   pub logs : (t : ℕ) (name : List ℕ) (log : Log) → t ≤ old.clock → (new.log_left t name log ↔ old.log_left t name log)
   pub maps : (t : ℕ) (name : List ℕ) (m : Map) → t ≤ old.clock → (new.map_left t name m ↔ old.map_left t name m)
 
+-- At each moment from old to new this log, or map, has the images of before.
+abbrev pub LogStays : List ℕ → State → State → Type 0
+LogStays name old new =
+    (t : ℕ) (log : Log) → old.clock ≤ t → t ≤ new.clock → (new.log_left t name log ↔ old.log_left old.clock name log)
+
+abbrev pub MapStays : List ℕ → State → State → Type 0
+MapStays name old new =
+    (t : ℕ) (m : Map) → old.clock ≤ t → t ≤ new.clock → (new.map_left t name m ↔ old.map_left old.clock name m)
+
 -- one of these, after a step
 abbrev pub Follows : {A : Type 0} → (A → Type 0) → (A → A → Type 0) → A → Type 0
 Follows {A} images step new = (old : A) × images old × step old new
@@ -57,16 +66,22 @@ Follows {A} images step new = (old : A) × images old × step old new
 -- Every other log and every map has the images of before.
 pub record LogMoves (name : List ℕ) (step : Log → Log → Type 0) (old new : State) : Type 0 where
   pub past : PastStays old new
-  pub this : (t : ℕ) (log : Log) → old.clock ≤ t → t ≤ new.clock → new.log_left t name log → Follows (old.log_left old.clock name) step log
-  pub logs : (t : ℕ) (other : List ℕ) (log : Log) → old.clock ≤ t → t ≤ new.clock → other ≢ name → (new.log_left t other log ↔ old.log_left old.clock other log)
-  pub maps : (t : ℕ) (other : List ℕ) (m : Map) → old.clock ≤ t → t ≤ new.clock → (new.map_left t other m ↔ old.map_left old.clock other m)
+  pub this : (t : ℕ) (log : Log) → old.clock ≤ t → t ≤ new.clock
+      → new.log_left t name log → Follows (old.log_left old.clock name) step log
+  pub logs : (t : ℕ) (other : List ℕ) (log : Log) → old.clock ≤ t → t ≤ new.clock
+      → other ≢ name → (new.log_left t other log ↔ old.log_left old.clock other log)
+  pub maps : (t : ℕ) (other : List ℕ) (m : Map) → old.clock ≤ t → t ≤ new.clock
+      → (new.map_left t other m ↔ old.map_left old.clock other m)
 
 -- The same for a call on a map.
 pub record MapMoves (name : List ℕ) (step : Map → Map → Type 0) (old new : State) : Type 0 where
   pub past : PastStays old new
-  pub this : (t : ℕ) (m : Map) → old.clock ≤ t → t ≤ new.clock → new.map_left t name m → Follows (old.map_left old.clock name) step m
-  pub logs : (t : ℕ) (other : List ℕ) (log : Log) → old.clock ≤ t → t ≤ new.clock → (new.log_left t other log ↔ old.log_left old.clock other log)
-  pub maps : (t : ℕ) (other : List ℕ) (m : Map) → old.clock ≤ t → t ≤ new.clock → other ≢ name → (new.map_left t other m ↔ old.map_left old.clock other m)
+  pub this : (t : ℕ) (m : Map) → old.clock ≤ t → t ≤ new.clock
+      → new.map_left t name m → Follows (old.map_left old.clock name) step m
+  pub logs : (t : ℕ) (other : List ℕ) (log : Log) → old.clock ≤ t → t ≤ new.clock
+      → (new.log_left t other log ↔ old.log_left old.clock other log)
+  pub maps : (t : ℕ) (other : List ℕ) (m : Map) → old.clock ≤ t → t ≤ new.clock
+      → other ≢ name → (new.map_left t other m ↔ old.map_left old.clock other m)
 
 -- A crash now leaves this and nothing else.
 abbrev pub OnlyLeft : {A : Type 0} → (A → Type 0) → A → Type 0
@@ -83,6 +98,15 @@ pub record Writes {T E : Type 0} (tells : Type 0) (fault : E) (old new : State) 
   pub later : old.clock ≤ new.clock
   pub still : tells → new.clock ≡ old.clock → SameContents old new
   pub reads : new.reads ≡ old.reads
+  pub faults : old.faults ≤ new.faults
+  pub failed : IsErrOf result fault → Rose old.faults new.faults
+  pub kept : OnOk result (new.faults ≡ old.faults)
+  pub steady : old.steady → StaysSteady old new
+
+-- What a call says that writes and may read, whatever it answers: as `Writes`, but for the count of reads.
+pub record Changes {T E : Type 0} (tells : Type 0) (fault : E) (old new : State) (result : Result T E) : Type 0 where
+  pub later : old.clock ≤ new.clock
+  pub still : tells → new.clock ≡ old.clock → SameContents old new
   pub faults : old.faults ≤ new.faults
   pub failed : IsErrOf result fault → Rose old.faults new.faults
   pub kept : OnOk result (new.faults ≡ old.faults)

@@ -1,18 +1,21 @@
-ghost use Rattle.std.specs.Prelude.{◌≡◌, ◌↔◌, ℕ, List, IfOk, OnOk, OnErr, IsOkUnless, IsTrue};
+ghost use Rattle.std.specs.Prelude.{◌≡◌, ◌↔◌, ℕ, List, length, IfOk, OnOk, OnErr, IsOkUnless, IsTrue, ◌<◌, ◌^◌};
 ghost use Rattle.std.specs.Option.{option_copied};
 ghost use Rattle.std.specs.FinMap as map;
-ghost use Rattle.volume_base.specs.Pairs.{place_of};
+ghost use Rattle.volume_base.specs.Pairs.{pairs_of, GivesEntries};
 ghost use Rattle.volume_base.specs.declared.error.VolumeError.TheVariants.{Memory};
 
 use crate::VolumeError;
 use codec_base::{Bytes, CodecError, Duplicate};
 use std::alloc::Global;
+use std::collections::BTreeMap;
+use std::collections::btree_map::Iter;
 use std::marker::Model;
 
 /// A finite map from byte lists to byte lists.
 #[derive(Drop)]
 pub struct MetaMap {
-    pairs: Vec<(Bytes, Bytes)>,
+    values: BTreeMap<Vec<u8>, Bytes>,
+    alloc: Global,
 }
 
 impl Model for MetaMap {
@@ -21,12 +24,13 @@ impl Model for MetaMap {
     ghost use Rattle.std.specs.Cmp.Lexicographic.{slice_cmp};
     ghost use Rattle.std.specs.FinMap as map;
     ghost use Rattle.std.specs.Coded.{coded_ℕ, coded_list};
+    ghost use Rattle.volume_base.specs.Pairs.{pairs_of};
 
     ghost Value = { map.FinMap (slice_cmp nat_cmp) (List ℕ) };
 
     ghost coded = { map.code (coded_list coded_ℕ) (coded_list coded_ℕ) };
 
-    ghost view = { λ m. map.from_entries m.pairs.items };
+    ghost view = { λ m. map.from_entries (pairs_of m.values.entries) };
 }
 
 impl MetaMap {
@@ -35,7 +39,8 @@ impl MetaMap {
         ensures { result ≡ map.empty }
     {
         MetaMap {
-            pairs: Vec::new(alloc),
+            values: BTreeMap::new(alloc),
+            alloc,
         }
     }
 
@@ -43,19 +48,24 @@ impl MetaMap {
     pub fn is_empty(&self) -> bool
         ensures { IsTrue result ↔ (self.now ≡ map.empty) }
     {
-        self.pairs.is_empty()
+        self.values.is_empty()
     }
 
     /// The value under a key.
     pub fn get(&self, key: &[u8]) -> Option<&Bytes>
         ensures { option_copied result ≡ map.get self.now key.now }
     {
-        for pair in &self.pairs {
-            if key.cmp(pair.0.as_slice()).is_eq() {
-                return Some(&pair.1);
-            }
-        }
-        None
+        self.values.get(key)
+    }
+
+    /// Each key with its value, in the order of keys.
+    pub fn entries(&self) -> Iter<'_, Vec<u8>, Bytes>
+        ensures order { pairs_of result ≡ map.entries self.now }
+        ensures map { map.from_entries (pairs_of result) ≡ self.now }
+        ensures runs { GivesEntries }
+        ensures few { length result < 2 ^ 63 }
+    {
+        self.values.iter()
     }
 
     /// Puts a value under a key, in the place of what stood there.
@@ -64,34 +74,20 @@ impl MetaMap {
         ensures err { OnErr result (self.new ≡ self.old) }
         ensures memory { IsOkUnless result VolumeError.Memory }
     {
-        let place = place_in(&self.pairs, key.as_slice());
-        if place < self.pairs.len() {
-            self.pairs[place] = (key, value);
-        } else {
-            self.pairs.push((key, value))?;
-        }
+        self.values.insert(key.into_vec(), value)?;
         Ok(())
     }
 }
 
-/// The index of the first pair with this key, or the length.
-fn place_in(pairs: &[(Bytes, Bytes)], key: &[u8]) -> usize
-    ensures { result ≡ place_of key.now pairs.now }
-{
-    for (i, pair) in pairs.iter().enumerate() {
-        if key.cmp(pair.0.as_slice()).is_eq() {
-            return i;
-        }
-    }
-    pairs.len()
-}
-
 impl Duplicate for MetaMap {
     fn duplicate(&self) -> Result<Self, CodecError> {
-        let mut pairs = Vec::new(*self.pairs.allocator());
-        for pair in &self.pairs {
-            pairs.push((pair.0.duplicate()?, pair.1.duplicate()?))?;
+        let mut values = BTreeMap::new(self.alloc);
+        for (key, value) in self.values.iter().rev() {
+            values.insert(key.as_slice().to_vec(self.alloc)?, value.duplicate()?)?;
         }
-        Ok(MetaMap { pairs })
+        Ok(MetaMap {
+            values,
+            alloc: self.alloc,
+        })
     }
 }

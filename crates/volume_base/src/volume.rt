@@ -28,24 +28,29 @@ pub trait Volume {
     /// The item at a position.
     fn log_read(&mut self, name: &str, position: u64) -> Result<Bytes, VolumeError>
         ensures item { IfOk result (λ item. tells → IsItemAt ((state self.old).log name.now) position item) }
-        ensures pruned { (p : ℕ) → IsErrOf result (ItemPruned p) → (p ≡ position) × (tells → position < ((state self.old).log name.now).start) }
-        ensures out_of_range { (p : ℕ) → IsErrOf result (ItemOutOfRange p) → (p ≡ position) × (tells → end_of ((state self.old).log name.now) ≤ position) }
+        ensures pruned { (p : ℕ) → IsErrOf result (ItemPruned p) →
+            (p ≡ position) × (tells → position < ((state self.old).log name.now).start) }
+        ensures out_of_range { (p : ℕ) → IsErrOf result (ItemOutOfRange p) →
+            (p ≡ position) × (tells → end_of ((state self.old).log name.now) ≤ position) }
         ensures answers { Reads tells Failed (state self.old) (state self.new) result }
         ensures reads { (state self.new).reads ≡ min ((state self.old).reads + 1) (2 ^ 64 - 1) };
 
     /// Adds items behind the end. Until a sync a crash leaves any front of them.
     fn log_append(&mut self, name: &str, items: &[Bytes]) -> Result<(), VolumeError>
         requires { tells → end_of ((state self.old).log name.now) + length items.now < 2 ^ 64 }
-        ensures appended { OnOk result (tells → (state self.new).log name.now ≡ appended ((state self.old).log name.now) items.now) }
+        ensures appended { OnOk result (tells →
+            (state self.new).log name.now ≡ appended ((state self.old).log name.now) items.now) }
         ensures others { tells → OnlyLog name.now (state self.old) (state self.new) }
-        ensures images { tells → LogMoves name.now (Grows ((state self.old).log name.now) items.now) (state self.old) (state self.new) }
+        ensures images { tells →
+            LogMoves name.now (Grows ((state self.old).log name.now) items.now) (state self.old) (state self.new) }
         ensures writes { Writes tells Failed (state self.old) (state self.new) result }
         ensures answers { WriteAnswers tells (state self.old) (state self.new) result };
 
     /// After it a crash leaves what the log holds.
     fn log_sync(&mut self, name: &str) -> Result<(), VolumeError>
         ensures contents { tells → (state self.new).log name.now ≡ (state self.old).log name.now }
-        ensures durable { OnOk result (tells → OnlyLeft ((state self.new).log_left (state self.new).clock name.now) ((state self.new).log name.now)) }
+        ensures durable { OnOk result (tells →
+            OnlyLeft ((state self.new).log_left (state self.new).clock name.now) ((state self.new).log name.now)) }
         ensures others { tells → OnlyLog name.now (state self.old) (state self.new) }
         ensures images { tells → LogMoves name.now Stays (state self.old) (state self.new) }
         ensures writes { Writes tells Failed (state self.old) (state self.new) result }
@@ -55,7 +60,8 @@ pub trait Volume {
     fn log_cut(&mut self, name: &str, end: u64) -> Result<(), VolumeError>
         requires low { tells → ((state self.old).log name.now).start ≤ end }
         requires high { tells → end ≤ end_of ((state self.old).log name.now) }
-        ensures cut { OnOk result (tells → (state self.new).log name.now ≡ cut_to ((state self.old).log name.now) end) }
+        ensures cut { OnOk result (tells →
+            (state self.new).log name.now ≡ cut_to ((state self.old).log name.now) end) }
         ensures others { tells → OnlyLog name.now (state self.old) (state self.new) }
         ensures images { tells → LogMoves name.now (Shrinks end) (state self.old) (state self.new) }
         ensures writes { Writes tells Failed (state self.old) (state self.new) result }
@@ -65,7 +71,8 @@ pub trait Volume {
     fn log_prune(&mut self, name: &str, start: u64) -> Result<(), VolumeError>
         requires low { tells → ((state self.old).log name.now).start ≤ start }
         requires high { tells → start ≤ end_of ((state self.old).log name.now) }
-        ensures pruned { OnOk result (tells → (state self.new).log name.now ≡ pruned_to ((state self.old).log name.now) start) }
+        ensures pruned { OnOk result (tells →
+            (state self.new).log name.now ≡ pruned_to ((state self.old).log name.now) start) }
         ensures others { tells → OnlyLog name.now (state self.old) (state self.new) }
         ensures images { tells → LogMoves name.now (Advances start) (state self.old) (state self.new) }
         ensures writes { Writes tells Failed (state self.old) (state self.new) result }
@@ -74,16 +81,19 @@ pub trait Volume {
     /// Leaves an empty log at a position, and a crash then leaves that.
     fn log_clear(&mut self, name: &str, size: u64) -> Result<(), VolumeError>
         ensures cleared { OnOk result (tells → (state self.new).log name.now ≡ cleared_at size) }
-        ensures durable { OnOk result (tells → OnlyLeft ((state self.new).log_left (state self.new).clock name.now) (cleared_at size)) }
+        ensures durable { OnOk result (tells →
+            OnlyLeft ((state self.new).log_left (state self.new).clock name.now) (cleared_at size)) }
         ensures others { tells → OnlyLog name.now (state self.old) (state self.new) }
-        ensures images { tells → LogMoves name.now (BecomesOneOf (cleared_at size)) (state self.old) (state self.new) }
+        ensures images { tells →
+            LogMoves name.now (BecomesOneOf (cleared_at size)) (state self.old) (state self.new) }
         ensures writes { Writes tells Failed (state self.old) (state self.new) result }
         ensures answers { WriteAnswers tells (state self.old) (state self.new) result };
 
     /// Takes a log away, and a crash then leaves none.
     fn log_remove(&mut self, name: &str) -> Result<(), VolumeError>
         ensures removed { OnOk result (tells → (state self.new).log name.now ≡ no_log) }
-        ensures durable { OnOk result (tells → OnlyLeft ((state self.new).log_left (state self.new).clock name.now) no_log) }
+        ensures durable { OnOk result (tells →
+            OnlyLeft ((state self.new).log_left (state self.new).clock name.now) no_log) }
         ensures others { tells → OnlyLog name.now (state self.old) (state self.new) }
         ensures images { tells → LogMoves name.now Vanishes (state self.old) (state self.new) }
         ensures writes { Writes tells Failed (state self.old) (state self.new) result }
@@ -100,7 +110,8 @@ pub trait Volume {
     /// Puts a map in the place of what is there, and a crash then leaves this map.
     fn map_replace(&mut self, name: &str, map: &MetaMap) -> Result<(), VolumeError>
         ensures map { OnOk result (tells → (state self.new).map name.now ≡ map.now) }
-        ensures durable { OnOk result (tells → OnlyLeft ((state self.new).map_left (state self.new).clock name.now) map.now) }
+        ensures durable { OnOk result (tells →
+            OnlyLeft ((state self.new).map_left (state self.new).clock name.now) map.now) }
         ensures others { tells → OnlyMap name.now (state self.old) (state self.new) }
         ensures images { tells → MapMoves name.now (BecomesOneOf map.now) (state self.old) (state self.new) }
         ensures writes { Writes tells Failed (state self.old) (state self.new) result }
@@ -109,7 +120,8 @@ pub trait Volume {
     /// Takes a map away, and a crash then leaves none.
     fn map_remove(&mut self, name: &str) -> Result<(), VolumeError>
         ensures removed { OnOk result (tells → (state self.new).map name.now ≡ map.empty) }
-        ensures durable { OnOk result (tells → OnlyLeft ((state self.new).map_left (state self.new).clock name.now) map.empty) }
+        ensures durable { OnOk result (tells →
+            OnlyLeft ((state self.new).map_left (state self.new).clock name.now) map.empty) }
         ensures others { tells → OnlyMap name.now (state self.old) (state self.new) }
         ensures images { tells → MapMoves name.now (BecomesOneOf map.empty) (state self.old) (state self.new) }
         ensures writes { Writes tells Failed (state self.old) (state self.new) result }

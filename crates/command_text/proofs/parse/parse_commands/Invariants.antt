@@ -1,5 +1,5 @@
 use Rattle.std.proofs.Common.{length}
-use Rattle.command_text.specs.Lines.{lines_of}
+use Rattle.line_text.specs.Lines.{lines_of}
 use Rattle.command_text.proofs.CommandLines.{IsReadSoFar}
 use Rattle.command_text.proofs.parse.parse_commands.Given as goal
 

@@ -11,3 +11,18 @@ returns-in-FloorRegressed-clause-text g c = rw c.in-FloorRegressed.is c.put_two.
 
 pub returns-in-FloorBeyondSize-clause-text : goal.returns-in-FloorBeyondSize-clause-text
 returns-in-FloorBeyondSize-clause-text g c = rw c.in-FloorBeyondSize.is c.put_two-in-FloorBeyondSize.ensures.text
+
+pub returns-in-BelowInactivityFloor-clause-text : goal.returns-in-BelowInactivityFloor-clause-text
+returns-in-BelowInactivityFloor-clause-text g c = rw c.in-BelowInactivityFloor.is c.put_number-in-BelowInactivityFloor.ensures.text
+
+pub returns-in-ItemPruned-clause-text : goal.returns-in-ItemPruned-clause-text
+returns-in-ItemPruned-clause-text g c = rw c.in-ItemPruned.is c.put_number-in-ItemPruned.ensures.text
+
+pub returns-in-PruneBeyondMinRequired-clause-text : goal.returns-in-PruneBeyondMinRequired-clause-text
+returns-in-PruneBeyondMinRequired-clause-text g c = rw c.in-PruneBeyondMinRequired.is c.put_two-in-PruneBeyondMinRequired.ensures.text
+
+pub returns-in-HistoricalFloorPruned-clause-text : goal.returns-in-HistoricalFloorPruned-clause-text
+returns-in-HistoricalFloorPruned-clause-text g c = rw c.in-HistoricalFloorPruned.is c.put_number-in-HistoricalFloorPruned.ensures.text
+
+pub returns-in-RangeOutOfBounds-clause-text : goal.returns-in-RangeOutOfBounds-clause-text
+returns-in-RangeOutOfBounds-clause-text g c = rw c.in-RangeOutOfBounds.is c.put_number-in-RangeOutOfBounds.ensures.text

@@ -1,4 +1,4 @@
-use Rattle.command_text.specs.Pending.{puts_then}
+use Rattle.line_text.specs.Pending.{puts_then}
 use Rattle.command_text.proofs.text.put_roots.Goals as goal
 
 pub returns-clause-text : goal.returns-clause-text

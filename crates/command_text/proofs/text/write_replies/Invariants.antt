@@ -1,6 +1,6 @@
 use Rattle.std.proofs.Common.{◌≤◌, [], take}
 use Rattle.std.specs.List.{flat_map}
-use Rattle.command_text.specs.Pending.{IsSent}
+use Rattle.line_text.specs.Pending.{IsSent}
 use Rattle.command_text.specs.Text.{reply_text}
 use Rattle.command_text.proofs.text.write_replies.Given as goal
 

@@ -1,6 +1,5 @@
-use Rattle.std.proofs.Common.{rules, ℕ, ◌-◌, arith, refl, sym, subst}
-use Rattle.volume_base.specs.Log.{Log, IsItemAt}
-use Rattle.journal_base.specs.Items.{IsCorrupt}
+use Rattle.std.proofs.Common.{rules, ◌-◌, arith, refl}
+use Rattle.journal_base.proofs.ItemLemmas.{holds_here, corrupt_here}
 use Rattle.journal_base.proofs.MatchLemmas.{within_later, none_more}
 use Rattle.volume_base.proofs.ReadLemmas.{only_read_none, only_read_joins, reads_joins, reads_of}
 use Rattle.journal_base.proofs.matching.match_below.Goals as goal
@@ -29,14 +28,12 @@ returns-in_err-item-clause-not_out_of_range g c told within p is =
 
 pub returns-in_err-item-clause-corrupt : goal.returns-in_err-item-clause-corrupt
 returns-in_err-item-clause-corrupt g c told p is =
-    let name = (g.J.Contiguous.view c.args.journal.now).name in
-    let same = (c.loop-end.invariant.so_far.contents told).logs name in
-    let why = c.read.ensures.corrupt p (search rules) in
-    let there = subst (λ (l : Log). IsCorrupt g.J.Item.Spelled.spelling (g.J.Item.Read.admits (g.J.Contiguous.view c.args.journal.now).codec) l (c.loop-end.end - 1)) same (why.1 told) in
-    let here = subst (λ (q : ℕ). IsCorrupt g.J.Item.Spelled.spelling (g.J.Item.Read.admits (g.J.Contiguous.view c.args.journal.now).codec) ((g.V.Volume.state c.args.vol.now).log name) q) (sym why.0) there in (
+    let view = g.J.Contiguous.view c.args.journal.now in
+    let same = (c.loop-end.invariant.so_far.contents told).logs view.name in
+    let why = c.read.ensures.corrupt p (search rules) in (
       omega (arith, why.0, c.bounds-start.ensures.start),
       omega (arith, why.0),
-      here,
+      corrupt_here g.J.Item.Spelled.spelling g.J.Item.Read.admits view (g.V.Volume.state c.args.vol.now) (g.V.Volume.state c.loop-end.vol) p (c.loop-end.end - 1) same why.0 (why.1 told),
       λ q lo hi. c.loop-end.invariant.none told q (omega (arith, why.0)) hi,
     )
 
@@ -53,7 +50,7 @@ returns-then-predicate-clause-found g c told =
       c.loop-end.invariant.high,
       record {
         item = c.in_ok-item.item;
-        here = subst (λ (l : Log). IsItemAt l (c.loop-end.end - 1) (g.J.Item.Spelled.spelling c.in_ok-item.item)) same (c.in_ok-item.ensures.item told);
+        here = holds_here g.J.Item.Spelled.spelling g.J.Item.Read.admits (g.J.Contiguous.view c.args.journal.now) (g.V.Volume.state c.args.vol.now) (g.V.Volume.state c.loop-end.vol) _ _ same (c.in_ok-item.ensures.item told);
         allowed = c.in_ok-item.ensures.admitted;
         answered = record { shown = _; shows = refl; says = record { met = c.if-predicate.ensures } };
       },
@@ -73,9 +70,9 @@ loop-end-preserved g c =
       high = omega arith;
       low = omega arith;
       so_far = only_read_joins _ _ _ _ _ _ c.loop-end.invariant.so_far c.in_ok-item.ensures.answers;
-      none = λ told. none_more _ _ _ _ _ _ (c.loop-end.invariant.none told) (record {
+      none = λ told. none_more _ _ _ _ (c.loop-end.invariant.none told) (record {
         item = c.in_ok-item.item;
-        here = subst (λ (l : Log). IsItemAt l (c.loop-end.end - 1) (g.J.Item.Spelled.spelling c.in_ok-item.item)) (same told) (c.in_ok-item.ensures.item told);
+        here = holds_here g.J.Item.Spelled.spelling g.J.Item.Read.admits (g.J.Contiguous.view c.args.journal.now) (g.V.Volume.state c.args.vol.now) (g.V.Volume.state c.loop-end.vol) _ _ (same told) (c.in_ok-item.ensures.item told);
         allowed = c.in_ok-item.ensures.admitted;
         answered = record { shown = _; shows = refl; says = record { met = c.if-predicate.ensures } };
       });

@@ -1,9 +1,8 @@
-use Rattle.std.proofs.Common.{◌≡◌, ◌<◌, ◌-◌, ◌^◌, length, get_or, ◌++◌, sym, ◌∙◌, ap, arith, append_assoc, length-append}
-use Rattle.std.proofs.lemmas.Option.{same_Some}
+use Rattle.std.proofs.Common.{◌<◌, length, ◌∙◌, ap, arith, length-append}
 use Rattle.tree_shape.specs.Shape.{made}
-use Rattle.tree_shape.specs.Slow.{node}
-use Rattle.tree_shape.proofs.NodeLemmas.{next_peak, next_digest, peak_room}
+use Rattle.tree_shape.proofs.NodeLemmas.{next_peak, peak_room}
 use Rattle.tree_core.proofs.Since.{in_here, in_later}
+use Rattle.tree_core.proofs.MarkLemmas.{peak_told}
 use Rattle.tree_core.proofs.growth.mark_of.Goals as goal
 
 pub width-end-requires : goal.width-end-requires
@@ -30,10 +29,6 @@ loop-i-preserved g c =
       stand = rw (c.width-end.ensures, c.peak_height-height.ensures) r.1;
       within = omega (arith, c.loop-i.invariant.within);
       near = λ x k p. c.loop-i.invariant.near x k (in_later c.loop-i.end c.loop-i.i hs x k lt (rw (c.width-end.ensures, c.peak_height-height.ensures) at p));
-      told = λ h all right.
-          let is = right (c.loop-i.end - 2 ^ get_or hs c.loop-i.i 0) (get_or hs c.loop-i.i 0) (c.loop-i.invariant.near _ _ (in_here c.loop-i.end c.loop-i.i hs lt)) in
-          let d : c.read.result ≡ node s h all (c.loop-i.end - 2 ^ get_or hs c.loop-i.i 0) (get_or hs c.loop-i.i 0) =
-          same_Some c.read.result (node s h all (c.loop-i.end - 2 ^ get_or hs c.loop-i.i 0) (get_or hs c.loop-i.i 0)) ((rw (c.width-end.ensures, c.peak_height-height.ensures) at c.read.ensures) ∙ is) in
-          rw (c.in_ok-push.ensures.items, c.width-end.ensures, c.peak_height-height.ensures, d) (append_assoc c.loop-i.digests.items _ _
-          ∙ ap (λ ds. c.loop-i.digests.items ++ ds) (sym (next_digest s h all c.loop-i.end c.loop-i.i hs lt)) ∙ c.loop-i.invariant.told h all right);
+      told = rw (c.in_ok-push.ensures.items, c.width-end.ensures, c.peak_height-height.ensures)
+          (peak_told (g.P.Peaks.told c.args.peaks.now) c.loop-i.end c.loop-i.i hs c.loop-i.digests.items c.read.result _ lt (rw (c.width-end.ensures, c.peak_height-height.ensures) at c.read.ensures) c.loop-i.invariant.told);
     }

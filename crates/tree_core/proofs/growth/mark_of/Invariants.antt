@@ -1,9 +1,6 @@
-use Rattle.std.proofs.Common.{◌≡◌, ℕ, ◌≤◌, ◌++◌, List, length, drop, Some}
-use Rattle.tree_shape.specs.Hashing.{Hashing}
-use Rattle.tree_shape.specs.Shape.{made, PeaksStand}
+use Rattle.std.proofs.Common.{◌≡◌, ℕ, ◌≤◌, ◌++◌, length, map, drop, Some}
+use Rattle.tree_shape.specs.Shape.{made, PeaksStand, peaks_down}
 use Rattle.tree_shape.specs.Kept.{PeakIn, PeakOf}
-use Rattle.tree_shape.specs.Slow.{node, peak_digests}
-use Rattle.tree_core.specs.Pruned.{peaks_at}
 use Rattle.tree_core.proofs.growth.mark_of.Given as goal
 
 abbrev pub invariant-loop-i : goal.invariant-loop-i
@@ -12,6 +9,5 @@ invariant-loop-i g l = let s = g.F.Family.shape in let n = l.leaves in record {
   stand : PeaksStand s (made s n) l.end (drop l.i (s.heights n));
   within : l.end ≤ n;
   near : (x k : ℕ) → PeakIn l.end (drop l.i (s.heights n)) x k → PeakOf s n x k;
-  told : (h : Hashing _) (all : List _) → ((x k : ℕ) → PeakOf s n x k → g.P.Peaks.told l.peaks x k ≡ Some (node s h all x k))
-      → l.digests.items ++ peak_digests s h all l.end (drop l.i (s.heights n)) ≡ peaks_at s h all n;
+  told : map Some l.digests.items ++ map (λ (c : ℕ × ℕ). g.P.Peaks.told l.peaks c.0 c.1) (peaks_down l.end (drop l.i (s.heights n))) ≡ map (λ (c : ℕ × ℕ). g.P.Peaks.told l.peaks c.0 c.1) (peaks_down n (s.heights n));
 }

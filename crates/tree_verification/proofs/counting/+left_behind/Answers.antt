@@ -1,6 +1,9 @@
-use Rattle.std.proofs.Common.{◌≡◌, true, false, sym, arith}
+use Rattle.std.proofs.Common.{◌≡◌, true, false, length, sym, ap, arith}
 use Rattle.tree_verification.proofs.ToldLemmas.{count-outside, count-leaf, count-halves, count-some, count-few}
 use Rattle.tree_verification.proofs.counting.+left_behind.Goals as goal
+
+pub returns-then-is_whole-clause-some : goal.returns-then-is_whole-clause-some
+returns-then-is_whole-clause-some g t c = let none = ap length (c.is_whole.ensures c.if-is_whole.true) in omega (arith, none)
 
 pub returns-then-height-eq0-clause-some : goal.returns-then-height-eq0-clause-some
 returns-then-height-eq0-clause-some g t c =

@@ -1,6 +1,6 @@
 use Rattle.std.proofs.Common.{Some, map, take, refl, ◌∙◌, ap, arith}
 use Rattle.tree_shape.proofs.PinLemmas.{take-all}
-use Rattle.tree_verification.specs.Ranges.{proof_of}
+use Rattle.tree_proof.specs.SlowProof.{proof_of}
 use Rattle.tree_verification.proofs.NodeLemmas.{told-proof}
 use Rattle.tree_verification.proofs.memory.prove_from_memory.Goals as goal
 

@@ -1,7 +1,7 @@
 use Rattle.std.proofs.Common.{take, ◌∙◌, ap}
 use Rattle.tree_shape.proofs.PinLemmas.{take-all}
 use Rattle.tree_proof.specs.Cover.{meets}
-use Rattle.tree_verification.specs.Ranges.{proof_of}
+use Rattle.tree_proof.specs.SlowProof.{proof_of}
 use Rattle.tree_verification.proofs.NodeLemmas.{ok_gives}
 use Rattle.tree_verification.proofs.ranges.range_proof.Goals as goal
 

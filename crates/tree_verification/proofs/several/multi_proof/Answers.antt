@@ -2,7 +2,7 @@ use Rattle.std.proofs.Common.{rules, take, ◌∙◌, ap}
 use Rattle.tree_shape.proofs.PinLemmas.{take-all}
 use Rattle.volume_base.proofs.ReadLemmas.{only_read_none, reads_of}
 use Rattle.tree_proof.specs.Cover.{holds_one}
-use Rattle.tree_verification.specs.Ranges.{proof_of}
+use Rattle.tree_proof.specs.SlowProof.{proof_of}
 use Rattle.tree_verification.proofs.NodeLemmas.{ok_gives}
 use Rattle.tree_verification.proofs.several.multi_proof.Goals as goal
 

@@ -5,6 +5,11 @@ use Rattle.tree_proof.proofs.CoverSteps.{cover_in-outside, cover_in-leaf}
 use Rattle.tree_verification.proofs.WalkLemmas.{found_both}
 use Rattle.tree_verification.proofs.walk.+push_cover.Goals as goal
 
+pub returns-then-is_whole : goal.returns-then-is_whole
+returns-then-is_whole g t c =
+    let none = c.is_whole.ensures c.if-is_whole.true in
+    sym (ap (λ ps. c.args.positions.now.items ++ map (position_of g.F.Family.shape) ps) none ∙ append_nil c.args.positions.now.items)
+
 pub returns-then-not-is_met : goal.returns-then-not-is_met
 returns-then-not-is_met g t c =
     let met = g.W.Wanted.met c.args.wanted.now in

@@ -2,7 +2,7 @@ use Rattle.std.proofs.Common.{arith}
 use Rattle.std.proofs.Common.{refl}
 use Rattle.std.specs.Option.{option_map}
 use Rattle.chain_core.specs.Slots.{with_hold}
-use Rattle.chain_core.proofs.SlotLemmas.{batch_at-found, holds_of-found, slots-changed, dead-kept, on_ok}
+use Rattle.chain_core.proofs.SlotLemmas.{slot_at-found, holds_of-found, slots-changed, dead-kept, on_ok}
 use Rattle.chain_core.proofs.pool.Pool.hold.Goals as goal
 
 pub hold_at-requires : goal.hold_at-requires
@@ -12,7 +12,7 @@ hold_at-requires g c = record {
 }
 
 pub returns-clause-alive : goal.returns-clause-alive
-returns-clause-alive g c = rw (batch_at-found c.self.inside.batches c.self.inside.drawn c.args.self.now c.self.view_is c.self.invariant c.id.inside.number c.args.id c.id.view_is) c.hold_at.ensures.alive
+returns-clause-alive g c = rw (slot_at-found c.self.inside.batches c.self.inside.drawn c.args.self.now c.self.view_is c.self.invariant c.id.inside.number c.args.id c.id.view_is) c.hold_at.ensures.alive
 
 pub returns-clause-ok : goal.returns-clause-ok
 returns-clause-ok g c =

@@ -1,6 +1,7 @@
 use Rattle.std.proofs.Common.{refl, subst}
 use Rattle.tree_proof.specs.Cover.{meets}
-use Rattle.tree_verification.specs.Ranges.{range_answer, proof_of}
+use Rattle.tree_verification.specs.Ranges.{range_answer}
+use Rattle.tree_proof.specs.SlowProof.{proof_of}
 use Rattle.tree_core.specs.Batches.{Sealed, IsSoundSealed}
 use Rattle.tree_core.proofs.CoveredLemmas.{kept-over, range-within}
 use Rattle.tree_core.proofs.OverlayLemmas.{overlay-proof}

@@ -1,23 +1,14 @@
-use Rattle.std.proofs.Common.{rules, ◌≡◌, ◌<◌, ◌≤◌, length, set, ap, ◌∙◌}
+use Rattle.std.proofs.Common.{ap, ◌∙◌}
 use Rattle.std.specs.Ordering.{nat_cmp}
 use Rattle.std.specs.Cmp.Lexicographic.{slice_cmp}
-use Rattle.std.specs.FinMap as map
-use Rattle.volume_base.specs.Pairs.{place_of}
-use Rattle.volume_base.proofs.PairLemmas.{insert_set, insert_push}
+use Rattle.std.specs.FinMap.{from_entries, insert}
+use Rattle.volume_base.specs.Pairs.{pairs_of}
+use Rattle.volume_base.proofs.PairLemmas.{insert_pair}
 use Rattle.volume_base.proofs.map.MetaMap.put.Goals as goal
 
-pub returns-then-place-len-clause-ok : goal.returns-then-place-len-clause-ok
-returns-then-place-len-clause-ok c =
-    let place : c.place_in-place.result ≡ place_of c.args.key c.self.inside.pairs.items = search rules in
-    let within : place_of c.args.key c.self.inside.pairs.items < length c.self.inside.pairs.items = search rules in
-    ap (λ i. map.from_entries {R = slice_cmp nat_cmp} (set c.self.inside.pairs.items i (c.args.key, c.args.value))) place
-    ∙ insert_set c.self.inside.pairs.items c.args.key c.args.value within
-    ∙ ap (λ m. map.insert m c.args.key c.args.value) c.self.view_is
-
-pub returns-in_ok-push-clause-ok : goal.returns-in_ok-push-clause-ok
-returns-in_ok-push-clause-ok c =
-    let place : c.place_in-place.result ≡ place_of c.args.key c.self.inside.pairs.items = search rules in
-    let past : length c.self.inside.pairs.items ≤ place_of c.args.key c.self.inside.pairs.items = search rules in
-    ap (map.from_entries {R = slice_cmp nat_cmp}) c.in_ok-push.ensures.items
-    ∙ insert_push c.self.inside.pairs.items c.args.key c.args.value past
-    ∙ ap (λ m. map.insert m c.args.key c.args.value) c.self.view_is
+pub returns-clause-ok : goal.returns-clause-ok
+returns-clause-ok c =
+    ap (λ es. from_entries {R = slice_cmp nat_cmp} (pairs_of es)) c.in_ok-insert.ensures.entries
+    ∙ insert_pair c.self.inside.values.entries c.into_vec.result c.args.value
+    ∙ ap (λ k. insert (from_entries (pairs_of c.self.inside.values.entries)) k c.args.value) c.into_vec.ensures
+    ∙ ap (λ m. insert m c.args.key c.args.value) c.self.view_is

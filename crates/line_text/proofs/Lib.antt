@@ -1,0 +1,5 @@
+pub mod LineLemmas
+pub mod NumberLemmas
+pub mod HexWords
+pub mod DecimalDigits
+pub mod HexText

@@ -1,0 +1,32 @@
+-- Why a batch isn't sealed or applied, and why nothing is pruned.
+use Rattle.std.specs.Prelude.{ℕ, ◌+◌, nat_lt, Option, Some, None, if◌then◌else◌}
+use Rattle.log_model.specs.Meaning.{Meaning}
+use Rattle.log_model.specs.Operations.{floor_of}
+use Rattle.log_model.specs.Batches.{UnsealedBatch, SealedBatch, size_of}
+use Rattle.log_model.specs.Machine.{State, SameTest, max_leaves}
+use Rattle.log_model.specs.Reach.{floor_below, may_seal, may_apply}
+use Rattle.log_model.specs.declared.refusal.Refusal.{Refusal}
+use Rattle.log_model.specs.declared.refusal.Refusal.TheVariants.{StaleBatch, LocationOverflow, FloorRegressed, FloorBeyondSize, PruneBeyondMinRequired}
+
+-- Why a floor is refused, if it is: it falls below the one that it builds on, or is past the commit.
+abbrev pub floor_refusal : ℕ → ℕ → ℕ → Option Refusal
+floor_refusal below floor location =
+    if nat_lt floor below then Some (FloorRegressed floor below)
+    else (if nat_lt location floor then Some (FloorBeyondSize floor location)
+    else None)
+
+-- Why a seal of this floor is refused: the batch can't be sealed on the present list, or it would be too long, or the floor is refused.
+abbrev pub seal_refusal : {Op V : Type 0} → SameTest Op → Meaning Op V → State Op → UnsealedBatch Op → ℕ → Option Refusal
+seal_refusal same m s u floor =
+    if may_seal same s u then
+    (if nat_lt max_leaves (size_of u + 1) then Some (LocationOverflow (size_of u + 1))
+    else floor_refusal (floor_below m s u) floor (size_of u))
+    else Some StaleBatch
+
+-- Why an apply is refused: the batch can't be applied to the present list.
+abbrev pub apply_refusal : {Op : Type 0} → SameTest Op → State Op → SealedBatch Op → Option Refusal
+apply_refusal same s c = if may_apply same s c then None else Some StaleBatch
+
+-- Why a prune is refused: the location lies past the floor.
+abbrev pub prune_refusal : {Op V : Type 0} → Meaning Op V → State Op → ℕ → Option Refusal
+prune_refusal m s l = if nat_lt (floor_of m s.ops) l then Some (PruneBeyondMinRequired l (floor_of m s.ops)) else None

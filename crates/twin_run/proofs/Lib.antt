@@ -1,0 +1,14 @@
+pub mod RunLemmas
+pub mod Endings
+pub mod RunLaws
+pub mod RunGood
+pub mod StateLaws
+pub mod HistoryLemmas
+pub mod Fronts
+pub mod Matching
+pub mod Changes
+pub mod Reaching
+pub mod States
+pub mod Handlers
+pub mod Sealing
+pub mod NamesApart

@@ -1,0 +1,209 @@
+-- Each step keeps a state good.
+use Rattle.std.proofs.Common.{◌≡◌, ℕ, zero, suc, ◌+◌, ◌-◌, ◌<◌, ◌≤◌, false, List, [], ◌∷◌, length, get_or, Option, Some, None, refl, arith}
+use Rattle.std.specs.Prelude.{nat_lt, nat_le, slice_set, IfSome, Contains, Result, Ok, Err}
+use Rattle.std.specs.List.{flat_map}
+use Rattle.std.proofs.lemmas.Bool.Decides.{nat_tests}
+use Rattle.std.proofs.lemmas.List.Elements.{Contains-append_left, Contains-append_right}
+use Rattle.log_model.specs.Batches.{Batch, UnsealedBatch, SealedBatch, Unsealed, Sealed, Gone, size_of, appended, is_held}
+use Rattle.log_model.specs.Good.{AnyList, IsGood}
+use Rattle.log_model.specs.Machine.{State, max_leaves, batch_at, with_batch, begun, fresh, applied, committed, synced, pruned, snapshot_taken, sealed_list, lists_here}
+use Rattle.log_model.specs.Operations.{floor_of}
+use Rattle.log_model.specs.Reach.{may_apply, sealed_here}
+use Rattle.log_model.specs.Sealing.{prune_refusal}
+use Rattle.log_model.proofs.GoodLemmas.{good_lost, good_with_append, good_with_holds, good_begun, good_begun_after, good_snapshot_taken}
+use Rattle.log_model.proofs.LogLemmas.{good_committed, good_synced, good_pruned}
+use Rattle.log_model.proofs.StoredLemmas.{good_fresh}
+use Rattle.log_model.proofs.StepLemmas.{filled, prune_fits, good_sealed_here, good_applied_here}
+use Rattle.twin_run.specs.Operation.{Operation, meaning, operation_decide, one_list, same_operation}
+use Rattle.op_codec.specs.declared.keyless.Operation.TheVariants.{Append, Commit}
+use Rattle.command_text.specs.declared.command.Answer.{Answer}
+use Rattle.command_text.specs.declared.command.Command.{Command}
+use Rattle.command_text.specs.declared.command.Command.TheVariants as command
+use Rattle.log_model.specs.declared.refusal.Refusal.{Refusal}
+use Rattle.twin_run.specs.Step.{Outcome, step, begin, begin_on, append_to, seal_refusal, metadata_length, sealed_or_lost, seal, apply, hold, release, answered, unless, batch_get, batch_get_many, prune, prune_unless, plain_commit}
+use Rattle.twin_run.specs.Trace.{state_after, lists_passed, fresh_state}
+use Rattle.twin_run.specs.GoodRuns.{IsGoodState, HasLists, StepsStayGood, RunsAreGood}
+use Rattle.twin_run.proofs.RunLaws.{either}
+
+abbrev Allowed : ℕ → List ℕ → Type 0
+Allowed limit v = length v ≤ limit
+
+not_lt : (m n : ℕ) → nat_lt m n ≡ false → n ≤ m
+not_lt m n e = grind (arith, nat_tests)
+
+not_le : (m n : ℕ) → nat_le m n ≡ false → n < m
+not_le m n e = grind (arith, nat_tests)
+
+-- the list of a batch that is sealed is one of the state after it
+set_has : (bs : List (Batch Operation)) (b : ℕ) (u : UnsealedBatch Operation) (c : SealedBatch Operation) → get_or bs b Gone ≡ Unsealed u → Contains (flat_map sealed_list (slice_set bs b (Sealed c))) c.list
+set_has [] b u c is = absurd (cc)
+set_has (x ∷ bs) zero u c is = (0, omega arith, refl)
+set_has (x ∷ bs) (suc b) u c is = Contains-append_right (sealed_list x) (flat_map sealed_list (slice_set bs b (Sealed c))) c.list (set_has bs b u c is)
+
+has_sealed : (s : State Operation) (b : ℕ) (u : UnsealedBatch Operation) (c : SealedBatch Operation) → batch_at s b ≡ Unsealed u → Contains (lists_here (with_batch s b (Sealed c))) c.list
+has_sealed s b u c is = Contains-append_right (s.ops ∷ []) (flat_map sealed_list (slice_set s.batches b (Sealed c))) c.list (set_has s.batches b u c is)
+
+module _ (among : List Operation → Type 0) (limit : ℕ) (s : State Operation) (g : IsGoodState among limit s) where
+  abbrev Stays : Outcome → Type 0
+  Stays o = IsGoodState among limit o.1
+
+  stays : (t : State Operation) → 1 ≤ t.durable → IsGood meaning among (Allowed limit) plain_commit t → IsGoodState among limit t
+  stays t some good = record { good = good; some = some }
+
+  pub append_good : (b : ℕ) (v : List ℕ) (x : Batch Operation) → batch_at s b ≡ x → Stays (append_to limit s b v x)
+  append_good b v (Unsealed u) is = either Stays (nat_lt limit (length v)) _ _ (λ e. g) (λ e. either Stays (nat_le max_leaves (size_of u)) _ _ (λ f. g) (λ f.
+      stays (with_batch s b (Unsealed (appended u (Append v)))) g.some (good_with_append meaning among (Allowed limit) plain_commit s b u (Append v) g.good is refl (not_lt limit (length v) e) (not_le max_leaves (size_of u) f))))
+  append_good b v (Sealed c) is = g
+  append_good b v Gone is = g
+
+  allowed_metadata : (metadata : Option (List ℕ)) → metadata_length metadata ≤ limit → IfSome metadata (Allowed limit)
+  allowed_metadata None short = tt
+  allowed_metadata (Some v) short = short
+
+  -- a seal whose list is one of these
+  abbrev StaysKnown : Outcome → Type 0
+  StaysKnown o = HasLists among o.1 → Stays o
+
+  ended_good : (b : ℕ) (metadata : Option (List ℕ)) (floor : ℕ) (u : UnsealedBatch Operation) (why : Option Refusal) → seal_refusal one_list s u floor ≡ why → batch_at s b ≡ Unsealed u → metadata_length metadata ≤ limit
+      → StaysKnown (sealed_or_lost s b u metadata floor why)
+  ended_good b metadata floor u (Some refusal) e is short known = stays (with_batch s b Gone) g.some (good_lost meaning among (Allowed limit) plain_commit s b u g.good is)
+  ended_good b metadata floor u None e is short known =
+      let c : SealedBatch Operation = sealed_here s u (Commit metadata floor) floor in
+      stays (with_batch s b (Sealed c)) g.some (good_sealed_here meaning same_operation operation_decide among (Allowed limit) plain_commit s b u (Commit metadata floor) floor (known c.list (has_sealed s b u c is)) g.good is refl (allowed_metadata metadata short) e)
+
+  pub seal_good : (b : ℕ) (metadata : Option (List ℕ)) (floor : ℕ) (x : Batch Operation) → batch_at s b ≡ x → StaysKnown (seal one_list limit s b metadata floor x)
+  seal_good b metadata floor (Unsealed u) is = either StaysKnown (nat_lt limit (metadata_length metadata)) _ _ (λ e known. g)
+      (λ e. ended_good b metadata floor u (seal_refusal one_list s u floor) refl is (not_lt limit (metadata_length metadata) e))
+  seal_good b metadata floor (Sealed c) is = λ known. g
+  seal_good b metadata floor Gone is = λ known. g
+
+  pub apply_good : (b : ℕ) (x : Batch Operation) → batch_at s b ≡ x → Stays (apply one_list s b x)
+  apply_good b (Sealed c) is = either Stays (is_held c) _ _ (λ h. either Stays (may_apply one_list s c) _ _ (λ e.
+      stays (applied s c) g.some (good_applied_here meaning same_operation operation_decide among (Allowed limit) plain_commit s b c g.some g.good is e)) (λ e. g)) (λ h. g)
+  apply_good b (Unsealed u) is = g
+  apply_good b Gone is = g
+
+  pub hold_good : (b : ℕ) (x : Batch Operation) → batch_at s b ≡ x → Stays (hold s b x)
+  hold_good b (Sealed c) is = either Stays (is_held c) _ _ (λ h. stays (with_batch s b (Sealed (record c { holds = c.holds + 1 }))) g.some (good_with_holds meaning among (Allowed limit) plain_commit s b c (c.holds + 1) g.good is)) (λ h. g)
+  hold_good b (Unsealed u) is = g
+  hold_good b Gone is = g
+
+  pub release_good : (b : ℕ) (x : Batch Operation) → batch_at s b ≡ x → Stays (release s b x)
+  release_good b (Sealed c) is = either Stays (is_held c) _ _ (λ h. stays (with_batch s b (Sealed (record c { holds = c.holds - 1 }))) g.some (good_with_holds meaning among (Allowed limit) plain_commit s b c (c.holds - 1) g.good is)) (λ h. g)
+  release_good b (Unsealed u) is = stays (with_batch s b Gone) g.some (good_lost meaning among (Allowed limit) plain_commit s b u g.good is)
+  release_good b Gone is = g
+
+  begin_good_on : (p : ℕ) (x : Batch Operation) → batch_at s p ≡ x → Stays (begin_on s p x)
+  begin_good_on p (Sealed c) is = either Stays (is_held c) _ _ (λ h. stays (begun s (Some p) c.list) g.some (good_begun_after meaning among (Allowed limit) plain_commit s p c g.good is)) (λ h. g)
+  begin_good_on p (Unsealed u) is = g
+  begin_good_on p Gone is = g
+
+  pub begin_good : (parent : Option ℕ) → Stays (begin s parent)
+  begin_good None = stays (begun s None s.ops) g.some (good_begun meaning among (Allowed limit) plain_commit s g.good)
+  begin_good (Some p) = begin_good_on p (batch_at s p) refl
+
+  pub snapshot_good : IsGoodState among limit (snapshot_taken s (floor_of meaning s.ops))
+  snapshot_good = stays (snapshot_taken s (floor_of meaning s.ops)) g.some (good_snapshot_taken meaning among (Allowed limit) plain_commit s g.good)
+
+  -- ---- answers that change nothing
+
+  pub answered_good : {A : Type 0} (answer : A → Answer) (r : Result A Refusal) → Stays (answered s answer r)
+  answered_good answer (Ok x) = g
+  answered_good answer (Err r) = g
+
+  pub unless_good : (r : Option Refusal) (a : Answer) → Stays (unless s r a)
+  unless_good None a = g
+  unless_good (Some r) a = g
+
+  pub batch_get_good : (b l : ℕ) (x : Batch Operation) → Stays (batch_get one_list s b l x)
+  batch_get_good b l (Unsealed u) = answered_good _ _
+  batch_get_good b l (Sealed c) = either Stays (is_held c) _ _ (λ h. answered_good _ _) (λ h. g)
+  batch_get_good b l Gone = g
+
+  pub batch_get_many_good : (b : ℕ) (ls : List ℕ) (x : Batch Operation) → Stays (batch_get_many one_list s b ls x)
+  batch_get_many_good b ls (Unsealed u) = answered_good _ _
+  batch_get_many_good b ls (Sealed c) = either Stays (is_held c) _ _ (λ h. answered_good _ _) (λ h. g)
+  batch_get_many_good b ls Gone = g
+
+  -- ---- durability
+
+  some_there : 1 ≤ length s.ops
+  some_there = filled meaning among (Allowed limit) plain_commit s g
+
+  pub commit_good : IsGoodState among limit (committed s)
+  commit_good = stays (committed s) some_there (good_committed meaning among (Allowed limit) plain_commit s g.good)
+
+  pub sync_good : IsGoodState among limit (synced s)
+  sync_good = stays (synced s) some_there (good_synced meaning among (Allowed limit) plain_commit s g.good)
+
+  prune_good_where : (log_blob witness_blob l : ℕ) (why : Option Refusal) → prune_refusal meaning s l ≡ why → Stays (prune_unless log_blob witness_blob s l why)
+  prune_good_where log_blob witness_blob l None e = stays (pruned log_blob witness_blob s l) some_there (good_pruned meaning among (Allowed limit) plain_commit log_blob witness_blob s l (prune_fits meaning s l e) g.good)
+  prune_good_where log_blob witness_blob l (Some r) e = g
+
+  pub prune_good : (log_blob witness_blob l : ℕ) → Stays (prune log_blob witness_blob s l)
+  prune_good log_blob witness_blob l = prune_good_where log_blob witness_blob l (prune_refusal meaning s l) refl
+
+-- a step after which each list is one of these keeps a good state
+pub stay_good_among : (among : List Operation → Type 0) (limit : ℕ) (s : State Operation) (c : Command) → HasLists among (step one_list limit s c).1 → IsGoodState among limit s
+    → IsGoodState among limit (step one_list limit s c).1
+stay_good_among among limit s (command.New parent) known g = begin_good among limit s g parent
+stay_good_among among limit s (command.Append b v) known g = append_good among limit s g b v (batch_at s b) refl
+stay_good_among among limit s (command.Seal b metadata floor) known g = seal_good among limit s g b metadata floor (batch_at s b) refl known
+stay_good_among among limit s (command.Apply b) known g = apply_good among limit s g b (batch_at s b) refl
+stay_good_among among limit s (command.Hold b) known g = hold_good among limit s g b (batch_at s b) refl
+stay_good_among among limit s (command.Release b) known g = release_good among limit s g b (batch_at s b) refl
+stay_good_among among limit s command.Snapshot known g = snapshot_good among limit s g
+stay_good_among among limit s command.Size known g = g
+stay_good_among among limit s command.Metadata known g = g
+
+pub stay_good : StepsStayGood
+stay_good limit = record {
+  new = λ parent s g. begin_good AnyList limit s g parent;
+  append = λ b v s g. append_good AnyList limit s g b v (batch_at s b) refl;
+  seal = λ b m floor s g. seal_good AnyList limit s g b m floor (batch_at s b) refl (λ list has. tt);
+  apply = λ b s g. apply_good AnyList limit s g b (batch_at s b) refl;
+  hold = λ b s g. hold_good AnyList limit s g b (batch_at s b) refl;
+  release = λ b s g. release_good AnyList limit s g b (batch_at s b) refl;
+  snapshot = λ s g. snapshot_good AnyList limit s g;
+  get = λ l s g. answered_good AnyList limit s g _ _;
+  get_many = λ ls s g. answered_good AnyList limit s g _ _;
+  batch_get = λ b l s g. batch_get_good AnyList limit s g b l (batch_at s b);
+  batch_get_many = λ b ls s g. batch_get_many_good AnyList limit s g b ls (batch_at s b);
+  size = λ s g. g;
+  metadata = λ s g. g;
+  proof = λ n a count s g. unless_good AnyList limit s g _ _;
+  commit_proof = λ n s g. unless_good AnyList limit s g _ _;
+  commit = λ s g. commit_good AnyList limit s g;
+  sync = λ s g. sync_good AnyList limit s g;
+  start_sync = λ s g. sync_good AnyList limit s g;
+  prune = λ log_blob witness_blob l s g. prune_good AnyList limit s g log_blob witness_blob l;
+}
+
+-- ---- and so does a run
+
+-- the lists of a state are among those that a run passes from it on
+pub here_passed : (limit : ℕ) (s : State Operation) (cs : List Command) → HasLists (Contains (lists_passed one_list limit s cs)) s
+here_passed limit s [] list has = has
+here_passed limit s (c ∷ cs) list has = Contains-append_left (lists_here s) (lists_passed one_list limit (step one_list limit s c).1 cs) list has
+
+-- those that it passes from the next state on are among them
+pub later_passed : (limit : ℕ) (s : State Operation) (c : Command) (cs : List Command) (list : List Operation)
+    → Contains (lists_passed one_list limit (step one_list limit s c).1 cs) list → Contains (lists_passed one_list limit s (c ∷ cs)) list
+later_passed limit s c cs list has = Contains-append_right (lists_here s) (lists_passed one_list limit (step one_list limit s c).1 cs) list has
+
+run_good : (limit : ℕ) (s : State Operation) (cs : List Command) → IsGoodState AnyList limit s → IsGoodState AnyList limit (state_after one_list limit s cs)
+run_good limit s [] g = g
+run_good limit s (c ∷ cs) g = run_good limit (step one_list limit s c).1 cs (stay_good_among AnyList limit s c (λ list has. tt) g)
+
+-- the state in which a fresh volume is opened is good among any lists that hold its own
+fresh_good_among : (among : List Operation → Type 0) (limit : ℕ) → among (plain_commit ∷ []) → IsGoodState among limit fresh_state
+fresh_good_among among limit known = record {
+  good = good_synced meaning among (Allowed limit) plain_commit (fresh plain_commit) (good_fresh meaning among (Allowed limit) plain_commit known refl tt);
+  some = omega arith;
+}
+
+pub fresh_good : (limit : ℕ) (cs : List Command) → IsGoodState (Contains (lists_passed one_list limit fresh_state cs)) limit fresh_state
+fresh_good limit cs = fresh_good_among (Contains (lists_passed one_list limit fresh_state cs)) limit (here_passed limit fresh_state cs (plain_commit ∷ []) (0, omega arith, refl))
+
+pub are_good : RunsAreGood
+are_good limit cs = run_good limit fresh_state cs (fresh_good_among AnyList limit tt)

@@ -1,0 +1,166 @@
+-- Where nothing clashes, sizes and roots tell the lists of a run.
+use Rattle.std.proofs.Common.{◌≡◌, ℕ, zero, suc, ◌+◌, ◌^◌, ◌<◌, ◌≤◌, true, List, [], ◌∷◌, length, take, Option, Some, None, refl, ◌∙◌, ap, subst, arith}
+use Rattle.std.specs.Prelude.{unwrap_or, IfSome, Contains}
+use Rattle.std.specs.List.{AllByRecursion}
+use Rattle.std.proofs.lemmas.Bool.Decides.{same_from_decides}
+use Rattle.std.proofs.lemmas.List.{length-take-le}
+use Rattle.codec_base.specs.Parts.{admits_bytes}
+use Rattle.tree_shape.specs.Mmr.{mmr}
+use Rattle.tree_shape.specs.Sha256Codec.{bytes_of}
+use Rattle.tree_shape.specs.declared.sha256.Sha256Digest.{Sha256Digest}
+use Rattle.log_model.specs.Hashed.{NoClash}
+use Rattle.log_model.specs.Batches.{Batch, Unsealed, Sealed, Gone}
+use Rattle.log_model.specs.Machine.{State, batch_at}
+use Rattle.log_model.specs.Reach.{effective_boundary, tips_of, reach, stands_on, may_seal, may_apply}
+use Rattle.log_model.proofs.ReachLemmas.{AllAgree, lists_decide, marks_here, stands_agree}
+use Rattle.log_model.specs.Good.{FloorFits, FloorsRise, ValuesAre, IsGoodList, IsMark, AreMarks, IsGoodBatch}
+use Rattle.op_codec.specs.Keyless.{parts, variable_admits}
+use Rattle.op_codec.specs.declared.keyless.Operation.TheVariants.{Append, Commit}
+use Rattle.chain_core.specs.Commitments.{is_same-exact, is_same_equivalence}
+use Rattle.command_text.specs.declared.command.Command.{Command}
+use Rattle.command_text.specs.declared.command.Command.TheVariants as command
+use Rattle.command_text.specs.declared.command.Answer.TheVariants as answer
+use Rattle.command_text.specs.declared.command.Reply.{Reply}
+use Rattle.twin_run.specs.Operation.{Operation, meaning, operation_decide, sha, one_list, same_operation}
+use Rattle.twin_run.specs.Step.{Outcome, root_of_list, plain_commit, step, reply, seal, apply}
+use Rattle.twin_run.specs.Commitments.{commitment_of, same_state}
+use Rattle.twin_run.specs.Trace.{trace, replies_from, lists_passed, fresh_state, HasNoClash}
+use Rattle.twin_run.specs.GoodRuns.{IsGoodState}
+use Rattle.twin_run.specs.Laws.{StatesTellLists}
+use Rattle.twin_run.proofs.RunGood.{stay_good_among, here_passed, later_passed, fresh_good}
+
+abbrev Allowed : ℕ → List ℕ → Type 0
+Allowed limit v = length v ≤ limit
+
+-- ---- operations of a good list have one spelling
+
+abbrev pub Admits : ℕ → Operation → Type 0
+Admits limit op = variable_admits (admits_bytes limit) (parts op)
+
+-- the operation at location i of a list that a tree can hold
+admits_one : (limit low i : ℕ) (op : Operation) → limit < 2 ^ 64 → i < 2 ^ 62 → IfSome (meaning.value op) (Allowed limit) → FloorFits low i (meaning.floor op) → Admits limit op
+admits_one limit low i (Append v) small few value floor = (value, omega arith)
+admits_one limit low i (Commit None floor) small few value fits = (tt, (omega (arith, fits.1), omega (arith, fits.1)))
+admits_one limit low i (Commit (Some v) floor) small few value fits = ((value, omega arith), (omega (arith, fits.1), omega (arith, fits.1)))
+
+admits_all : (limit low i : ℕ) (ops : List Operation) → limit < 2 ^ 64 → i + length ops ≤ 2 ^ 62 → ValuesAre meaning (Allowed limit) ops → FloorsRise meaning low i ops → AllByRecursion (Admits limit) ops
+admits_all limit low i [] small few values floors = tt
+admits_all limit low i (op ∷ ops) small few values floors =
+    (admits_one limit low i op small (omega arith) values.0 floors.0, admits_all limit (unwrap_or (meaning.floor op) low) (i + 1) ops small (omega arith) values.1 floors.1)
+
+all_take : (P : Operation → Type 0) (n : ℕ) (ops : List Operation) → AllByRecursion P ops → AllByRecursion P (take n ops)
+all_take P zero ops all = tt
+all_take P (suc n) [] all = tt
+all_take P (suc n) (op ∷ ops) all = (all.0, all_take P n ops all.1)
+
+-- ---- sizes and roots tell two lists of the run
+
+-- what the law of clashes says of the run's operations
+abbrev pub RootsTellLists : ℕ → Type 0
+RootsTellLists limit = (lists : List (List Operation)) (first second : List Operation) → NoClash mmr sha meaning lists → Contains lists first → Contains lists second
+    → AllByRecursion (Admits limit) first → AllByRecursion (Admits limit) second → length first ≤ 2 ^ 62 → length second ≤ 2 ^ 62 → root_of_list first ≡ root_of_list second → first ≡ second
+
+-- digests with the same bytes are one
+same_digest : (x y : Sha256Digest) → bytes_of x ≡ bytes_of y → x ≡ y
+same_digest x y e = ap (λ (b : List ℕ). record { bytes = b }) e
+
+-- one of these lists, whose operations are allowed, and that a tree can hold
+record Fits (limit : ℕ) (lists : List (List Operation)) (list : List Operation) : Type 0 where
+  pub has : Contains lists list
+  pub all : AllByRecursion (Admits limit) list
+  pub few : length list ≤ 2 ^ 62
+
+module _ (limit : ℕ) (small : limit < 2 ^ 64) (law : RootsTellLists limit) (lists : List (List Operation)) (none : NoClash mmr sha meaning lists) where
+  one_told : (first second : List Operation) → Fits limit lists first → Fits limit lists second → same_state first second ≡ true → first ≡ second
+  one_told first second a b e =
+      law lists first second none a.has b.has a.all b.all a.few b.few (ap (λ c. c.root) (is_same-exact bytes_of same_digest (commitment_of first) (commitment_of second) e))
+
+  one_tells : (first second : List Operation) → first ≡ second → same_state first second ≡ true
+  one_tells first second e = subst (λ (list : List Operation). same_state first list ≡ true) e ((is_same_equivalence bytes_of).refl (commitment_of first))
+
+  tests_agree : (first second : List Operation) → Fits limit lists first → Fits limit lists second → same_state first second ≡ one_list first second
+  tests_agree first second a b =
+      same_from_decides (same_state first second) (one_list first second) (one_told first second a b, one_tells first second) (lists_decide same_operation operation_decide first second)
+
+  -- the lists at which the log may stand
+  abbrev Among : List Operation → Type 0
+  Among list = Contains lists list
+
+  abbrev IsGoodHere : List Operation → Type 0
+  IsGoodHere list = IsGoodList meaning Among (Allowed limit) plain_commit list
+
+  all_admitted : (list : List Operation) → IsGoodHere list → AllByRecursion (Admits limit) list
+  all_admitted list g = admits_all limit 0 0 list small (omega (arith, g.few)) g.values g.floors
+
+  list_fits : (list : List Operation) → IsGoodHere list → Fits limit lists list
+  list_fits list g = record { has = g.stand.1; all = all_admitted list g; few = g.few }
+
+  mark_fits : (list : List Operation) (n : ℕ) → IsGoodHere list → IsMark meaning Among list n → Fits limit lists (take n list)
+  mark_fits list n g mark = record {
+    has = mark.1.1;
+    all = all_take (Admits limit) n list (all_admitted list g);
+    few = omega (arith, length-take-le n list mark.0, mark.0, g.few);
+  }
+
+  -- ---- so both tests stand on the same places
+
+  module _ (s : State Operation) (g : IsGoodState Among limit s) where
+    mark_agrees : (list : List Operation) (n : ℕ) → IsGoodHere list → IsMark meaning Among list n → same_state s.ops (take n list) ≡ one_list s.ops (take n list)
+    mark_agrees list n good mark = tests_agree s.ops (take n list) (list_fits s.ops g.good.ops) (mark_fits list n good mark)
+
+    marks_agree : (list : List Operation) (ns : List ℕ) → IsGoodHere list → AreMarks meaning Among list ns → AllAgree same_state one_list s list ns
+    marks_agree list [] good marks = tt
+    marks_agree list (n ∷ ns) good marks = (mark_agrees list n good marks.0, marks_agree list ns good marks.1)
+
+    stand_same : (list : List Operation) (boundary : ℕ) (tips : List ℕ) → IsGoodHere list → IsMark meaning Among list boundary → AreMarks meaning Among list tips
+        → stands_on same_state s list boundary tips ≡ stands_on one_list s list boundary tips
+    stand_same list boundary tips good mark marks = stands_agree same_state one_list s list boundary tips (mark_agrees list boundary good mark) (marks_agree list tips good marks)
+
+    -- ---- and each command does the same by both
+
+    seal_same : (b : ℕ) (metadata : Option (List ℕ)) (floor : ℕ) (x : Batch Operation) → batch_at s b ≡ x → seal same_state limit s b metadata floor x ≡ seal one_list limit s b metadata floor x
+    seal_same b metadata floor (Unsealed u) is =
+        let good : IsGoodBatch meaning Among (Allowed limit) plain_commit (Unsealed u) = subst (IsGoodBatch meaning Among (Allowed limit) plain_commit) is (g.good.batches b) in
+        let marks = marks_here meaning Among (Allowed limit) plain_commit s g.good b u is in
+        let e : may_seal same_state s u ≡ may_seal one_list s u = stand_same u.list (effective_boundary s u) (tips_of (reach s u)) good.0 marks.0 marks.1 in
+        rw e refl
+    seal_same b metadata floor (Sealed c) is = refl
+    seal_same b metadata floor Gone is = refl
+
+    apply_same : (b : ℕ) (x : Batch Operation) → batch_at s b ≡ x → apply same_state s b x ≡ apply one_list s b x
+    apply_same b (Sealed c) is =
+        let good : IsGoodBatch meaning Among (Allowed limit) plain_commit (Sealed c) = subst (IsGoodBatch meaning Among (Allowed limit) plain_commit) is (g.good.batches b) in
+        let e : may_apply same_state s c ≡ may_apply one_list s c = stand_same c.list c.boundary c.tips good.0 good.2 good.3 in
+        rw e refl
+    apply_same b (Unsealed u) is = refl
+    apply_same b Gone is = refl
+
+    step_same : (c : Command) → step same_state limit s c ≡ step one_list limit s c
+    step_same (command.New parent) = refl
+    step_same (command.Append b v) = refl
+    step_same (command.Seal b metadata floor) = seal_same b metadata floor (batch_at s b) refl
+    step_same (command.Apply b) = apply_same b (batch_at s b) refl
+    step_same (command.Hold b) = refl
+    step_same (command.Release b) = refl
+    step_same command.Snapshot = refl
+    step_same command.Size = refl
+    step_same command.Metadata = refl
+
+  -- ---- and so does a run
+
+  replies_same : (s : State Operation) (cs : List Command) → IsGoodState Among limit s → ((list : List Operation) → Contains (lists_passed one_list limit s cs) list → Among list)
+      → replies_from same_state limit s cs ≡ replies_from one_list limit s cs
+  replies_same s [] g known = refl
+  replies_same s (c ∷ cs) g known =
+      let next : State Operation = (step one_list limit s c).1 in
+      let later : (list : List Operation) → Contains (lists_passed one_list limit next cs) list → Among list = λ list has. known list (later_passed limit s c cs list has) in
+      let good : IsGoodState Among limit next = stay_good_among Among limit s c (λ list has. later list (here_passed limit next cs list has)) g in
+      ap (λ (o : Outcome). reply o ∷ replies_from same_state limit o.1 cs) (step_same s g c)
+      ∙ ap (λ (rs : List Reply). reply (step one_list limit s c) ∷ rs) (replies_same next cs good later)
+
+-- where nothing clashes, sizes and roots tell the lists of a run
+pub states_tell : (limit : ℕ) → limit < 2 ^ 64 → RootsTellLists limit → StatesTellLists limit
+unfolding trace HasNoClash
+states_tell limit small law cs none =
+    let lists : List (List Operation) = lists_passed one_list limit fresh_state cs in
+    ap (λ (rs : List Reply). reply (answer.Opened 1 0, fresh_state) ∷ rs) (replies_same limit small law lists none fresh_state cs (fresh_good limit cs) (λ list has. has))

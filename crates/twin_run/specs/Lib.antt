@@ -1,0 +1,14 @@
+pub mod Names
+pub mod Config
+pub mod Operation
+pub mod Step
+pub mod Commitments
+pub mod Trace
+pub mod Lists
+pub mod Pool
+pub mod StateOf
+pub mod Outcome
+pub mod Report
+pub mod Laws
+pub mod GoodRuns
+pub mod Rows

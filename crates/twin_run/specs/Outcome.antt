@@ -1,0 +1,107 @@
+-- What has happened where the program ends.
+use Rattle.std.specs.Prelude.{◌≡◌, ◌⊎◌, ℕ, ◌<◌, ◌≤◌, List, length, Option, Some, IfSome}
+use Rattle.std.specs.Io.KnownBytes.{Appends, IsAtEnd}
+use Rattle.codec_base.specs.Causes.{Rose}
+use Rattle.stream_base.specs.Writing.{WritesFront}
+use Rattle.command_text.specs.declared.command.Command.{Command}
+use Rattle.command_text.specs.declared.command.Reply.{Reply}
+use Rattle.twin_run.specs.declared.ending.Fault.{Fault}
+use Rattle.twin_run.specs.declared.ending.Fault.TheVariants as fault
+use Rattle.twin_run.specs.declared.ending.Status.{Status}
+use Rattle.twin_run.specs.declared.ending.Status.TheVariants.{BadWords, BadLine, ReadFault, TooLong, Volume, NotFresh, Done, WriteFault, Memory}
+use Rattle.twin_run.specs.Config.{standard_config}
+use Rattle.line_text.specs.Lines.{lines_of}
+use Rattle.command_text.specs.Grammar.{InputSays}
+use Rattle.command_text.specs.Bad.{IsFirstBad}
+use Rattle.command_text.specs.Text.{text_of}
+use Rattle.twin_run.specs.Commitments.{same_state}
+use Rattle.twin_run.specs.Trace.{trace, IsBegun}
+
+-- the input was read to its end, and isn't too long
+pub record IsWhole (old new : Option (List ℕ)) : Type 0 where
+  pub ended : IsAtEnd new
+  pub within : IfSome old (λ bytes. length bytes ≤ 16777216)
+
+-- there are no words, and the input, which isn't too long, says commands
+pub record IsValid {W : Type 0} (words : List W) (left : Option (List ℕ)) : Type 0 where
+  pub no_words : length words ≡ 0
+  pub bytes : List ℕ
+  pub commands : List Command
+  pub there : left ≡ Some bytes
+  pub within : length bytes ≤ 16777216
+  pub said : InputSays bytes commands
+
+-- the input was read to its end, and says these commands
+pub record IsInput (old new : Option (List ℕ)) (commands : List Command) : Type 0 where
+  pub whole : IsWhole old new
+  pub said : IfSome old (λ bytes. InputSays bytes commands)
+
+-- the replies to these commands, under the program's configuration, by sizes and roots
+abbrev pub replies_to : List Command → List Reply
+replies_to commands = trace same_state standard_config.value_limit commands
+
+-- the input says commands, and the text of all replies to them was written
+pub record IsAnswered (left left' written written' : Option (List ℕ)) : Type 0 where
+  pub commands : List Command
+  pub input : IsInput left left' commands
+  pub wrote : Appends written written' (text_of (replies_to commands))
+
+-- the input says commands, and of the text of all replies to them a front was written
+pub record IsCutOff (left left' written written' : Option (List ℕ)) : Type 0 where
+  pub commands : List Command
+  pub input : IsInput left left' commands
+  pub wrote : WritesFront written written' (text_of (replies_to commands))
+
+-- the text of the first of these replies, which are not all, was written, or a front of it where the sink failed
+pub record WritesSoFar (old new : Option (List ℕ)) (faults faults' : ℕ) (replies : List Reply) : Type 0 where
+  pub so_far : List Reply
+  pub begun : IsBegun so_far replies
+  pub wrote : Appends old new (text_of so_far) ⊎ (Rose faults faults' × WritesFront old new (text_of so_far))
+
+-- the input says commands, and the text of the first replies to them was written, or a front of it where the sink failed
+pub record IsStopped (left left' written written' : Option (List ℕ)) (faults faults' : ℕ) : Type 0 where
+  pub commands : List Command
+  pub input : IsInput left left' commands
+  pub wrote : WritesSoFar written written' faults faults' (replies_to commands)
+
+-- the program ends before its run
+abbrev pub IsEarly : Status → Type 0
+IsEarly BadWords = Unit {0}
+IsEarly (BadLine n) = Unit {0}
+IsEarly ReadFault = Unit {0}
+IsEarly TooLong = Unit {0}
+IsEarly Done = ⊥
+IsEarly WriteFault = ⊥
+IsEarly Volume = ⊥
+IsEarly NotFresh = ⊥
+IsEarly Memory = ⊥
+
+-- why the input isn't read as commands; want of memory may come at any time
+abbrev pub IsReadStatus : Option (List ℕ) → Option (List ℕ) → ℕ → ℕ → Status → Type 0
+IsReadStatus left left' faults faults' (BadLine n) = IsWhole left left' × IfSome left (λ bytes. IsFirstBad (lines_of bytes) n)
+IsReadStatus left left' faults faults' ReadFault = Rose faults faults'
+IsReadStatus left left' faults faults' TooLong = IfSome left (λ bytes. 16777216 < length bytes)
+IsReadStatus left left' faults faults' Memory = Unit {0}
+IsReadStatus left left' faults faults' BadWords = ⊥
+IsReadStatus left left' faults faults' Done = ⊥
+IsReadStatus left left' faults faults' WriteFault = ⊥
+IsReadStatus left left' faults faults' Volume = ⊥
+IsReadStatus left left' faults faults' NotFresh = ⊥
+
+-- what a run of these commands has left in a sink, and why it didn't end otherwise
+abbrev pub IsRunStatus : List Command → Option (List ℕ) → Option (List ℕ) → ℕ → ℕ → ℕ → ℕ → Status → Type 0
+IsRunStatus commands written written' faults faults' volume volume' Done = Appends written written' (text_of (replies_to commands))
+IsRunStatus commands written written' faults faults' volume volume' WriteFault = Rose faults faults' × WritesFront written written' (text_of (replies_to commands))
+IsRunStatus commands written written' faults faults' volume volume' Volume = Rose volume volume' × WritesSoFar written written' faults faults' (replies_to commands)
+IsRunStatus commands written written' faults faults' volume volume' NotFresh = WritesSoFar written written' faults faults' (replies_to commands)
+IsRunStatus commands written written' faults faults' volume volume' Memory = WritesSoFar written written' faults faults' (replies_to commands)
+IsRunStatus commands written written' faults faults' volume volume' BadWords = ⊥
+IsRunStatus commands written written' faults faults' volume volume' (BadLine n) = ⊥
+IsRunStatus commands written written' faults faults' volume volume' ReadFault = ⊥
+IsRunStatus commands written written' faults faults' volume volume' TooLong = ⊥
+
+-- how the program ends after a fault of its run
+abbrev pub fault_status : Fault → Status
+fault_status fault.Volume = Volume
+fault_status fault.NotFresh = NotFresh
+fault_status fault.Memory = Memory

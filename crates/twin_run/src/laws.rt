@@ -1,0 +1,50 @@
+//! Laws of the definitions that the run is stated by.
+ghost use Rattle.twin_run.specs.GoodRuns.{StepsStayGood, RunsAreGood};
+ghost use Rattle.twin_run.specs.Laws.{SizesNeverFall, TestsTellLengths, RepliesTellLists, RunsContinue, RefusalsKeep, StatesTellLists};
+
+use crate::operation::Operation;
+use codec_base::LengthCfg;
+use log_model::no_clash_law;
+use tree_shape::{Mmr, Sha256Hasher};
+
+/// The sizes in the replies of a run never fall.
+pub fn sizes_never_fall()
+    ensures { SizesNeverFall }
+{}
+
+/// Both tests of lists tell lengths.
+pub fn tests_tell_lengths()
+    ensures { TestsTellLengths }
+{}
+
+/// Each reply of a run tells the list after the commands up to it, and nothing else of them.
+pub fn replies_tell_lists()
+    ensures { RepliesTellLists }
+{}
+
+/// A run of two lists of commands is the run of the first, continued by the second.
+pub fn runs_continue()
+    ensures { RunsContinue }
+{}
+
+/// A refused command changes nothing; a seal that is refused as stale, for its location or for its floor loses its batch.
+pub fn refusals_keep()
+    ensures { RefusalsKeep }
+{}
+
+/// Each kind of step makes a good state of a good state, where lists are compared operation by operation.
+pub fn steps_stay_good()
+    ensures { StepsStayGood }
+{}
+
+/// Each state of a run that compares operations is good.
+pub fn runs_are_good()
+    ensures { RunsAreGood }
+{}
+
+/// Where nothing clashes that is hashed for the lists of a run, it answers the same by sizes and roots as by operations.
+pub fn states_tell_lists(limit: u64)
+    ensures { StatesTellLists limit }
+{
+    no_clash_law::<Mmr, Sha256Hasher, Operation>(&LengthCfg { max: limit });
+}

@@ -1,0 +1,26 @@
+//! A run of commands over one list in memory, which stands for both forms of the log, and the top call of the program `twins`.
+#![tactic(auto)]
+
+mod batch;
+mod config;
+mod ending;
+mod history;
+mod laws;
+mod machine;
+mod main_call;
+mod operation;
+mod pool;
+mod report;
+mod rows;
+mod run;
+
+pub use config::{ConfigError, TwinConfig, VALUE_LIMIT};
+pub use ending::{Fault, Status, Stopped};
+pub use laws::{
+    refusals_keep, replies_tell_lists, runs_are_good, runs_continue, sizes_never_fall,
+    states_tell_lists, steps_stay_good, tests_tell_lengths,
+};
+pub use main_call::twins_main;
+pub use operation::Operation;
+pub use rows::worked_rows;
+pub use run::run_twins;

@@ -1,5 +1,0 @@
-use Rattle.twins.proofs.PoolLemmas.{reach_alive}
-use Rattle.twins.proofs.reach.reach_of.Goals as goal
-
-pub collected-requires : goal.collected-requires
-collected-requires c = rw c.deref.ensures.value (reach_alive c.args.pool.now c.in_ok-ids.ids.items c.args.link c.in_ok-ids.ensures.reach)
