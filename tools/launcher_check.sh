@@ -1,6 +1,6 @@
 #!/bin/sh
 # Checks the launcher `twins` and through it the program's ends: the stored run, from another folder, through a link, with
-# input passed on, also between comments and empty lines; the longest input; each other status that can be had from outside, with
+# input passed on, also between comments and empty lines; the longest input, also as line ends alone in little memory; each other status that can be had from outside, with
 # its message; and the message where rt is missing. It works on the checkout that it stands in.
 set -u
 top=$(cd "$(dirname "$0")/.." && pwd -P)
@@ -59,6 +59,10 @@ head -n 1 "$top/crates/twins/stdout" >"$scratch/opened"
 (cd "$scratch" && ./link <longest >answers)
 expect 'status of the longest input' [ $? -eq 0 ]
 expect 'output of the longest input' cmp -s "$scratch/answers" "$scratch/opened"
+tr '#' '\n' <"$scratch/longest" >"$scratch/line-ends"
+(cd "$scratch" && ulimit -v 200000 && ./link <line-ends >answers)
+expect 'status of line ends alone, in 200 MB of memory' [ $? -eq 0 ]
+expect 'output of line ends alone' cmp -s "$scratch/answers" "$scratch/opened"
 if [ -w /dev/full ]; then
     (cd "$scratch" && ./link </dev/null >/dev/full 2>errors)
     expect 'status 5' [ $? -eq 5 ]

@@ -56,7 +56,7 @@ pub enum Error<F> {
     FloorBeyondSize(Location<F>, Location<F>),
     /// The location of a prune, and the floor, which is below it.
     PruneBeyondMinRequired(Location<F>, Location<F>),
-    /// No commit that is kept ends at the size.
+    /// No commit ends at the size; of an opening, none that is kept ends at or below it.
     HistoricalFloorPruned(Location<F>),
     /// The operation for the location is of another kind than asked for.
     UnexpectedData(Location<F>),

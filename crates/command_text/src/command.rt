@@ -26,12 +26,18 @@ pub enum Command {
     Metadata,
 }
 
+/// Values in their order; of a commit without metadata, none.
+pub type ValueList = ListOf<Option<Bytes>>;
+
+/// The encodings of operations, in their order.
+pub type OpList = ListOf<Bytes>;
+
 /// A proof, from which location on it shows operations, and the encodings of these.
 #[derive(Debug, PartialEq, Eq, Drop)]
 pub struct ProofAnswer {
     pub proof: Proof<Mmr, Sha256Digest>,
     pub start: u64,
-    pub operations: ListOf<Bytes>,
+    pub operations: OpList,
 }
 
 /// What a command answers.
@@ -50,7 +56,7 @@ pub enum Answer {
     /// The value at a location; of a commit, its metadata.
     Value(Option<Bytes>),
     /// The values at several locations.
-    Values(ListOf<Option<Bytes>>),
+    Values(ValueList),
     /// The size, the first location that is kept and the floor of the last commit.
     Size { size: u64, start: u64, floor: u64 },
     /// The metadata of the last commit.

@@ -5,7 +5,7 @@ mod command;
 mod parse;
 mod text;
 
-pub use command::{Answer, Command, ProofAnswer, Replies, Reply};
+pub use command::{Answer, Command, OpList, ProofAnswer, Replies, Reply, ValueList};
 pub use log_model::Refusal;
 pub use parse::{LineError, parse_commands};
 pub use text::write_replies;

@@ -171,7 +171,7 @@ fn push_command(commands: &mut Vec<Command>, number: u64, line: &[u8]) -> Result
     }
 }
 
-/// Reads an input as commands, one a line; empty lines and comments are skipped, and take no memory.
+/// Reads an input as commands, one a line; empty lines and comments are skipped.
 pub fn parse_commands(alloc: Global, input: &[u8]) -> Result<Vec<Command>, LineError>
     ensures read { IfOk result (λ commands. InputSays input.now commands.items) }
     ensures bad { IfErr result (IsCause (lines_of input.now)) }

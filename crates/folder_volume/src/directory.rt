@@ -45,6 +45,8 @@ pub struct Beside<T> {
 pub struct Directory<R: Files> {
     files: R,
     path: String,
+    /// The folder above.
+    above: String,
     alloc: Global,
     held: Option<Synced<R::File>>,
     own_name: OwnName,
@@ -57,9 +59,12 @@ where
     /// The folder of this path; the current one where the path is empty. Nothing is touched yet.
     pub fn new(files: R, alloc: Global, path: &str) -> Result<Self, AllocError> {
         let path = if path.is_empty() { "." } else { path };
+        let mut above = String::from_str(alloc, path)?;
+        above.push_str("/..")?;
         Ok(Directory {
             files,
             path: String::from_str(alloc, path)?,
+            above,
             alloc,
             held: None,
             own_name: OwnName::Unsynced,
@@ -137,15 +142,13 @@ where
     }
 
     /// Makes the folder's own name outlast a crash. Where the folder above may not be opened, it wasn't made here, and is
-    /// taken to do so.
+    /// taken to do so. It takes no memory, since a file may have been changed before.
     fn sync_own_name(&mut self) -> Result<(), Failure> {
         self.own_name.check()?;
         if self.own_name == OwnName::Durable {
             return Ok(());
         }
-        let path = self.path.as_str();
-        let above = format!(in self.alloc; "{path}/..")?;
-        if let Some(folder_above) = self.open_above(above.as_str())? {
+        if let Some(folder_above) = self.open_above(self.above.as_str())? {
             self.own_name.sync_above(&folder_above, false)?;
         }
         self.own_name = OwnName::Durable;

@@ -1,6 +1,6 @@
 //! What words and lines say.
-ghost use Rattle.std.specs.Prelude.{◌≡◌, [], ◌∷◌, ℕ, List, Option, IfOk, IsOkUnless, MatchOption, ◌↔◌, IsTrue};
-ghost use Rattle.line_text.specs.Said.{IsNumberWord, IsBytesWord, IsOptionalWord, IsSkipped};
+ghost use Rattle.std.specs.Prelude.{◌≡◌, IfOk, IsOkUnless, ◌↔◌, IsTrue, drop};
+ghost use Rattle.line_text.specs.Said.{IsTheOne, IsNumberWord, IsBytesWord, IsOptionalWord, IsFirstNumber, IsOnlyNumber, IsSkipped};
 
 use crate::Words;
 use codec_base::{Bytes, CodecError};
@@ -10,7 +10,7 @@ use std::str;
 
 /// The number that a word is, in decimal without sign and without zeros in front.
 pub fn parse_number(word: &[u8]) -> Option<u64>
-    ensures { MatchOption result ((n : ℕ) → IsNumberWord word.now n → ⊥) (IsNumberWord word.now) }
+    ensures { IsTheOne result (IsNumberWord word.now) }
 {
     if word.is_empty() {
         return None;
@@ -32,7 +32,7 @@ pub fn parse_number(word: &[u8]) -> Option<u64>
 
 /// The bytes that a word stands for, in hexadecimal, or a full stop for none.
 pub fn parse_bytes(alloc: Global, word: &[u8]) -> Result<Option<Bytes>, CodecError>
-    ensures bytes { IfOk result (λ o. MatchOption o ((value : List ℕ) → IsBytesWord word.now value → ⊥) (IsBytesWord word.now)) }
+    ensures bytes { IfOk result (λ o. IsTheOne o (IsBytesWord word.now)) }
     ensures memory { IsOkUnless result CodecError.Memory }
 {
     if word == b".".as_slice() {
@@ -52,7 +52,7 @@ pub fn parse_bytes(alloc: Global, word: &[u8]) -> Result<Option<Bytes>, CodecErr
 
 /// The bytes that a word stands for, or none where it is a hyphen.
 pub fn parse_optional_bytes(alloc: Global, word: &[u8]) -> Result<Option<Option<Bytes>>, CodecError>
-    ensures bytes { IfOk result (λ o. MatchOption o ((value : Option (List ℕ)) → IsOptionalWord word.now value → ⊥) (IsOptionalWord word.now)) }
+    ensures bytes { IfOk result (λ o. IsTheOne o (IsOptionalWord word.now)) }
     ensures memory { IsOkUnless result CodecError.Memory }
 {
     if word == b"-".as_slice() {
@@ -64,16 +64,17 @@ pub fn parse_optional_bytes(alloc: Global, word: &[u8]) -> Result<Option<Option<
     }
 }
 
-/// Reads the next word as a number.
+/// Takes the next word, and reads it as a number. The word is taken whatever it says.
 pub fn next_number(words: &mut Words<'_>) -> Option<u64>
-    ensures { MatchOption result ((number : List ℕ) (rest : List (List ℕ)) (n : ℕ) → words.old ≡ number ∷ rest → IsNumberWord number n → ⊥) (λ n. (number : List ℕ) × (words.old ≡ number ∷ words.new) × IsNumberWord number n) }
+    ensures number { IsFirstNumber words.old words.new result }
+    ensures rest { words.new ≡ drop 1 words.old }
 {
     parse_number(words.next_word()?)
 }
 
 /// Reads the words that are left as one number.
 pub fn only_number(mut words: Words<'_>) -> Option<u64>
-    ensures { MatchOption result ((number : List ℕ) (n : ℕ) → words.entry ≡ number ∷ [] → IsNumberWord number n → ⊥) (λ n. (number : List ℕ) × (words.entry ≡ number ∷ []) × IsNumberWord number n) }
+    ensures { IsOnlyNumber words.entry result }
 {
     let number = next_number(&mut words)?;
     if words.is_empty() { Some(number) } else { None }

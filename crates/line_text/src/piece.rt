@@ -1,4 +1,4 @@
-ghost use Rattle.std.specs.Prelude.{◌≡◌, ◌+◌, ◌≤◌, [], ◌++◌, length, OnOk};
+ghost use Rattle.std.specs.Prelude.{◌≡◌, ◌+◌, ◌≤◌, [], ◌++◌, length, OnOk, OnErr};
 ghost use Rattle.codec_base.specs.Causes.{HasCause};
 ghost use Rattle.stream_base.specs.Writing.{Writes};
 ghost use Rattle.line_text.specs.Pending.{Puts};
@@ -8,7 +8,8 @@ use stream_base::{Sink, WriteFailed, write_all};
 
 const ROOM: usize = 8192;
 
-/// Bytes that wait to be written, so that they go out in large pieces. Contracts see them as their list.
+/// Bytes that wait to be written, so that they go out in large pieces. Contracts see them as their list. Where a call of `put` or of
+/// a text fails, a front of the text has been written and what waits then is free: a text that failed isn't taken up again.
 #[derive(Drop)]
 pub struct Piece {
     bytes: [u8; 8192],
@@ -53,10 +54,11 @@ impl Piece {
         ROOM - self.used
     }
 
-    /// Writes what waits.
+    /// Writes what waits. After a failure it waits still, though a front of it may have been written.
     pub fn send<O: Sink>(&mut self, out: &mut O) -> Result<(), WriteFailed>
         ensures sent { Writes (O.written out.old) (O.written out.new) result self.old }
         ensures ok { OnOk result (self.new ≡ []) }
+        ensures err { OnErr result (self.new ≡ self.old) }
         ensures cause { HasCause (O.faults out.old) (O.faults out.new) result }
     {
         write_all(out, &self.bytes[..self.used])?;
