@@ -1,7 +1,8 @@
 #!/bin/sh
 # Checks the launcher `twins` and through it the program's ends: the stored run, from another folder, through a link, with
-# input passed on, also between comments and empty lines; the longest input, also as line ends alone in little memory; each other status that can be had from outside, with
-# its message; and the message where rt is missing. It works on the checkout that it stands in.
+# input passed on, also between comments and empty lines; the longest input, also as line ends alone in little memory; each
+# other status that can be had from outside, with its message; and the message where rt is missing. It works on the checkout
+# that it stands in.
 set -u
 top=$(cd "$(dirname "$0")/.." && pwd -P)
 if ! command -v rt >/dev/null 2>&1; then
