@@ -1,0 +1,4 @@
+pub mod Witness
+pub mod Witnesses
+pub mod Searched
+pub mod Selected
