@@ -1,13 +1,12 @@
 -- What holds of a tree of a list that a volume holds.
-use Rattle.std.proofs.Common.{◌≡◌, ◌⊎◌, inl, inr, ℕ, ◌+◌, ◌-◌, ◌<◌, ◌≤◌, Bool, true, false, cond, List, length, map, take, drop, Some, None, Option, refl, sym, ◌∙◌, ap, subst, arith}
-use Rattle.std.specs.Prelude.{◌||◌, slice_get, nat_le, is_some, IsSome}
+use Rattle.std.proofs.Common.{◌≡◌, inl, inr, ℕ, ◌+◌, ◌-◌, ◌<◌, ◌≤◌, Bool, true, false, List, length, map, take, Some, None, Option, refl, sym, ◌∙◌, ap, subst, arith}
+use Rattle.std.specs.Prelude.{◌||◌, slice_get, is_some}
 use Rattle.std.specs.Option.{option_map}
 use Rattle.std.proofs.lemmas.Bool.{cases_lt}
 use Rattle.std.proofs.lemmas.Bool.Decides.{leb_tells}
 use Rattle.std.proofs.lemmas.List.{length-map, length-take-le, length-drop}
 use Rattle.std.proofs.lemmas.Option.{slice_get-map}
 use Rattle.codec_base.specs.Codec.{Reading, IsLawful}
-use Rattle.codec_base.specs.Parts.{whole}
 use Rattle.codec_base.specs.PartsLaws.{whole_again}
 use Rattle.volume_base.specs.Log.{Log, end_of}
 use Rattle.volume_base.specs.Moments.{Image}
@@ -20,8 +19,8 @@ use Rattle.tree_shape.proofs.NeededLemmas.{made_le}
 use Rattle.tree_store.specs.Stored.{IsMapOf}
 use Rattle.tree_store.specs.Stores.{IsTreeOf}
 use Rattle.tree_core.specs.Pruned.{is_peak_at, keeps}
-use Rattle.tree_core.specs.Tree.{node_at, either, rests}
-use Rattle.merkle_full.specs.Full.{Full, IsKept, IsSpelled, IsHeld, found, read_at, logged, told_at}
+use Rattle.tree_core.specs.Tree.{node_at, either}
+use Rattle.merkle_full.specs.Full.{Full, IsKept, IsHeld, found, read_at, logged, told_at}
 use Rattle.merkle_full.specs.Lists.{IsFullOf, IsNodeOf}
 use Rattle.merkle_full.proofs.ListLemmas.{there_is, all_at, taken, entry_of, logged_entry}
 
@@ -121,11 +120,11 @@ module _ {D : Type 0} (s : Shape) (h : Hashing D) (spelling : D → List ℕ) (a
     needed_told full kept p lt is = elim (cases_lt p end) [
       | inr past ↦ left_some (node_at t.tree p) (logged reads log p) (kept.sound.held.since p past lt)
       | inl low ↦ elim (leb_tells (length (made s t.boundary)) p) [
-          | inl from ↦ right_some (node_at t.tree p) (logged reads log p) (log_has full p (omega (arith, full.start_is, full.low, from.1)) low (omega (arith, made_le s t.tree.boundary t.tree.leaves kept.sound.within, ap (λ n. length (made s n)) full.tree.count, length-nodes s h all)))
-          | inr below ↦
-              let peak : is_peak_at s t.boundary (s.heights t.boundary) p ≡ true = rw below.0 at is in
-              left_some (node_at t.tree p) (logged reads log p) (kept.exact p low ∙ or_second (is_peak_at s t.tree.boundary (s.heights t.tree.boundary) p) (is_peak_at s t.boundary (s.heights t.boundary) p) peak)
-        ]
+        | inl from ↦ right_some (node_at t.tree p) (logged reads log p) (log_has full p (omega (arith, full.start_is, full.low, from.1)) low (omega (arith, made_le s t.tree.boundary t.tree.leaves kept.sound.within, ap (λ n. length (made s n)) full.tree.count, length-nodes s h all)))
+        | inr below ↦
+            let peak : is_peak_at s t.boundary (s.heights t.boundary) p ≡ true = rw below.0 at is in
+            left_some (node_at t.tree p) (logged reads log p) (kept.exact p low ∙ or_second (is_peak_at s t.tree.boundary (s.heights t.tree.boundary) p) (is_peak_at s t.boundary (s.heights t.boundary) p) peak)
+      ]
     ]
       where
         or_second : (a b : Bool) → b ≡ true → (a || b) ≡ true

@@ -1,8 +1,10 @@
 -- A tree with later leaves in memory.
-use Rattle.std.proofs.Common.{◌≡◌, ℕ, ◌+◌, ◌<◌, ◌≤◌, List, ◌++◌, length, map, take, Ok, Err, refl, sym, ◌∙◌, ap, subst, arith}
-use Rattle.std.specs.Prelude.{is_some, Result, IfErr}
+use Rattle.std.proofs.Common.{◌≡◌, ℕ, ◌+◌, ◌<◌, List, ◌++◌, length, take, Ok, Err, sym, ◌∙◌, ap, subst, arith}
+use Rattle.std.specs.Prelude.{is_some, Result, IfErr, IsErrOf}
 use Rattle.std.specs.Result.{IsErrAnd}
 use Rattle.volume_base.specs.Moments.{Image}
+use Rattle.volume_base.specs.Volume.{State, Reads}
+use Rattle.volume_base.proofs.ReadLemmas.{OnlyRead, reads_of}
 use Rattle.journal_base.specs.Items.{Spells}
 use Rattle.tree_shape.specs.Hashing.{Hashing}
 use Rattle.tree_shape.specs.Shape.{Shape, made, IsLawful}
@@ -10,6 +12,8 @@ use Rattle.tree_shape.specs.Slow.{nodes}
 use Rattle.tree_shape.proofs.NeededLemmas.{made_le}
 use Rattle.tree_store.specs.Stored.{IsMapOf}
 use Rattle.tree_store.proofs.StoredLemmas.{front_nodes, map_of_longer}
+use Rattle.tree_store.specs.declared.error.Error.{Error}
+use Rattle.tree_store.specs.declared.error.Error.TheVariants as tree
 use Rattle.tree_core.specs.Tree.{IsOf, IsSound, rests}
 use Rattle.tree_core.specs.Applied.{IsLonger}
 use Rattle.merkle_full.specs.Full.{Full, IsKept, IsBeside}
@@ -19,6 +23,15 @@ use Rattle.merkle_full.specs.Lists.{AreDigests, IsFullOf}
 pub err_same : {T E : Type 0} (r : Result T E) (e : E) (P : E → Type 0) → IsErrAnd r (λ d. d ≡ e) → P e → IfErr r P
 err_same (Ok x) e P is p = tt
 err_same (Err d) e P is p = subst P (sym is) p
+
+-- want of memory is no failure of the volume
+pub memory_alone : {F T : Type 0} (r : Result T (Error F)) (e : Error F) → IsErrAnd r (λ d. d ≡ e) → e ≡ tree.Memory → IsErrOf r tree.Volume → ⊥
+memory_alone (Ok x) e is memory fault = is
+memory_alone (Err d) e is memory fault = absurd cc
+
+-- what has only read and answers Ok
+pub reads_ok : {T E : Type 0} (tells : Type 0) (fault : E) (a b : State) (x : T) → OnlyRead tells a b → Reads tells fault a b (Ok x)
+reads_ok tells fault a b x only = reads_of tells fault a b (Ok x) only (λ is. absurd cc)
 
 pub grown_kept : {D : Type 0} (s : Shape) (n : ℕ) (t u : Full D) → IsKept s t → IsLonger s n t.tree u.tree → IsSound s u.tree → u.boundary ≡ t.boundary → IsKept s u
 grown_kept s n t u kept longer sound same = record {

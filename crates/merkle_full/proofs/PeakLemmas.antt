@@ -1,19 +1,21 @@
 -- The peaks of a number of leaves as a list, and what is told at their positions.
-use Rattle.std.proofs.Common.{◌≡◌, inl, inr, ℕ, zero, suc, ◌-◌, ◌<◌, ◌≤◌, true, List, [], ◌∷◌, ◌++◌, length, map, Some, None, Option, refl, sym, ◌∙◌, ap, subst, arith}
-use Rattle.std.specs.Prelude.{◌^◌, slice_get, reverse}
+use Rattle.std.proofs.Common.{◌≡◌, inl, inr, ℕ, zero, suc, ◌-◌, ◌<◌, ◌≤◌, Bool, true, false, List, [], ◌∷◌, ◌++◌, length, map, Some, Option, refl, sym, ◌∙◌, ap, arith}
+use Rattle.std.specs.Prelude.{◌^◌, ◌||◌, nat_le, slice_get, reverse}
 use Rattle.std.specs.Option.{option_map}
 use Rattle.std.proofs.lemmas.Bool.Decides.{eqb_tells}
-use Rattle.std.proofs.lemmas.List.{reverse-append, length-map}
+use Rattle.std.proofs.lemmas.List.{reverse-append, length-map, length-reverse}
 use Rattle.std.proofs.lemmas.Option.{slice_get-map, slice_get_within, same_Some}
 use Rattle.tree_shape.specs.Hashing.{Hashing}
 use Rattle.tree_shape.specs.Shape.{Shape, made, peaks, peaks_down, IsLawful}
-use Rattle.tree_shape.specs.Kept.{PeakIn, PeakOf}
+use Rattle.tree_shape.specs.Kept.{PeakIn, PeakOf, KeepsPeaks}
 use Rattle.tree_shape.specs.Pins.{pins, position_of}
 use Rattle.tree_shape.specs.Places.{get-append}
 use Rattle.tree_shape.specs.Slow.{nodes, node_of}
 use Rattle.tree_store.specs.Stores.{IsTreeOf}
-use Rattle.tree_core.specs.Pruned.{is_peak_at}
-use Rattle.tree_core.proofs.PrunedLemmas.{peak_stands}
+use Rattle.tree_core.specs.Pruned.{is_peak_at, keeps}
+use Rattle.tree_core.proofs.PrunedLemmas.{peak_stands, kept_past, peak_at_true}
+use Rattle.tree_shape.proofs.NeededLemmas.{needed_from}
+use Rattle.tree_shape.proofs.PinLemmas.{length-peaks_down}
 use Rattle.tree_verification.proofs.NodeLemmas.{stands-later}
 use Rattle.merkle_full.proofs.ListLemmas.{same_lists, mapped_some}
 
@@ -101,3 +103,20 @@ peaks_told {D = D} s h all m told n w le t ds e = same_lists ds (map (node_of s 
         let stands = stands-later s n (length all) (s.position peak.start peak.height) peak.start peak.height le (peak_stands s (made s n) n (s.heights n) peak.start peak.height (w.peaks n) peak.peak) in
         let slow : slice_get (nodes s h all) p.0 ≡ Some (node_of s h all (peak.start, peak.height)) = ap (slice_get (nodes s h all)) peak.position ∙ slice_get-map (node_of s h all) (made s (length all)) (s.position peak.start peak.height) ∙ ap (option_map (node_of s h all)) stands in
         slice_get-map (node_of s h all) (peaks s n) i ∙ ap (option_map (node_of s h all)) peak.place ∙ sym slow ∙ t.right p.0 d (sym p.2)
+
+-- there are as many as heights
+pub pin_count : (s : Shape) (n : ℕ) → length (pins s n) ≡ length (s.heights n)
+pin_count s n = length-map (peaks s n) (position_of s) ∙ length-reverse (peaks_down n (s.heights n)) ∙ length-peaks_down n (s.heights n)
+
+-- a peak of some leaves is kept by each boundary that is no greater
+pub pin_kept : (s : Shape) (b n i p : ℕ) → IsLawful s → KeepsPeaks s → b ≤ n → slice_get (pins s n) i ≡ Some p → keeps s b p ≡ true
+pin_kept s b n i p w q le is =
+    let at = peak_of_pin s n i p is in
+    elim (needed_from s w q n b at.start at.height le (inl at.peak)) [
+      | inl late ↦ kept_past s b p (omega (arith, late, at.position))
+      | inr peak ↦ or_second (nat_le (length (made s b)) p) (is_peak_at s b (s.heights b) p) (ap (is_peak_at s b (s.heights b)) at.position ∙ peak_at_true s b (s.heights b) at.start at.height peak)
+    ]
+  where
+    or_second : (x y : Bool) → y ≡ true → (x || y) ≡ true
+    or_second true y e = refl
+    or_second false y e = e

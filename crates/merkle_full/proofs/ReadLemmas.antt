@@ -1,6 +1,6 @@
 -- Nodes read from memory and from the log.
-use Rattle.std.proofs.Common.{◌≡◌, inl, inr, ℕ, ◌-◌, ◌<◌, ◌≤◌, Bool, true, false, cond, List, length, Some, None, Option, refl, sym, ◌∙◌, ap, subst, arith}
-use Rattle.std.specs.Prelude.{◌⊎◌, All, slice_get, IsSome, is_some, nat_le, Result, Ok, Err, IfErr, IsErrOf}
+use Rattle.std.proofs.Common.{◌≡◌, inl, inr, ℕ, ◌-◌, ◌<◌, ◌≤◌, true, List, length, Some, None, Option, refl, sym, ◌∙◌, ap, subst, arith}
+use Rattle.std.specs.Prelude.{All, slice_get, IsSome, is_some, Result, Ok, Err, IfErr}
 use Rattle.std.specs.Result.{IsErrAnd}
 use Rattle.std.proofs.lemmas.Bool.Decides.{leb_tells}
 use Rattle.codec_base.specs.Codec.{Reading, IsLawful}
@@ -21,7 +21,7 @@ use Rattle.tree_store.specs.Stores.{IsOutside, IsOutsideOr, IsReadFault, IsFirst
 use Rattle.tree_store.specs.declared.error.Error.{Error}
 use Rattle.tree_store.specs.declared.error.Error.TheVariants.{Journal}
 use Rattle.tree_store.proofs.StoreLemmas.{outside_or}
-use Rattle.tree_core.specs.Tree.{Tree, IsSound, node_at, either}
+use Rattle.tree_core.specs.Tree.{IsSound, node_at, either}
 use Rattle.merkle_full.specs.Full.{Full, IsHeld, found, read_at, logged, told_at}
 use Rattle.merkle_full.specs.Reading.{IsUnreadAt, IsPast, IsFirstUnread}
 use Rattle.merkle_full.proofs.ListLemmas.{all_at}
@@ -143,3 +143,8 @@ pub first_within : {F D : Type 0} (told : ℕ → Option D) (end : ℕ) (ps : Li
 first_within told end ps e below (inl out) = outside_or told ps e out
 first_within told end ps e below (inr (p, absent, inl (is, lt))) = subst (IsOutsideOr told ps) (sym is) absent
 first_within told end ps e below (inr (p, absent, inr (is, le))) = absurd (let lt = all_at (λ q. q < end) ps absent.index p below absent.here in omega (arith, lt, le))
+
+-- where each is told, only the outside refuses
+pub none_unread : {F D : Type 0} (told : ℕ → Option D) (end : ℕ) (ps : List ℕ) (e : Error F) → ((i p : ℕ) → slice_get ps i ≡ Some p → is_some (told p) ≡ true) → IsFirstUnread told end ps e → IsOutside e
+none_unread told end ps e there (inl out) = out
+none_unread told end ps e there (inr (p, absent, why)) = absurd (let some = there absent.index p absent.here in let none = ap is_some absent.absent in cc)

@@ -1,5 +1,5 @@
 -- A tree whose nodes stand in a log beside a map of pins, as contracts see it.
-use Rattle.std.specs.Prelude.{◌≡◌, ℕ, ◌-◌, ◌<◌, ◌≤◌, List, length, Option, Some, None, Result, Ok, Err, slice_get, is_some, nat_le, if◌then◌else◌}
+use Rattle.std.specs.Prelude.{◌≡◌, ℕ, ◌-◌, ◌<◌, ◌≤◌, List, Option, Some, None, Result, Ok, Err, slice_get, is_some, nat_le, if◌then◌else◌}
 use Rattle.codec_base.specs.declared.error.CodecError.{CodecError}
 use Rattle.codec_base.specs.Codec.{Reading}
 use Rattle.codec_base.specs.Parts.{whole}

@@ -1,11 +1,11 @@
 -- Why nodes of a tree can't be read.
-use Rattle.std.specs.Prelude.{◌≡◌, ◌⊎◌, ℕ, ◌<◌, ◌≤◌, List, Option, Some, slice_get}
+use Rattle.std.specs.Prelude.{◌≡◌, ◌⊎◌, ℕ, ◌^◌, ◌<◌, ◌≤◌, List, Option, Some, Result, Ok, Err, nat_le, if◌then◌else◌, slice_get}
 use Rattle.volume_base.specs.Log.{end_of}
 use Rattle.volume_base.specs.declared.error.JournalError.TheVariants as journal
 use Rattle.journal_base.specs.Items.{Items, IsCorrupt}
 use Rattle.tree_store.specs.Stores.{IsOutside, IsFirstAbsent}
 use Rattle.tree_store.specs.declared.error.Error.{Error}
-use Rattle.tree_store.specs.declared.error.Error.TheVariants.{ElementPruned, Journal}
+use Rattle.tree_store.specs.declared.error.Error.TheVariants.{LocationOverflow, RangeOutOfBounds, ElementPruned, Journal}
 
 -- by the outside; or by the log, which begins past the position, or ends at or before it, or has bytes there that are no digest
 abbrev pub IsUnreadAt : {F D : Type 0} → Type 0 → Items D → ℕ → Error F → Type 0
@@ -28,3 +28,8 @@ abbrev pub IsFirstUnread : {F D : Type 0} → (ℕ → Option D) → ℕ → Lis
 IsFirstUnread told end ps e = IsOutside e
     ⊎ ((p : ℕ) × IsFirstAbsent told ps p
     × (((e ≡ ElementPruned p) × (p < end)) ⊎ ((e ≡ Journal (journal.ItemOutOfRange p)) × (end ≤ p))))
+
+-- whether a tree of n leaves has the peaks of a number of leaves
+abbrev pub peaks_answer : {F : Type 0} → ℕ → ℕ → Result (Unit {0}) (Error F)
+peaks_answer n leaves =
+    if nat_le leaves (2 ^ 62) then (if nat_le leaves n then Ok tt else Err (RangeOutOfBounds leaves)) else Err (LocationOverflow leaves)

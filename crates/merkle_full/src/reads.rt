@@ -2,11 +2,11 @@
 use crate::Merkle;
 use crate::pins::pin_positions;
 use journal_base::Contiguous;
-use tree_core::{Digest, Error, Family, Position};
+use tree_core::{Digest, Error, Family, Location, MAX_LEAVES, Position};
 use volume_base::Volume;
 
 impl<F: Family, D: Digest> Merkle<F, D> {
-    ghost use Rattle.std.specs.Prelude.{◌≡◌, ◌+◌, ◌<◌, ◌≤◌, List, length, map, Some, IfOk, IfErr};
+    ghost use Rattle.std.specs.Prelude.{◌≡◌, ◌+◌, ◌<◌, ◌≤◌, List, length, map, Some, Ok, Err, IfOk, IfErr, OnOk};
     ghost use Rattle.std.specs.Result.{IsErrAnd};
     ghost use Rattle.journal_base.specs.Items.{items_of};
     ghost use Rattle.tree_shape.specs.Hashing.{Hashing};
@@ -15,10 +15,11 @@ impl<F: Family, D: Digest> Merkle<F, D> {
     ghost use Rattle.tree_shape.specs.Slow.{node_of};
     ghost use Rattle.volume_base.specs.Moments.{present};
     ghost use Rattle.volume_base.specs.Volume.{Reads};
-    ghost use Rattle.tree_store.specs.Stores.{IsReadFault, IsReadRefusal, IsOutside};
+    ghost use Rattle.tree_store.specs.Stores.{IsReadFault, IsReadRefusal, IsOutside, IsOutsideOr};
+    ghost use Rattle.tree_store.specs.declared.error.Error.{Error};
     ghost use Rattle.merkle_full.specs.Full.{IsHeld, told_at};
     ghost use Rattle.merkle_full.specs.Lists.{IsFullOf, IsNodeOf};
-    ghost use Rattle.merkle_full.specs.Reading.{IsUnreadAt, IsUnreadAmong, IsPast, IsFirstUnread};
+    ghost use Rattle.merkle_full.specs.Reading.{IsUnreadAt, IsUnreadAmong, IsPast, IsFirstUnread, peaks_answer};
 
     /// The node at a position, from memory or else from the log: none where it stands below the log's start and isn't in memory.
     /// It refuses a position at or past the size with `Journal(ItemOutOfRange)`. It reads the log at most once.
@@ -106,11 +107,59 @@ impl<F: Family, D: Digest> Merkle<F, D> {
             IsFullOf F.shape h D.spelling (D.Read.admits tt) all self.now (present (V.state vol.old)) →
             leaves ≤ length all → nodes.items ≡ map (node_of F.shape h all) (peaks F.shape leaves)) }
         ensures counted { IfOk result (λ nodes. length nodes.items ≡ length positions.now) }
+        // Those from the boundary on are there.
+        ensures outside { V.tells → (h : Hashing D) (all : List D) →
+            IsFullOf F.shape h D.spelling (D.Read.admits tt) all self.now (present (V.state vol.old)) →
+            self.now.boundary ≤ leaves → leaves ≤ length all → IfErr result IsOutside }
+        ensures first { let image = present (V.state vol.old) in
+            leaves ≤ self.now.tree.leaves → V.tells → IsHeld F.shape D.spelling (D.Read.admits tt) self.now image →
+            IfErr result (IsOutsideOr (told_at (D.Read.reads tt) self.now image) positions.now) }
+        ensures refused { let items = items_of D.spelling D.Read.admits self.now.log (V.state vol.old) in
+            IfErr result (IsUnreadAmong V.tells items positions.now) }
         ensures reads { Reads V.tells Error.Volume (V.state vol.old) (V.state vol.new) result }
     {
         // Its leaves tell that memory is sound.
         let _leaves = self.mem.leaves();
         let nodes = self.get_nodes(vol, positions)?;
+        Ok(nodes)
+    }
+
+    /// The peaks of a number of leaves, the oldest first. It refuses, in this order: `LocationOverflow` above `MAX_LEAVES`,
+    /// `RangeOutOfBounds` past the leaves, and `ElementPruned` the first peak that isn't there.
+    pub fn pinned_nodes_at<V: Volume>(
+        &self,
+        vol: &mut V,
+        loc: Location<F>,
+    ) -> Result<Vec<D>, Error<F>>
+        ensures answer { (e : Error F) → peaks_answer self.now.tree.leaves loc ≡ Err e →
+            (result ≡ Err e) × (vol.new ≡ vol.old) }
+        ensures within { OnOk result (peaks_answer {F = F} self.now.tree.leaves loc ≡ Ok tt) }
+        ensures nodes { IfOk result (λ nodes. V.tells → (h : Hashing D) (all : List D) →
+            IsFullOf F.shape h D.spelling (D.Read.admits tt) all self.now (present (V.state vol.old)) →
+            nodes.items ≡ map (node_of F.shape h all) (peaks F.shape loc)) }
+        // Those from the boundary on are there.
+        ensures kept { self.now.boundary ≤ loc → peaks_answer {F = F} self.now.tree.leaves loc ≡ Ok tt →
+            V.tells → (h : Hashing D) (all : List D) →
+            IsFullOf F.shape h D.spelling (D.Read.admits tt) all self.now (present (V.state vol.old)) →
+            IfErr result IsOutside }
+        ensures first { let image = present (V.state vol.old) in
+            peaks_answer {F = F} self.now.tree.leaves loc ≡ Ok tt → V.tells →
+            IsHeld F.shape D.spelling (D.Read.admits tt) self.now image →
+            IfErr result (IsOutsideOr (told_at (D.Read.reads tt) self.now image) (pins F.shape loc)) }
+        ensures refused { let items = items_of D.spelling D.Read.admits self.now.log (V.state vol.old) in
+            peaks_answer {F = F} self.now.tree.leaves loc ≡ Ok tt →
+            IfErr result (IsUnreadAmong V.tells items (pins F.shape loc)) }
+        ensures reads { Reads V.tells Error.Volume (V.state vol.old) (V.state vol.new) result }
+    {
+        let leaves = loc.as_u64();
+        if leaves > MAX_LEAVES {
+            return Err(Error::LocationOverflow(Location::new(leaves)));
+        }
+        if leaves > self.mem.leaves().as_u64() {
+            return Err(Error::RangeOutOfBounds(Location::new(leaves)));
+        }
+        let positions = pin_positions::<F>(*self.metadata.allocator(), leaves)?;
+        let nodes = self.peaks_at(vol, leaves, &positions)?;
         Ok(nodes)
     }
 }

@@ -23,11 +23,7 @@ impl<F: Family, D: Digest> Storage<F> for Merkle<F, D> {
         self.mem.size()
     }
 
-    fn get_node<V: Volume>(
-        &self,
-        vol: &mut V,
-        position: Position<F>,
-    ) -> Result<Option<D>, Error<F>>
+    fn get_node<V: Volume>(&self, vol: &mut V, position: Position<F>) -> Result<Option<D>, Error<F>>
         ensures node { let image = present (V.state vol.old) in
             IfOk result (λ node. V.tells → IsHeld F.shape D.spelling (D.Read.admits tt) self.now image →
             node ≡ told_at (D.Read.reads tt) self.now image position) }

@@ -1,4 +1,4 @@
-use Rattle.std.proofs.Common.{rules, ◌≡◌, ℕ, List, ◌++◌, length, drop, refl, sym, ◌∙◌, ap, subst, arith}
+use Rattle.std.proofs.Common.{length, drop, refl, sym, subst}
 use Rattle.tree_core.specs.Tree.{IsOf}
 use Rattle.tree_core.specs.Applied.{Refused}
 use Rattle.merkle_full.specs.Full.{Full}

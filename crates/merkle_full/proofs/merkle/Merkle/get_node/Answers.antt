@@ -1,7 +1,7 @@
-use Rattle.std.proofs.Common.{◌≡◌, ◌≤◌, ◌<◌, ◌-◌, ℕ, List, length, Some, None, Option, Err, refl, sym, ◌∙◌, ap, subst, arith}
+use Rattle.std.proofs.Common.{◌≡◌, ◌≤◌, ◌<◌, ◌-◌, ℕ, length, Some, None, Err, refl, sym, ◌∙◌, ap, subst, arith}
 use Rattle.std.specs.String.{string_bytes}
 use Rattle.std.proofs.lemmas.Option.{slice_get_within}
-use Rattle.journal_base.specs.Items.{Items, items_of, IsCorrupt}
+use Rattle.journal_base.specs.Items.{items_of, IsCorrupt}
 use Rattle.journal_base.specs.View.{view_of}
 use Rattle.tree_shape.specs.Shape.{made}
 use Rattle.tree_shape.proofs.NeededLemmas.{made_le}

@@ -1,17 +1,15 @@
-use Rattle.std.proofs.Common.{◌≡◌, ◌∷◌, ◌<◌, ◌≤◌, inl, inr, ℕ, List, [], Some, None, length, length-append, map, refl, sym, ◌∙◌, ap, subst, arith}
-use Rattle.std.specs.Prelude.{slice_get}
+use Rattle.std.proofs.Common.{◌≡◌, ◌∷◌, inl, inr, [], Some, None, length, length-append, refl, sym, ◌∙◌, ap, subst, arith}
 use Rattle.std.proofs.lemmas.Bool.{cases_lt}
 use Rattle.std.proofs.lemmas.Option.{slice_get_read}
 use Rattle.volume_base.specs.Moments.{Image, present}
 use Rattle.volume_base.proofs.ReadLemmas.{only_read_joins}
 use Rattle.journal_base.specs.Items.{items_of}
 use Rattle.tree_shape.specs.Shape.{made}
-use Rattle.tree_store.specs.Stores.{IsFirstAbsent, IsOutside}
 use Rattle.tree_store.proofs.StoreLemmas.{same_present, first_absent}
 use Rattle.tree_verification.proofs.NodeLemmas.{told-next}
 use Rattle.tree_core.specs.Tree.{IsSound}
 use Rattle.merkle_full.specs.Full.{Full, IsHeld, told_at}
-use Rattle.merkle_full.specs.Reading.{IsUnreadAt, IsUnreadAmong, IsPast, IsFirstUnread}
+use Rattle.merkle_full.specs.Reading.{IsUnreadAt, IsUnreadAmong, IsFirstUnread}
 use Rattle.merkle_full.proofs.GrownLemmas.{err_same}
 use Rattle.merkle_full.proofs.ReadLemmas.{told_past, unread_same, first_of_past}
 use Rattle.merkle_full.proofs.merkle.Merkle.get_nodes.Goals as goal
@@ -81,7 +79,14 @@ returns-in-None-clause-first g c tells held =
     let at = slice_get_read c.args.positions.now (length c.args.positions.now) c.loop-i.i c.index-positions-i.result refl c.loop-i-test.true c.index-positions-i.is in
     let none : told c.new-in-None.result ≡ None = ap told (sym same) ∙ ap (λ (im : Image). told_at (g.D.Read.reads tt) c.args.self.now im c.new.result) images ∙ sym (c.in_ok-node.ensures.node tells held_now) ∙ c.in-None.is in
     let absent = first_absent told c.args.positions.now c.loop-i.i c.new-in-None.result c.loop-i.nodes.items (c.loop-i.invariant.nodes tells held) (at ∙ ap Some (sym place)) none in
-    inr (c.new-in-None.result, absent, inl (refl, elim (cases_lt c.new-in-None.result end) [
-      | inl lt ↦ lt
-      | inr past ↦ absurd (c.in_ok-node.ensures.past (omega (arith, past, same)) tells held_now)
-    ]))
+    inr (
+      c.new-in-None.result,
+      absent,
+      inl (
+        refl,
+        elim (cases_lt c.new-in-None.result end) [
+          | inl lt ↦ lt
+          | inr past ↦ absurd (c.in_ok-node.ensures.past (omega (arith, past, same)) tells held_now)
+        ],
+      ),
+    )

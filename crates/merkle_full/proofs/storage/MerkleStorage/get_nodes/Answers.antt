@@ -1,4 +1,4 @@
-use Rattle.std.proofs.Common.{◌≡◌, length}
+use Rattle.std.proofs.Common.{length}
 use Rattle.volume_base.specs.Moments.{present}
 use Rattle.tree_shape.specs.Shape.{made}
 use Rattle.tree_store.specs.Stores.{IsOutsideOr}
