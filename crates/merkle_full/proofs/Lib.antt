@@ -6,3 +6,4 @@ pub mod GrownLemmas
 pub mod OpeningLemmas
 pub mod RepinLemmas
 pub mod ReopenLemmas
+pub mod ProvedLemmas

@@ -4,3 +4,4 @@ pub mod Lists
 pub mod Opening
 pub mod Recovering
 pub mod Pinning
+pub mod Proving

@@ -4,6 +4,7 @@
 mod keys;
 mod merkle;
 mod pins;
+mod proofs;
 mod reads;
 mod recovered;
 mod reopen;
