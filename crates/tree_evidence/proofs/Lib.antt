@@ -1,0 +1,8 @@
+mod InputLemmas
+mod ClashLemmas
+mod DifferenceLemmas
+mod FoldLemmas
+mod NodeLemmas
+mod PeakLemmas
+mod RootLemmas
+mod TreeLemmas
