@@ -3,19 +3,18 @@ use Rattle.std.specs.Prelude.{◌≡◌, ◌↔◌, ℕ, ◌-◌, ◌^◌, Resul
 use Rattle.journal_base.specs.Answers.{IsOfSize, RefusesUnwritten}
 use Rattle.journal_base.specs.View.{View, log_of, left_of}
 use Rattle.volume_base.specs.Log.{cleared_at, BecomesOneOf}
-use Rattle.volume_base.specs.Volume.{State, OnlyLog, OnlyLeft, LogMoves, Writes}
+use Rattle.volume_base.specs.Volume.{State, OnlyLeft, WritesLog}
 use Rattle.volume_base.specs.declared.error.JournalError.{JournalError}
 use Rattle.volume_base.specs.declared.error.JournalError.TheVariants.{SizeOverflow, Volume}
 
--- It refuses 2^64 - 1. After Ok the log is empty at the size, and a crash leaves that. At each moment an image of the log
+-- It refuses 2^64 - 1. After Ok the log is empty at the size, and a crash leaves that. At each moment an image of
+-- the log
 -- is one of before, or the empty log; every other log and map stays, and so does what a crash leaves of it.
 pub record Clears {Codec T : Type 0} (tells : Type 0) (view : View Codec) (size : ℕ)
     (old new : State) (result : Result T JournalError) : Type 0 where
   pub overflow : IsErrOf result SizeOverflow ↔ (size ≡ 2 ^ 64 - 1)
   pub cleared : OnOk result (tells → log_of view new ≡ cleared_at size)
   pub durable : OnOk result (tells → OnlyLeft (left_of view new) (cleared_at size))
-  pub others : tells → OnlyLog view.name old new
-  pub images : tells → LogMoves view.name (BecomesOneOf (cleared_at size)) old new
   pub refused : RefusesUnwritten old new result
   pub errors : IfErr result IsOfSize
-  pub writes : Writes tells Volume old new result
+  pub call : WritesLog tells Volume view.name (BecomesOneOf (cleared_at size)) old new result

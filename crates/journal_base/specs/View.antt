@@ -8,7 +8,8 @@ use Rattle.journal_base.specs.Blobs.{blob_start}
 use Rattle.volume_base.specs.Log.{Log, end_of}
 use Rattle.volume_base.specs.Volume.{State, OnlyLeft}
 
--- The name of its log, how many items its blobs have, what its items may be, its bounds, and whether it keeps a failed sync.
+-- The name of its log, how many items its blobs have, what its items may be, its bounds, and whether it keeps a
+-- failed sync.
 pub record View (Codec : Type 0) : Type 0 where
   pub name : List ℕ
   pub blob : ℕ

@@ -4,13 +4,14 @@ ghost use Rattle.journal_base.specs.Answers.{IsOfSize, RefusesUnwritten};
 ghost use Rattle.journal_base.specs.Items.{Spells};
 ghost use Rattle.journal_base.specs.View.{log_of, SameButBounds, IsHeld};
 ghost use Rattle.volume_base.specs.Log.{end_of, appended, Grows};
-ghost use Rattle.volume_base.specs.Volume.{OnlyLog, LogMoves, Writes};
+ghost use Rattle.volume_base.specs.Volume.{LogCall, Writes};
 ghost use Rattle.volume_base.specs.declared.error.JournalError.TheVariants.{EmptyAppend, SizeOverflow, Volume};
 
 use crate::Mutable;
 use volume_base::{JournalError, Volume};
 
-/// The journal with these items behind its own; of no items nothing is written, and it stays as it is. It refuses with `SizeOverflow` where the end would pass 2^64 - 1, and never with `EmptyAppend`.
+/// The journal with these items behind its own; of no items nothing is written, and it stays as it is. It refuses
+/// with `SizeOverflow` where the end would pass 2^64 - 1, and never with `EmptyAppend`.
 pub fn append_all<C: Mutable, V: Volume>(
     journal: C,
     vol: &mut V,
@@ -31,9 +32,8 @@ pub fn append_all<C: Mutable, V: Volume>(
     ensures listed { OnOk result (V.tells → (list : List C.Item) →
         Spells C.Item.spelling list (log_of (C.view journal) (V.state vol.old)) →
         Spells C.Item.spelling (list ++ items.now) (log_of (C.view journal) (V.state vol.new))) }
-    ensures others { C.one_log → V.tells → OnlyLog (C.view journal).name (V.state vol.old) (V.state vol.new) }
-    ensures images { let step = Grows (log_of (C.view journal) (V.state vol.old)) (map C.Item.spelling items.now) in
-        C.one_log → V.tells → LogMoves (C.view journal).name step (V.state vol.old) (V.state vol.new) }
+    ensures log { let step = Grows (log_of (C.view journal) (V.state vol.old)) (map C.Item.spelling items.now) in
+        C.one_log → V.tells → LogCall (C.view journal).name step (V.state vol.old) (V.state vol.new) }
     ensures refused { RefusesUnwritten (V.state vol.old) (V.state vol.new) result }
     ensures errors { C.one_log → IfErr result IsOfSize }
     ensures writes { Writes V.tells Volume (V.state vol.old) (V.state vol.new) result }

@@ -6,7 +6,7 @@ ghost use Rattle.journal_base.specs.Items.{items_of, Holds, IsCorrupt, GivesList
 ghost use Rattle.journal_base.specs.Matches.{IsLastMatch, NoneMatches};
 ghost use Rattle.journal_base.specs.View.{View, log_of, at_bounds, capped, SameButBounds, IsDurable, IsHeld, IsWithin};
 ghost use Rattle.volume_base.specs.Log.{end_of, cut_to, Shrinks};
-ghost use Rattle.volume_base.specs.Volume.{OnlyLog, LogMoves, Writes, Reads};
+ghost use Rattle.volume_base.specs.Volume.{WritesLog, Reads};
 ghost use Rattle.volume_base.specs.declared.error.JournalError.TheVariants.{ItemPruned, ItemOutOfRange, Corruption, Volume};
 
 use crate::Mutable;
@@ -32,7 +32,8 @@ pub trait BackingRecovery: Sized + Drop {
         ensures start { result.0 ≡ (view self.now).start }
         ensures end { result.1 ≡ (view self.now).end };
 
-    /// The item at a position of the view. It refuses with `ItemPruned` below the view, with `ItemOutOfRange` at or past its end, and with `Corruption` where the bytes are no item.
+    /// The item at a position of the view. It refuses with `ItemPruned` below the view, with `ItemOutOfRange` at or
+    /// past its end, and with `Corruption` where the bytes are no item.
     fn read<V: Volume>(&self, vol: &mut V, position: u64) -> Result<Self::Item, JournalError>
         ensures item { let items = items_of Self.Item.spelling Self.Item.admits (view self.now) (V.state vol.old) in
             IfOk result (λ item. V.tells → Holds items position item) }
@@ -56,7 +57,9 @@ pub trait BackingRecovery: Sized + Drop {
         ensures reads { (V.state vol.new).reads ≤ (V.state vol.old).reads + 1 }
         ensures counted { OnOk result ((V.state vol.new).reads ≡ min ((V.state vol.old).reads + 1) (2 ^ 64 - 1)) };
 
-    /// The end behind the last item below a ceiling that a predicate accepts. It reads each item at most once. It refuses with `Corruption` where it meets bytes that are no item, and with `ItemPruned` a ceiling below the view, or the start where nothing matches and the start isn't 0.
+    /// The end behind the last item below a ceiling that a predicate accepts. It reads each item at most once. It
+    /// refuses with `Corruption` where it meets bytes that are no item, and with `ItemPruned` a ceiling below the
+    /// view, or the start where nothing matches and the start isn't 0.
     fn last_matching<V: Volume, P: Fn(&Self::Item) -> bool>(
         &self,
         vol: &mut V,
@@ -110,7 +113,8 @@ pub trait BackingRecovery: Sized + Drop {
         ensures within { IfOk result (λ made. V.tells → IsWithin (view made) (V.state vol.new)) }
         ensures clears { Clears V.tells (view self) size (V.state vol.old) (V.state vol.new) result };
 
-    /// Cuts the log to the lesser of its end and a size, makes what is left durable, and opens it. It refuses a size below the log's start with `ItemPruned`.
+    /// Cuts the log to the lesser of its end and a size, makes what is left durable, and opens it. It refuses a
+    /// size below the log's start with `ItemPruned`.
     fn finish<V: Volume>(self, vol: &mut V, size: u64) -> Result<Self::Journal, JournalError>
         ensures pruned { let start = (log_of (view self) (V.state vol.old)).start in
             (p : ℕ) → IsErrOf result (ItemPruned p) → (p ≡ size) × (V.tells → size < start) }
@@ -123,12 +127,10 @@ pub trait BackingRecovery: Sized + Drop {
             Spells Self.Item.spelling list (log_of (view self) (V.state vol.old)) →
             Spells Self.Item.spelling (take size list) (log_of (view self) (V.state vol.new))) }
         ensures durable { OnOk result (V.tells → IsDurable (view self) (V.state vol.new)) }
-        ensures others { V.tells → OnlyLog (view self).name (V.state vol.old) (V.state vol.new) }
-        ensures images { let step = Shrinks (min size (end_of (log_of (view self) (V.state vol.old)))) in
-            V.tells → LogMoves (view self).name step (V.state vol.old) (V.state vol.new) }
         ensures refused { RefusesUnwritten (V.state vol.old) (V.state vol.new) result }
         ensures errors { IfErr result IsOfStart }
-        ensures writes { Writes V.tells Volume (V.state vol.old) (V.state vol.new) result };
+        ensures call { let step = Shrinks (min size (end_of (log_of (view self) (V.state vol.old)))) in
+            WritesLog V.tells Volume (view self).name step (V.state vol.old) (V.state vol.new) result };
 }
 
 /// A journal that is one log, and how it's opened.
@@ -142,7 +144,8 @@ pub trait Backing: Mutable {
     /// What a configuration tells of the journal.
     ghost config: { Self.Config → View Self.Item.Cfg };
 
-    /// A view of the log that ends at the lesser of its end and a cap. It refuses a cap below the log's start with `ItemPruned`.
+    /// A view of the log that ends at the lesser of its end and a cap. It refuses a cap below the log's start with
+    /// `ItemPruned`.
     fn recover<V: Volume>(
         vol: &mut V,
         cfg: Self::Config,

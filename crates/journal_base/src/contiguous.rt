@@ -25,7 +25,8 @@ pub trait Contiguous: Sized + Drop {
         ensures start { result.0 ≡ (view self.now).start }
         ensures end { result.1 ≡ (view self.now).end };
 
-    /// The item at a position. It refuses with `ItemPruned` below the start, with `ItemOutOfRange` at or past the end, and with `Corruption` where the bytes are no item.
+    /// The item at a position. It refuses with `ItemPruned` below the start, with `ItemOutOfRange` at or past the
+    /// end, and with `Corruption` where the bytes are no item.
     fn read<V: Volume>(&self, vol: &mut V, position: u64) -> Result<Self::Item, JournalError>
         ensures item { let items = items_of Self.Item.spelling Self.Item.admits (view self.now) (V.state vol.old) in
             IfOk result (λ item. V.tells → Holds items position item) }
@@ -69,7 +70,8 @@ pub trait Contiguous: Sized + Drop {
         ensures counted { let least = (V.state vol.old).reads + length positions.now in
             OnOk result (min least (2 ^ 64 - 1) ≤ (V.state vol.new).reads) };
 
-    /// The items from a position on to another, to be read one by one. It refuses with `ItemPruned` where the one lies below the start, and with `ItemOutOfRange` where the other lies past the end.
+    /// The items from a position on to another, to be read one by one. It refuses with `ItemPruned` where the one
+    /// lies below the start, and with `ItemOutOfRange` where the other lies past the end.
     fn replay(&self, from: u64, to: u64) -> Result<Replay<'_, Self>, JournalError>
         ensures pruned { (p : ℕ) → IsErrOf result (ItemPruned p) → (p ≡ from) × (from < (view self.now).start) }
         ensures out_of_range { (p : ℕ) → IsErrOf result (ItemOutOfRange p) →

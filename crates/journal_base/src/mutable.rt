@@ -1,11 +1,11 @@
-ghost use Rattle.std.specs.Prelude.{◌≡◌, ◌↔◌, ◌⊎◌, ◌+◌, ◌-◌, ◌<◌, ◌≤◌, ◌^◌, ℕ, List, [], ◌∷◌, ◌++◌, map, min, length, true, false, IsTrue, IfOk, IfErr, OnOk, IsErrOf};
+ghost use Rattle.std.specs.Prelude.{◌≡◌, ◌↔◌, ◌⊎◌, ◌+◌, ◌-◌, ◌<◌, ◌≤◌, ◌^◌, List, [], ◌∷◌, ◌++◌, map, length, true, false, IsTrue, IfOk, IfErr, OnOk, IsErrOf};
 ghost use Rattle.codec_base.specs.Causes.{Rose};
 ghost use Rattle.journal_base.specs.Items.{Spells};
 ghost use Rattle.journal_base.specs.Tickets.{is_failed, outcome};
 ghost use Rattle.journal_base.specs.Answers.{IsOfVolume, IsOfSize, IsOfAppend, RefusesUnwritten};
 ghost use Rattle.journal_base.specs.View.{log_of, left_of, prune_point, SameButBounds, after_sync, SameLog, IsDurable, IsHeld};
 ghost use Rattle.volume_base.specs.Log.{end_of, no_log, appended, pruned_to, Grows, Advances, Vanishes, Stays};
-ghost use Rattle.volume_base.specs.Volume.{OnlyLog, OnlyLeft, LogMoves, Writes, Changes};
+ghost use Rattle.volume_base.specs.Volume.{OnlyLeft, LogCall, Writes, Changes};
 ghost use Rattle.volume_base.specs.declared.error.JournalError.TheVariants.{EmptyAppend, SizeOverflow, Volume};
 
 use crate::{Contiguous, SyncTicket};
@@ -20,7 +20,8 @@ pub trait Mutable: Contiguous {
     fn keeps_failure(&self) -> bool
         ensures { result ≡ (Self.view self.now).failed };
 
-    /// Adds an item behind the end, and answers its position. It refuses with `SizeOverflow` where the end would pass 2^64 - 1.
+    /// Adds an item behind the end, and answers its position. It refuses with `SizeOverflow` where the end would
+    /// pass 2^64 - 1.
     fn append<V: Volume>(self, vol: &mut V, item: &Self::Item) -> Result<(Self, u64), JournalError>
         ensures overflow { let end = end_of (log_of (Self.view self) (V.state vol.old)) in
             V.tells → IsErrOf result SizeOverflow → end ≡ 2 ^ 64 - 1 }
@@ -34,15 +35,15 @@ pub trait Mutable: Contiguous {
         ensures listed { OnOk result (V.tells → (list : List Self.Item) →
             Spells Self.Item.spelling list (log_of (Self.view self) (V.state vol.old)) →
             Spells Self.Item.spelling (list ++ item.now ∷ []) (log_of (Self.view self) (V.state vol.new))) }
-        ensures others { one_log → V.tells → OnlyLog (Self.view self).name (V.state vol.old) (V.state vol.new) }
-        ensures images { let texts = Self.Item.spelling item.now ∷ [] in
+        ensures log { let texts = Self.Item.spelling item.now ∷ [] in
             let step = Grows (log_of (Self.view self) (V.state vol.old)) texts in
-            one_log → V.tells → LogMoves (Self.view self).name step (V.state vol.old) (V.state vol.new) }
+            one_log → V.tells → LogCall (Self.view self).name step (V.state vol.old) (V.state vol.new) }
         ensures refused { RefusesUnwritten (V.state vol.old) (V.state vol.new) result }
         ensures errors { one_log → IfErr result IsOfSize }
         ensures writes { Writes V.tells Volume (V.state vol.old) (V.state vol.new) result };
 
-    /// Adds items behind the end, and answers the position of the last. It refuses no items with `EmptyAppend`, and with `SizeOverflow` where the end would pass 2^64 - 1.
+    /// Adds items behind the end, and answers the position of the last. It refuses no items with `EmptyAppend`, and
+    /// with `SizeOverflow` where the end would pass 2^64 - 1.
     fn append_many<V: Volume>(
         self,
         vol: &mut V,
@@ -63,10 +64,9 @@ pub trait Mutable: Contiguous {
         ensures listed { OnOk result (V.tells → (list : List Self.Item) →
             Spells Self.Item.spelling list (log_of (Self.view self) (V.state vol.old)) →
             Spells Self.Item.spelling (list ++ items.now) (log_of (Self.view self) (V.state vol.new))) }
-        ensures others { one_log → V.tells → OnlyLog (Self.view self).name (V.state vol.old) (V.state vol.new) }
-        ensures images { let texts = map Self.Item.spelling items.now in
+        ensures log { let texts = map Self.Item.spelling items.now in
             let step = Grows (log_of (Self.view self) (V.state vol.old)) texts in
-            one_log → V.tells → LogMoves (Self.view self).name step (V.state vol.old) (V.state vol.new) }
+            one_log → V.tells → LogCall (Self.view self).name step (V.state vol.old) (V.state vol.new) }
         ensures refused { RefusesUnwritten (V.state vol.old) (V.state vol.new) result }
         ensures errors { one_log → IfErr result IsOfAppend }
         ensures writes { Writes V.tells Volume (V.state vol.old) (V.state vol.new) result };
@@ -77,8 +77,7 @@ pub trait Mutable: Contiguous {
         ensures made { IfOk result (λ made. Self.view made ≡ Self.view self) }
         ensures contents { V.tells → SameLog (Self.view self) (V.state vol.old) (V.state vol.new) }
         ensures durable { OnOk result (V.tells → IsDurable (Self.view self) (V.state vol.new)) }
-        ensures others { one_log → V.tells → OnlyLog (Self.view self).name (V.state vol.old) (V.state vol.new) }
-        ensures images { one_log → V.tells → LogMoves (Self.view self).name Stays (V.state vol.old) (V.state vol.new) }
+        ensures log { one_log → V.tells → LogCall (Self.view self).name Stays (V.state vol.old) (V.state vol.new) }
         ensures errors { one_log → IfErr result IsOfVolume }
         ensures writes { (Self.view self).failed ≡ false →
             Writes V.tells Volume (V.state vol.old) (V.state vol.new) result };
@@ -89,13 +88,13 @@ pub trait Mutable: Contiguous {
         ensures made { IfOk result (λ made. Self.view made ≡ Self.view self) }
         ensures contents { V.tells → SameLog (Self.view self) (V.state vol.old) (V.state vol.new) }
         ensures durable { OnOk result (V.tells → IsDurable (Self.view self) (V.state vol.new)) }
-        ensures others { one_log → V.tells → OnlyLog (Self.view self).name (V.state vol.old) (V.state vol.new) }
-        ensures images { one_log → V.tells → LogMoves (Self.view self).name Stays (V.state vol.old) (V.state vol.new) }
+        ensures log { one_log → V.tells → LogCall (Self.view self).name Stays (V.state vol.old) (V.state vol.new) }
         ensures errors { one_log → IfErr result IsOfVolume }
         ensures writes { (Self.view self).failed ≡ false →
             Writes V.tells Volume (V.state vol.old) (V.state vol.new) result };
 
-    /// As `sync`. It syncs within the call, and the ticket tells how. A journal beside a failed ticket keeps the failure.
+    /// As `sync`. It syncs within the call, and the ticket tells how. A journal beside a failed ticket keeps the
+    /// failure.
     fn start_sync<V: Volume>(self, vol: &mut V) -> Result<(Self, SyncTicket), JournalError>
         ensures kept { (Self.view self).failed ≡ true → IsErrOf result Volume × (vol.new ≡ vol.old) }
         ensures made { IfOk result (λ made. Self.view made.0 ≡ after_sync (Self.view self) (is_failed made.1)) }
@@ -105,14 +104,14 @@ pub trait Mutable: Contiguous {
         ensures not_volume { one_log → (Self.view self).failed ≡ false → IsErrOf result Volume → ⊥ }
         ensures failed { IfOk result (λ made. made.1 ≡ SyncTicket.Failed →
             Rose (V.state vol.old).faults (V.state vol.new).faults) }
-        ensures others { one_log → V.tells → OnlyLog (Self.view self).name (V.state vol.old) (V.state vol.new) }
-        ensures images { one_log → V.tells → LogMoves (Self.view self).name Stays (V.state vol.old) (V.state vol.new) }
+        ensures log { one_log → V.tells → LogCall (Self.view self).name Stays (V.state vol.old) (V.state vol.new) }
         ensures errors { one_log → IfErr result IsOfVolume }
         // A failed ticket is a failure of the volume, and beside one that is done nothing has failed.
         ensures writes { (Self.view self).failed ≡ false →
             Writes V.tells Volume (V.state vol.old) (V.state vol.new) (outcome result) };
 
-    /// Takes whole blobs below a position away, and answers whether the start has moved. Where a failed sync is kept it refuses with `Volume`.
+    /// Takes whole blobs below a position away, and answers whether the start has moved. Where a failed sync is
+    /// kept it refuses with `Volume`.
     fn prune<V: Volume>(self, vol: &mut V, least: u64) -> Result<(Self, bool), JournalError>
         ensures kept { (Self.view self).failed ≡ true → IsErrOf result Volume × (vol.new ≡ vol.old) }
         ensures made { IfOk result (λ made. SameButBounds (Self.view self) (Self.view made.0)) }
@@ -133,9 +132,8 @@ pub trait Mutable: Contiguous {
             (list : List Self.Item) →
             Spells Self.Item.spelling list (log_of (Self.view self) (V.state vol.old)) →
             Spells Self.Item.spelling list (log_of (Self.view self) (V.state vol.new))) }
-        ensures others { one_log → V.tells → OnlyLog (Self.view self).name (V.state vol.old) (V.state vol.new) }
-        ensures images { let step = Advances (prune_point (Self.view self) least (V.state vol.old)) in
-            one_log → V.tells → LogMoves (Self.view self).name step (V.state vol.old) (V.state vol.new) }
+        ensures log { let step = Advances (prune_point (Self.view self) least (V.state vol.old)) in
+            one_log → V.tells → LogCall (Self.view self).name step (V.state vol.old) (V.state vol.new) }
         ensures errors { one_log → IfErr result IsOfVolume }
         ensures changes { (Self.view self).failed ≡ false →
             Changes V.tells Volume (V.state vol.old) (V.state vol.new) result }
@@ -146,9 +144,7 @@ pub trait Mutable: Contiguous {
     fn destroy<V: Volume>(self, vol: &mut V) -> Result<(), JournalError>
         ensures removed { OnOk result (V.tells → log_of (Self.view self) (V.state vol.new) ≡ no_log) }
         ensures durable { OnOk result (V.tells → OnlyLeft (left_of (Self.view self) (V.state vol.new)) no_log) }
-        ensures others { one_log → V.tells → OnlyLog (Self.view self).name (V.state vol.old) (V.state vol.new) }
-        ensures images { one_log → V.tells →
-            LogMoves (Self.view self).name Vanishes (V.state vol.old) (V.state vol.new) }
+        ensures log { one_log → V.tells → LogCall (Self.view self).name Vanishes (V.state vol.old) (V.state vol.new) }
         ensures errors { one_log → IfErr result IsOfVolume }
         ensures writes { Writes V.tells Volume (V.state vol.old) (V.state vol.new) result };
 }

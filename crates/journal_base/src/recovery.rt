@@ -3,8 +3,8 @@ ghost use Rattle.journal_base.specs.Answers.{IsOfVolume, IsOfStart, RefusesUnwri
 ghost use Rattle.journal_base.specs.Clears.{Clears};
 ghost use Rattle.journal_base.specs.View.{view_of, seen_of, config_of, log_of, prune_point, at_bounds, SameButBounds, capped, IsHeld, IsWithin};
 ghost use Rattle.volume_base.specs.Log.{end_of, cut_to, pruned_to, Shrinks, Advances};
-ghost use Rattle.volume_base.specs.Volume.{OnlyLog, LogMoves, Writes, Reads};
-ghost use Rattle.volume_base.specs.declared.error.JournalError.TheVariants.{ItemPruned};
+ghost use Rattle.volume_base.specs.Volume.{WritesLog, Reads};
+ghost use Rattle.volume_base.specs.declared.error.JournalError.TheVariants.{ItemPruned, Volume};
 
 use crate::journal::start_of_blob;
 use crate::matching::match_below;
@@ -25,10 +25,8 @@ fn cut_down<V: Volume>(vol: &mut V, name: &str, end: u64, to: u64) -> Result<(),
     ensures cut { OnOk result (V.tells → (V.state vol.new).log name.now ≡ cut_to ((V.state vol.old).log name.now) to) }
     // Where the end doesn't fall nothing is written.
     ensures still { end ≤ to → vol.new ≡ vol.old }
-    ensures others { V.tells → OnlyLog name.now (V.state vol.old) (V.state vol.new) }
-    ensures images { V.tells → LogMoves name.now (Shrinks to) (V.state vol.old) (V.state vol.new) }
     ensures errors { IfErr result IsOfVolume }
-    ensures writes { Writes V.tells JournalError.Volume (V.state vol.old) (V.state vol.new) result }
+    ensures call { WritesLog V.tells Volume name.now (Shrinks to) (V.state vol.old) (V.state vol.new) result }
 {
     if to < end {
         vol.log_cut(name, to)?;
@@ -121,7 +119,8 @@ impl<T: Write + EncodeSize + Read + Duplicate + Drop, K: Kind<T>> BackingRecover
 }
 
 impl<T: Write + EncodeSize + Read + Duplicate + Drop, K: Kind<T>> Recovery<T, K> {
-    /// Cuts the log to the lesser of the view's end and a size, where its end falls, and the view ends there. It refuses a size below the log's start with `ItemPruned`.
+    /// Cuts the log to the lesser of the view's end and a size, where its end falls, and the view ends there. It
+    /// refuses a size below the log's start with `ItemPruned`.
     pub fn truncate<V: Volume>(self, vol: &mut V, size: u64) -> Result<Self, JournalError>
         ensures pruned { let start = (log_of (seen_of self) (V.state vol.old)).start in
             (p : ℕ) → IsErrOf result (ItemPruned p) → (p ≡ size) × (V.tells → size < start) }
@@ -136,12 +135,10 @@ impl<T: Write + EncodeSize + Read + Duplicate + Drop, K: Kind<T>> Recovery<T, K>
         // Where the log's end doesn't fall nothing is written.
         ensures still { V.tells → end_of (log_of (seen_of self) (V.state vol.old)) ≤ min size (seen_of self).end →
             (V.state vol.new).clock ≡ (V.state vol.old).clock }
-        ensures others { V.tells → OnlyLog (seen_of self).name (V.state vol.old) (V.state vol.new) }
-        ensures images { let step = Shrinks (min size (seen_of self).end) in
-            V.tells → LogMoves (seen_of self).name step (V.state vol.old) (V.state vol.new) }
         ensures refused { RefusesUnwritten (V.state vol.old) (V.state vol.new) result }
         ensures errors { IfErr result IsOfStart }
-        ensures writes { Writes V.tells JournalError.Volume (V.state vol.old) (V.state vol.new) result }
+        ensures call { let step = Shrinks (min size (seen_of self).end) in
+            WritesLog V.tells Volume (seen_of self).name step (V.state vol.old) (V.state vol.new) result }
     {
         let name = self.seen.name.as_str();
         let (start, end) = vol.log_bounds(name)?;
@@ -172,11 +169,10 @@ impl<T: Write + EncodeSize + Read + Duplicate + Drop, K: Kind<T>> Recovery<T, K>
         ensures still { let point = prune_point (seen_of self) (min least (seen_of self).end) (V.state vol.old) in
             V.tells → point ≤ (log_of (seen_of self) (V.state vol.old)).start →
             (V.state vol.new).clock ≡ (V.state vol.old).clock }
-        ensures others { V.tells → OnlyLog (seen_of self).name (V.state vol.old) (V.state vol.new) }
-        ensures images { let point = prune_point (seen_of self) (min least (seen_of self).end) (V.state vol.old) in
-            V.tells → LogMoves (seen_of self).name (Advances point) (V.state vol.old) (V.state vol.new) }
         ensures errors { IfErr result IsOfVolume }
-        ensures writes { Writes V.tells JournalError.Volume (V.state vol.old) (V.state vol.new) result }
+        ensures call { let point = prune_point (seen_of self) (min least (seen_of self).end) (V.state vol.old) in
+            let step = Advances point in
+            WritesLog V.tells Volume (seen_of self).name step (V.state vol.old) (V.state vol.new) result }
     {
         let name = self.seen.name.as_str();
         let (start, end) = vol.log_bounds(name)?;
@@ -207,7 +203,7 @@ impl<T: Write + EncodeSize + Read + Duplicate + Drop, K: Kind<T>> Recovery<T, K>
         ensures made { IfOk result (λ made. SameButBounds (seen_of self) (seen_of made)) }
         ensures held { IfOk result (λ made. V.tells → IsHeld (seen_of made) (V.state vol.old)) }
         ensures errors { IfErr result IsOfVolume }
-        ensures answers { Reads V.tells JournalError.Volume (V.state vol.old) (V.state vol.new) result }
+        ensures answers { Reads V.tells Volume (V.state vol.old) (V.state vol.new) result }
         ensures reads { (V.state vol.new).reads ≡ (V.state vol.old).reads }
     {
         let (start, end) = vol.log_bounds(self.seen.name.as_str())?;

@@ -1,15 +1,16 @@
 -- A log and a map over an append, a sync and a replacement.
-use Rattle.std.proofs.Common.{◌≡◌, ◌⊎◌, inl, inr, ℕ, List, take, sym, ◌∙◌, ap, subst, refl}
+use Rattle.std.proofs.Common.{◌≡◌, ◌⊎◌, inl, inr, ℕ, List, take, sym, ◌∙◌, ap, subst, refl, arith}
 use Rattle.std.specs.Prelude.{Result, Ok, Err, OnOk}
 use Rattle.std.specs.Result.{IsErrAnd}
 use Rattle.std.proofs.lemmas.List.{append-nil}
 use Rattle.volume_base.specs.Log.{Log, appended, Grows, Stays, BecomesOneOf}
 use Rattle.volume_base.specs.Moments.{Image, NamesLeft, Now, Keeps}
-use Rattle.volume_base.specs.Names.{Names, log_and_map, OthersStay}
-use Rattle.volume_base.specs.Volume.{State, Map, LogMoves, MapMoves, OnlyLeft}
+use Rattle.volume_base.specs.Names.{Names, log_and_map, NamesCall}
+use Rattle.volume_base.specs.Volume.{State, Map, LogMoves, MapMoves, LogCall, MapCall, OnlyLeft}
+use Rattle.volume_base.proofs.CallLemmas.{names_call_log, names_call_map, names_call_joins}
 use Rattle.volume_base.proofs.ImageLemmas.{with_log_here, with_map_here}
 use Rattle.volume_base.proofs.MomentLemmas.{past_joins}
-use Rattle.volume_base.proofs.NameLemmas.{names_move_log, names_move_map, stay_joins, stay_log, stay_map}
+use Rattle.volume_base.proofs.NameLemmas.{names_move_log, names_move_map}
 use Rattle.volume_base.proofs.SyncLemmas.{names_synced}
 use Rattle.volume_base.proofs.TurnLemmas.{names_back, keeps_none, keeps_joins, now_after, turns_at, steps_of_keeps, steps_of_turns}
 use Rattle.marked_log.specs.MarkedLog.{AreDurable, IsUnmarked, IsWhole, Marks}
@@ -26,12 +27,21 @@ grown_is contents items log (inl same) = (0, same ∙ nothing_more contents)
 grown_is contents items log (inr (start, count, le, was, is)) = (count, is)
 
 -- every other name
-module _ (log map : List ℕ) (items : List (List ℕ)) (mark : Map) (s0 s1 : State) (append : LogMoves log (Grows (s0.log log) items) s0 s1) (s2 : State) (journal : List ℕ) (same : journal ≡ log) (sync : LogMoves journal Stays s1 s2) where
-  pub sync_stays : OthersStay (log_and_map log map) s0 s2
-  sync_stays = stay_joins (log_and_map log map) s0 s1 s2 (stay_log (log_and_map log map) log (Grows (s0.log log) items) s0 s1 (inl refl) append) (stay_log (log_and_map log map) journal Stays s1 s2 (inl same) sync)
+module _ (log map : List ℕ) (items : List (List ℕ)) (mark : Map) (s0 s1 : State) (append : LogCall log (Grows (s0.log log) items) s0 s1) (s2 : State) (journal : List ℕ) (same : journal ≡ log) (sync : LogCall journal Stays s1 s2) where
+  pub sync_call : NamesCall (log_and_map log map) s0 s2
+  sync_call = names_call_joins (log_and_map log map) s0 s1 s2 (names_call_log (log_and_map log map) log (Grows (s0.log log) items) s0 s1 (inl refl) append) (names_call_log (log_and_map log map) journal Stays s1 s2 (inl same) sync)
 
-  pub map_stays : (s3 : State) → MapMoves map (BecomesOneOf mark) s2 s3 → OthersStay (log_and_map log map) s0 s3
-  map_stays s3 replace = stay_joins (log_and_map log map) s0 s2 s3 sync_stays (stay_map (log_and_map log map) map (BecomesOneOf mark) s2 s3 (inl refl) replace)
+  pub mark_call : (s3 : State) → MapCall map (BecomesOneOf mark) s2 s3 → NamesCall (log_and_map log map) s0 s3
+  mark_call s3 replace = names_call_joins (log_and_map log map) s0 s2 s3 sync_call (names_call_map (log_and_map log map) map (BecomesOneOf mark) s2 s3 (inl refl) replace)
+
+-- what the sync made durable stays so over the replacement, and the mark is durable too
+pub durable_marked : (log journal map : List ℕ) (mark : Map) (s2 s3 : State) → journal ≡ log → OnlyLeft (s2.log_left s2.clock journal) (s2.log journal) → MapCall map (BecomesOneOf mark) s2 s3 → OnlyLeft (s3.map_left s3.clock map) mark → s3.map map ≡ mark → AreDurable log map s3
+durable_marked log journal map mark s2 s3 same only replace only_mark is =
+    let there : OnlyLeft (s2.log_left s2.clock log) (s2.log log) = subst (λ (n : List ℕ). OnlyLeft (s2.log_left s2.clock n) (s2.log n)) same only in
+    record {
+      items = λ image left. there image ((replace.images.logs s3.clock log image replace.images.past.later (omega arith)).0 left) ∙ sym (replace.others.logs log);
+      mark = λ image left. only_mark image left ∙ sym is;
+    }
 
 module _ {T E : Type 0} (log map : List ℕ) (items : List (List ℕ)) (mark : Map) (result : Result T E) (s0 : State) (durable : AreDurable log map s0) where
   abbrev names : Names

@@ -3,7 +3,7 @@ ghost use Rattle.journal_base.specs.Answers.{IsOfSize, RefusesUnwritten};
 ghost use Rattle.journal_base.specs.View.{log_of, SameButBounds, IsHeld};
 ghost use Rattle.marked_log.specs.MarkedLog.{AreDurable, Marks};
 ghost use Rattle.volume_base.specs.Log.{end_of, appended};
-ghost use Rattle.volume_base.specs.Names.{log_and_map, OnlyNames, OthersStay};
+ghost use Rattle.volume_base.specs.Names.{log_and_map, NamesCall};
 ghost use Rattle.volume_base.specs.Volume.{Writes};
 ghost use Rattle.volume_base.specs.declared.error.JournalError.TheVariants.{SizeOverflow, Volume};
 
@@ -38,10 +38,8 @@ pub fn append_and_mark<C: Backing, V: volume_base::Volume>(
         V.tells → AreDurable log name.now (V.state vol.old) →
         Marks log name.now texts mark.now (V.state vol.old) (V.state vol.new) result }
     // Every other log and map stays, and so does what a crash leaves of it.
-    ensures others { let names = log_and_map (C.view journal).name name.now in
-        V.tells → OnlyNames names (V.state vol.old) (V.state vol.new) }
-    ensures stays { let names = log_and_map (C.view journal).name name.now in
-        V.tells → OthersStay names (V.state vol.old) (V.state vol.new) }
+    ensures names { let names = log_and_map (C.view journal).name name.now in
+        V.tells → NamesCall names (V.state vol.old) (V.state vol.new) }
     ensures refused { RefusesUnwritten (V.state vol.old) (V.state vol.new) result }
     ensures errors { IfErr result IsOfSize }
     ensures writes { (C.view journal).failed ≡ false →

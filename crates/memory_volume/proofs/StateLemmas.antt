@@ -5,8 +5,9 @@ use Rattle.std.proofs.lemmas.List.{take_all, take-append-le}
 use Rattle.std.proofs.lemmas.Bool.{cases_lt}
 use Rattle.std.specs.Str.{bytes_eq}
 use Rattle.volume_base.specs.Log.{Log, end_of, Grows, Shrinks, Advances, Stays, BecomesOneOf, no_log}
-use Rattle.volume_base.specs.Volume.{Map, Follows, PastStays, LogMoves, MapMoves, OnlyLog, OnlyMap, OnlyLeft}
-use Rattle.volume_base.proofs.MomentLemmas.{same_at, log_moves_idle, map_moves_idle}
+use Rattle.volume_base.specs.Volume.{Map, Follows, PastStays, SameContents, OnlyLog, OnlyMap, LogMoves, LogCall, MapCall, OnlyLeft}
+use Rattle.volume_base.proofs.CallLemmas.{log_call_idle, map_call_idle}
+use Rattle.volume_base.proofs.MomentLemmas.{same_at}
 use Rattle.volume_base.proofs.StepLemmas.{grows_same, shrinks_same}
 use Rattle.stream_base.specs.Failing.{Failing}
 use Rattle.memory_volume.specs.Versions.{Versions, only, IsImage}
@@ -25,13 +26,16 @@ use Rattle.memory_volume.proofs.VersionLemmas.{IsLevel, grown_greatest, grown_st
 pub past_counts : (calls calls' : List Entry) (f g : Failing) (r s : ℕ) → calls' ≡ calls → PastStays (memory_state calls f r) (memory_state calls' g s)
 past_counts calls calls' f g r s is = subst (λ (c : List Entry). PastStays (memory_state calls f r) (memory_state c g s)) (sym is) (record { later = omega arith; logs = λ t n l le. (λ x. x, λ x. x); maps = λ t n m le. (λ x. x, λ x. x) })
 
+same_counts : (calls calls' : List Entry) (f g : Failing) (r s : ℕ) → calls' ≡ calls → SameContents (memory_state calls f r) (memory_state calls' g s)
+same_counts calls calls' f g r s is = record { logs = λ name. ap (λ (c : List Entry). (versions_of c name).present) is; maps = λ name. ap (λ (c : List Entry). map_of c name) is }
+
 -- a call that puts nothing behind the record
 
-pub idle_moves : (calls calls' : List Entry) (f g : Failing) (r s : ℕ) (name : List ℕ) (step : Log → Log → Type 0) → calls' ≡ calls → ((log : Log) → step log log) → LogMoves name step (memory_state calls f r) (memory_state calls' g s)
-idle_moves calls calls' f g r s name step is same = log_moves_idle name step (memory_state calls f r) (memory_state calls' g s) (ap length is) (past_counts calls calls' f g r s is) same
+pub idle_log_call : (calls calls' : List Entry) (f g : Failing) (r s : ℕ) (name : List ℕ) (step : Log → Log → Type 0) → calls' ≡ calls → ((log : Log) → step log log) → LogCall name step (memory_state calls f r) (memory_state calls' g s)
+idle_log_call calls calls' f g r s name step is same = log_call_idle name step (memory_state calls f r) (memory_state calls' g s) (ap length is) (past_counts calls calls' f g r s is) (same_counts calls calls' f g r s is) same
 
-pub idle_map_moves : (calls calls' : List Entry) (f g : Failing) (r s : ℕ) (name : List ℕ) (step : Map → Map → Type 0) → calls' ≡ calls → ((m : Map) → step m m) → MapMoves name step (memory_state calls f r) (memory_state calls' g s)
-idle_map_moves calls calls' f g r s name step is same = map_moves_idle name step (memory_state calls f r) (memory_state calls' g s) (ap length is) (past_counts calls calls' f g r s is) same
+pub idle_map_call : (calls calls' : List Entry) (f g : Failing) (r s : ℕ) (name : List ℕ) (step : Map → Map → Type 0) → calls' ≡ calls → ((m : Map) → step m m) → MapCall name step (memory_state calls f r) (memory_state calls' g s)
+idle_map_call calls calls' f g r s name step is same = map_call_idle name step (memory_state calls f r) (memory_state calls' g s) (ap length is) (past_counts calls calls' f g r s is) (same_counts calls calls' f g r s is) same
 
 -- A log's start never falls, so the greatest start among its versions is the present one.
 
@@ -109,7 +113,7 @@ module _ (calls calls' : List Entry) (name : List ℕ) (change : LogChange) (pus
   contents_are = ap (λ (v : Versions). v.present) versions_are ∙ present_after (versions_of calls name) change
 
   module _ (f g : Failing) (r s : ℕ) where
-    pub only_log : OnlyLog name (memory_state calls f r) (memory_state calls' g s)
+    only_log : OnlyLog name (memory_state calls f r) (memory_state calls' g s)
     only_log = record { logs = λ other ne. ap (λ (v : Versions). v.present) (other_versions other ne); maps = all_maps }
 
     call_moves : (step : Log → Log → Type 0) → ((log : Log) → step log log) → ((image : Log) → IsImage (changed (versions_of calls name) change) image → Follows (IsImage (versions_of calls name)) step image) → LogMoves name step (memory_state calls f r) (memory_state calls' g s)
@@ -125,6 +129,9 @@ module _ (calls calls' : List Entry) (name : List ℕ) (change : LogChange) (pus
       maps = λ t other m lo hi. same_at (λ (held : Map). m ≡ held) _ _ (map_stays calls calls' (OfLog name change) pushed other (all_maps other) t lo hi);
     }
 
+    change_call : (step : Log → Log → Type 0) → ((log : Log) → step log log) → ((image : Log) → IsImage (changed (versions_of calls name) change) image → Follows (IsImage (versions_of calls name)) step image) → LogCall name step (memory_state calls f r) (memory_state calls' g s)
+    change_call step same goes = record { others = only_log; images = call_moves step same goes }
+
     -- after a change that leaves one version nothing else is left
     pub only_one_left : (log : Log) → changed (versions_of calls name) change ≡ only log → OnlyLeft ((memory_state calls' g s).log_left (length calls') name) log
     only_one_left log is image left =
@@ -132,23 +139,23 @@ module _ (calls calls' : List Entry) (name : List ℕ) (change : LogChange) (pus
         only_image log image (subst (λ (v : Versions). IsImage v image) (versions_are ∙ is) at_now)
 
     -- and the only new image is that one
-    pub one_moves : (step : Log → Log → Type 0) (log : Log) → changed (versions_of calls name) change ≡ only log → ((old : Log) → step old old) → step (versions_of calls name).present log → LogMoves name step (memory_state calls f r) (memory_state calls' g s)
-    one_moves step log is same goes = call_moves step same (λ image left.
+    pub one_call : (step : Log → Log → Type 0) (log : Log) → changed (versions_of calls name) change ≡ only log → ((old : Log) → step old old) → step (versions_of calls name).present log → LogCall name step (memory_state calls f r) (memory_state calls' g s)
+    one_call step log is same goes = change_call step same (λ image left.
         let image_is = only_image log image (subst (λ (v : Versions). IsImage v image) is left) in
         ((versions_of calls name).present, present_is_image (versions_of calls name), subst (step (versions_of calls name).present) (sym image_is) goes))
 
 module _ (calls calls' : List Entry) (name : List ℕ) (f g : Failing) (r s : ℕ) where
-  pub append_moves : (items : List (List ℕ)) → calls' ≡ calls ++ OfLog name (Append items) ∷ [] → LogMoves name (Grows (versions_of calls name).present items) (memory_state calls f r) (memory_state calls' g s)
-  append_moves items pushed = call_moves calls calls' name (Append items) pushed f g r s (Grows (versions_of calls name).present items) (grows_same _ _) (λ image left. images_grow (versions_of calls name) items image (level_all calls name) left)
+  pub append_call : (items : List (List ℕ)) → calls' ≡ calls ++ OfLog name (Append items) ∷ [] → LogCall name (Grows (versions_of calls name).present items) (memory_state calls f r) (memory_state calls' g s)
+  append_call items pushed = change_call calls calls' name (Append items) pushed f g r s (Grows (versions_of calls name).present items) (grows_same _ _) (λ image left. images_grow (versions_of calls name) items image (level_all calls name) left)
 
-  pub cut_moves : (end : ℕ) → (versions_of calls name).present.start ≤ end → end ≤ end_of (versions_of calls name).present → calls' ≡ calls ++ OfLog name (Cut end) ∷ [] → LogMoves name (Shrinks end) (memory_state calls f r) (memory_state calls' g s)
-  cut_moves end low high pushed = call_moves calls calls' name (Cut end) pushed f g r s (Shrinks end) (shrinks_same end) (λ image left. images_cut (versions_of calls name) end image low high left)
+  pub cut_call : (end : ℕ) → (versions_of calls name).present.start ≤ end → end ≤ end_of (versions_of calls name).present → calls' ≡ calls ++ OfLog name (Cut end) ∷ [] → LogCall name (Shrinks end) (memory_state calls f r) (memory_state calls' g s)
+  cut_call end low high pushed = change_call calls calls' name (Cut end) pushed f g r s (Shrinks end) (shrinks_same end) (λ image left. images_cut (versions_of calls name) end image low high left)
 
-  pub prune_moves : (start : ℕ) → (versions_of calls name).present.start ≤ start → start ≤ end_of (versions_of calls name).present → calls' ≡ calls ++ OfLog name (Prune start) ∷ [] → LogMoves name (Advances start) (memory_state calls f r) (memory_state calls' g s)
-  prune_moves start low high pushed = call_moves calls calls' name (Prune start) pushed f g r s (Advances start) (advances_same start) (λ image left. images_prune (versions_of calls name) start image (level_all calls name) low high left)
+  pub prune_call : (start : ℕ) → (versions_of calls name).present.start ≤ start → start ≤ end_of (versions_of calls name).present → calls' ≡ calls ++ OfLog name (Prune start) ∷ [] → LogCall name (Advances start) (memory_state calls f r) (memory_state calls' g s)
+  prune_call start low high pushed = change_call calls calls' name (Prune start) pushed f g r s (Advances start) (advances_same start) (λ image left. images_prune (versions_of calls name) start image (level_all calls name) low high left)
 
-  pub sync_moves : calls' ≡ calls ++ OfLog name Sync ∷ [] → LogMoves name Stays (memory_state calls f r) (memory_state calls' g s)
-  sync_moves pushed = one_moves calls calls' name Sync pushed f g r s Stays (versions_of calls name).present refl (λ log. refl) refl
+  pub sync_call : calls' ≡ calls ++ OfLog name Sync ∷ [] → LogCall name Stays (memory_state calls f r) (memory_state calls' g s)
+  sync_call pushed = one_call calls calls' name Sync pushed f g r s Stays (versions_of calls name).present refl (λ log. refl) refl
 
 -- Another map.
 module _ (calls calls' : List Entry) (name : List ℕ) (m : Map) (pushed : calls' ≡ calls ++ OfMap name m ∷ []) where
@@ -165,19 +172,22 @@ module _ (calls calls' : List Entry) (name : List ℕ) (m : Map) (pushed : calls
   other_map other ne = each_map other ∙ ap (λ b. if b then m else map_of calls other) (other_name name other (λ same. ne (sym same)))
 
   module _ (f g : Failing) (r s : ℕ) where
-    pub only_map : OnlyMap name (memory_state calls f r) (memory_state calls' g s)
+    only_map : OnlyMap name (memory_state calls f r) (memory_state calls' g s)
     only_map = record { logs = λ other. ap (λ (v : Versions). v.present) (all_versions other); maps = other_map }
 
     pub only_map_left : OnlyLeft ((memory_state calls' g s).map_left (length calls') name) m
     only_map_left image left = left ∙ ap (λ (c : List Entry). map_of c name) (take_all (length calls') calls' (omega arith)) ∙ this_map
 
-    pub replace_moves : MapMoves name (BecomesOneOf m) (memory_state calls f r) (memory_state calls' g s)
-    replace_moves = record {
-      past = past calls calls' (OfMap name m) pushed f g r s;
-      this = λ t q lo hi left. ⊎_elim
-          (λ after. (map_of calls name, ap (λ (c : List Entry). map_of c name) (sym (at_start calls calls' (OfMap name m) pushed)), inr (left ∙ ap (λ (c : List Entry). map_of c name) (at_end calls calls' (OfMap name m) pushed t after hi) ∙ this_map)))
-          (λ before. (q, left ∙ ap (λ (c : List Entry). map_of c name) (early_now calls calls' (OfMap name m) pushed t lo before), inl refl))
-          (cases_lt (length calls) t);
-      logs = λ t other log lo hi. same_at (λ (v : Versions). IsImage v log) _ _ (versions_stay calls calls' (OfMap name m) pushed other (all_versions other) t lo hi);
-      maps = λ t other q lo hi ne. same_at (λ (held : Map). q ≡ held) _ _ (map_stays calls calls' (OfMap name m) pushed other (other_map other ne) t lo hi);
+    pub replace_call : MapCall name (BecomesOneOf m) (memory_state calls f r) (memory_state calls' g s)
+    replace_call = record {
+      others = only_map;
+      images = record {
+        past = past calls calls' (OfMap name m) pushed f g r s;
+        this = λ t q lo hi left. ⊎_elim
+            (λ after. (map_of calls name, ap (λ (c : List Entry). map_of c name) (sym (at_start calls calls' (OfMap name m) pushed)), inr (left ∙ ap (λ (c : List Entry). map_of c name) (at_end calls calls' (OfMap name m) pushed t after hi) ∙ this_map)))
+            (λ before. (q, left ∙ ap (λ (c : List Entry). map_of c name) (early_now calls calls' (OfMap name m) pushed t lo before), inl refl))
+            (cases_lt (length calls) t);
+        logs = λ t other log lo hi. same_at (λ (v : Versions). IsImage v log) _ _ (versions_stay calls calls' (OfMap name m) pushed other (all_versions other) t lo hi);
+        maps = λ t other q lo hi ne. same_at (λ (held : Map). q ≡ held) _ _ (map_stays calls calls' (OfMap name m) pushed other (other_map other ne) t lo hi);
+      };
     }

@@ -11,7 +11,8 @@ use codec_base::Bytes;
 use std::alloc::Global;
 use volume_base::VolumeError;
 
-/// Which image a crash leaves of a log: a version, 0 the newest, and the part of it between two positions. Each number is moved to the nearest allowed, the start before the end.
+/// Which image a crash leaves of a log: a version, 0 the newest, and the part of it between two positions. Each
+/// number is moved to the nearest allowed, the start before the end.
 #[derive(Drop)]
 pub struct LogChoice {
     pub name: Bytes,

@@ -13,7 +13,7 @@ ghost use Rattle.memory_volume.specs.declared.entry.Entry.TheVariants.{OfLog, Of
 ghost use Rattle.memory_volume.specs.declared.entry.LogChange.TheVariants.{Append, Sync, Cut, Prune, Put};
 ghost use Rattle.volume_base.specs.Log.{Log, IsItemAt, end_of, no_log, cleared_at, appended, cut_to, pruned_to, Grows, Shrinks, Advances, Vanishes, Stays, BecomesOneOf};
 ghost use Rattle.volume_base.specs.Moments.{LeftAt, present};
-ghost use Rattle.volume_base.specs.Volume.{OnlyLog, OnlyMap, LogMoves, MapMoves, OnlyLeft, Writes, WriteAnswers, Reads};
+ghost use Rattle.volume_base.specs.Volume.{OnlyLeft, LogCall, MapCall, WritesLog, WritesMap, WriteAnswers, Reads};
 ghost use Rattle.volume_base.specs.declared.error.VolumeError.TheVariants.{Failed, ItemPruned, ItemOutOfRange};
 
 use crate::choice::{LogChoice, chosen_in};
@@ -59,9 +59,11 @@ impl MemoryVolume {
         }
     }
 
-    /// Sets the n-th call of the volume from now to fail: 1 is the next, and 0 sets nothing. Such a call changes nothing but the count of faults.
+    /// Sets the n-th call of the volume from now to fail: 1 is the next, and 0 sets nothing. Such a call changes
+    /// nothing but the count of faults.
     pub fn fail_call(&mut self, n: u64) -> Result<(), VolumeError>
-        ensures set { OnOk result (failing_of self.new ≡ record (failing_of self.old) { ahead = (failing_of self.old).ahead ++ n ∷ [] }) }
+        ensures set { let set = record (failing_of self.old) { ahead = (failing_of self.old).ahead ++ n ∷ [] } in
+            OnOk result (failing_of self.new ≡ set) }
         ensures err { OnErr result (failing_of self.new ≡ failing_of self.old) }
         ensures calls { calls_of self.new ≡ calls_of self.old }
         ensures reads { (state_of self.new).reads ≡ (state_of self.old).reads }
@@ -75,9 +77,10 @@ impl MemoryVolume {
     pub fn put_log(&mut self, name: &str, start: u64, items: &[Bytes]) -> Result<(), VolumeError>
         requires { start + length items.now < 2 ^ 64 }
         ensures put { OnOk result ((state_of self.new).log name.now ≡ record { start = start; items = items.now }) }
-        ensures durable { OnOk result (OnlyLeft ((state_of self.new).log_left (state_of self.new).clock name.now) (record { start = start; items = items.now })) }
-        ensures others { OnlyLog name.now (state_of self.old) (state_of self.new) }
-        ensures images { LogMoves name.now (BecomesOneOf (record { start = start; items = items.now })) (state_of self.old) (state_of self.new) }
+        ensures durable { let made : Log = record { start = start; items = items.now } in
+            OnOk result (OnlyLeft ((state_of self.new).log_left (state_of self.new).clock name.now) made) }
+        ensures log { let made : Log = record { start = start; items = items.now } in
+            LogCall name.now (BecomesOneOf made) (state_of self.old) (state_of self.new) }
         ensures recorded { Records (OfLog name.now (Put start items.now)) self.old self.new result }
         ensures failing { failing_of self.new ≡ failing_of self.old }
         ensures memory { IsOkUnless result VolumeError.Memory }
@@ -90,9 +93,9 @@ impl MemoryVolume {
     /// Puts a durable map in the place of what is there. It is no call that could be set to fail.
     pub fn put_map(&mut self, name: &str, map: &MetaMap) -> Result<(), VolumeError>
         ensures put { OnOk result ((state_of self.new).map name.now ≡ map.now) }
-        ensures durable { OnOk result (OnlyLeft ((state_of self.new).map_left (state_of self.new).clock name.now) map.now) }
-        ensures others { OnlyMap name.now (state_of self.old) (state_of self.new) }
-        ensures images { MapMoves name.now (BecomesOneOf map.now) (state_of self.old) (state_of self.new) }
+        ensures durable { OnOk result (
+            OnlyLeft ((state_of self.new).map_left (state_of self.new).clock name.now) map.now) }
+        ensures map { MapCall name.now (BecomesOneOf map.now) (state_of self.old) (state_of self.new) }
         ensures recorded { Records (OfMap name.now map.now) self.old self.new result }
         ensures failing { failing_of self.new ≡ failing_of self.old }
         ensures memory { IsOkUnless result VolumeError.Memory }
@@ -134,16 +137,23 @@ impl MemoryVolume {
         Ok(())
     }
 
-    /// What a crash now leaves: a volume whose durable contents are one image. The first choice of a log's name picks its image; a log that isn't named keeps its contents. Nothing is set to fail.
+    /// What a crash now leaves: a volume whose durable contents are one image. The first choice of a log's name
+    /// picks its image; a log that isn't named keeps its contents. Nothing is set to fail.
     pub fn crash(&self, choices: &[LogChoice]) -> Result<MemoryVolume, VolumeError>
-        ensures logs { IfOk result (λ made. (name : List ℕ) → (state_of made).log name ≡ chosen_log choices.now (versions_of (calls_of self.now) name) name) }
+        ensures logs { IfOk result (λ made. (name : List ℕ) →
+            (state_of made).log name ≡ chosen_log choices.now (versions_of (calls_of self.now) name) name) }
         ensures maps { IfOk result (λ made. (name : List ℕ) → (state_of made).map name ≡ (state_of self.now).map name) }
-        ensures only_logs { IfOk result (λ made. (name : List ℕ) → OnlyLeft ((state_of made).log_left (state_of made).clock name) ((state_of made).log name)) }
-        ensures only_maps { IfOk result (λ made. (name : List ℕ) → OnlyLeft ((state_of made).map_left (state_of made).clock name) ((state_of made).map name)) }
+        ensures only_logs { IfOk result (λ made. (name : List ℕ) →
+            OnlyLeft ((state_of made).log_left (state_of made).clock name) ((state_of made).log name)) }
+        ensures only_maps { IfOk result (λ made. (name : List ℕ) →
+            OnlyLeft ((state_of made).map_left (state_of made).clock name) ((state_of made).map name)) }
         // Each choice gives an image.
-        ensures image { IfOk result (λ made. LeftAt (state_of self.now) (state_of self.now).clock (present (state_of made))) }
+        ensures image { IfOk result (λ made.
+            LeftAt (state_of self.now) (state_of self.now).clock (present (state_of made))) }
         // Each image of a log is given by a choice.
-        ensures every_image { (name : List ℕ) (log : Log) → (state_of self.now).log_left (state_of self.now).clock name log → IsChosen (versions_of (calls_of self.now) name) log }
+        ensures every_image { (name : List ℕ) (log : Log) →
+            (state_of self.now).log_left (state_of self.now).clock name log →
+            IsChosen (versions_of (calls_of self.now) name) log }
         ensures failing { IfOk result (λ made. failing_of made ≡ record { ahead = []; faults = 0 }) }
         ensures reads { IfOk result (λ made. (state_of made).reads ≡ 0) }
         ensures memory { IsOkUnless result VolumeError.Memory }
@@ -159,7 +169,8 @@ impl MemoryVolume {
     fn crash_logs(&mut self, rows: &[Replayed], choices: &[LogChoice]) -> Result<(), VolumeError>
         requires none { (name : List ℕ) → versions_of (calls_of self.old) name ≡ only no_log }
         requires fits { (name : List ℕ) (log : Log) → IsVersion (replayed rows.now name) log → end_of log < 2 ^ 64 }
-        ensures logs { OnOk result ((name : List ℕ) → versions_of (calls_of self.new) name ≡ only (chosen_log choices.now (replayed rows.now name) name)) }
+        ensures logs { OnOk result ((name : List ℕ) →
+            versions_of (calls_of self.new) name ≡ only (chosen_log choices.now (replayed rows.now name) name)) }
         ensures maps { (name : List ℕ) → map_of (calls_of self.new) name ≡ map_of (calls_of self.old) name }
         ensures failing { failing_of self.new ≡ failing_of self.old }
         ensures reads { (state_of self.new).reads ≡ (state_of self.old).reads }
@@ -182,7 +193,9 @@ impl MemoryVolume {
     ) -> Result<(), VolumeError>
         requires within { row_of replay_name rows.now name.now < length rows.now }
         requires fits { (log : Log) → IsVersion (replayed rows.now name.now) log → end_of log < 2 ^ 64 }
-        ensures logs { OnOk result ((other : List ℕ) → versions_of (calls_of self.new) other ≡ (if bytes_eq name.now other then only (chosen_log choices.now (replayed rows.now name.now) name.now) else versions_of (calls_of self.old) other)) }
+        ensures logs { let chosen = only (chosen_log choices.now (replayed rows.now name.now) name.now) in
+            OnOk result ((other : List ℕ) → versions_of (calls_of self.new) other
+            ≡ (if bytes_eq name.now other then chosen else versions_of (calls_of self.old) other)) }
         ensures maps { (other : List ℕ) → map_of (calls_of self.new) other ≡ map_of (calls_of self.old) other }
         ensures failing { failing_of self.new ≡ failing_of self.old }
         ensures reads { (state_of self.new).reads ≡ (state_of self.old).reads }
@@ -255,8 +268,10 @@ impl Volume for MemoryVolume {
 
     fn log_read(&mut self, name: &str, position: u64) -> Result<Bytes, VolumeError>
         ensures item { IfOk result (λ item. Unit {0} → IsItemAt ((state_of self.old).log name.now) position item) }
-        ensures pruned { (p : ℕ) → IsErrOf result (ItemPruned p) → (p ≡ position) × (Unit {0} → position < ((state_of self.old).log name.now).start) }
-        ensures out_of_range { (p : ℕ) → IsErrOf result (ItemOutOfRange p) → (p ≡ position) × (Unit {0} → end_of ((state_of self.old).log name.now) ≤ position) }
+        ensures pruned { (p : ℕ) → IsErrOf result (ItemPruned p) →
+            (p ≡ position) × (Unit {0} → position < ((state_of self.old).log name.now).start) }
+        ensures out_of_range { (p : ℕ) → IsErrOf result (ItemOutOfRange p) →
+            (p ≡ position) × (Unit {0} → end_of ((state_of self.old).log name.now) ≤ position) }
         ensures answers { Reads (Unit {0}) Failed (state_of self.old) (state_of self.new) result }
         ensures reads { (state_of self.new).reads ≡ min ((state_of self.old).reads + 1) (2 ^ 64 - 1) }
         ensures calls { calls_of self.new ≡ calls_of self.old }
@@ -269,10 +284,10 @@ impl Volume for MemoryVolume {
 
     fn log_append(&mut self, name: &str, items: &[Bytes]) -> Result<(), VolumeError>
         requires { Unit {0} → end_of ((state_of self.old).log name.now) + length items.now < 2 ^ 64 }
-        ensures appended { OnOk result (Unit {0} → (state_of self.new).log name.now ≡ appended ((state_of self.old).log name.now) items.now) }
-        ensures others { Unit {0} → OnlyLog name.now (state_of self.old) (state_of self.new) }
-        ensures images { Unit {0} → LogMoves name.now (Grows ((state_of self.old).log name.now) items.now) (state_of self.old) (state_of self.new) }
-        ensures writes { Writes (Unit {0}) Failed (state_of self.old) (state_of self.new) result }
+        ensures appended { OnOk result (Unit {0} →
+            (state_of self.new).log name.now ≡ appended ((state_of self.old).log name.now) items.now) }
+        ensures call { let step = Grows ((state_of self.old).log name.now) items.now in
+            WritesLog (Unit {0}) Failed name.now step (state_of self.old) (state_of self.new) result }
         ensures answers { WriteAnswers (Unit {0}) (state_of self.old) (state_of self.new) result }
         ensures recorded { Records (OfLog name.now (Append items.now)) self.old self.new result }
         ensures fails { FailsAsSet self.old self.new result }
@@ -285,10 +300,10 @@ impl Volume for MemoryVolume {
 
     fn log_sync(&mut self, name: &str) -> Result<(), VolumeError>
         ensures contents { Unit {0} → (state_of self.new).log name.now ≡ (state_of self.old).log name.now }
-        ensures durable { OnOk result (Unit {0} → OnlyLeft ((state_of self.new).log_left (state_of self.new).clock name.now) ((state_of self.new).log name.now)) }
-        ensures others { Unit {0} → OnlyLog name.now (state_of self.old) (state_of self.new) }
-        ensures images { Unit {0} → LogMoves name.now Stays (state_of self.old) (state_of self.new) }
-        ensures writes { Writes (Unit {0}) Failed (state_of self.old) (state_of self.new) result }
+        ensures durable { OnOk result (Unit {0} →
+            OnlyLeft ((state_of self.new).log_left (state_of self.new).clock name.now)
+            ((state_of self.new).log name.now)) }
+        ensures call { WritesLog (Unit {0}) Failed name.now Stays (state_of self.old) (state_of self.new) result }
         ensures answers { WriteAnswers (Unit {0}) (state_of self.old) (state_of self.new) result }
         ensures recorded { Records (OfLog name.now Sync) self.old self.new result }
         ensures fails { FailsAsSet self.old self.new result }
@@ -301,10 +316,10 @@ impl Volume for MemoryVolume {
     fn log_cut(&mut self, name: &str, end: u64) -> Result<(), VolumeError>
         requires low { Unit {0} → ((state_of self.old).log name.now).start ≤ end }
         requires high { Unit {0} → end ≤ end_of ((state_of self.old).log name.now) }
-        ensures cut { OnOk result (Unit {0} → (state_of self.new).log name.now ≡ cut_to ((state_of self.old).log name.now) end) }
-        ensures others { Unit {0} → OnlyLog name.now (state_of self.old) (state_of self.new) }
-        ensures images { Unit {0} → LogMoves name.now (Shrinks end) (state_of self.old) (state_of self.new) }
-        ensures writes { Writes (Unit {0}) Failed (state_of self.old) (state_of self.new) result }
+        ensures cut { OnOk result (Unit {0} →
+            (state_of self.new).log name.now ≡ cut_to ((state_of self.old).log name.now) end) }
+        ensures call { let step = Shrinks end in
+            WritesLog (Unit {0}) Failed name.now step (state_of self.old) (state_of self.new) result }
         ensures answers { WriteAnswers (Unit {0}) (state_of self.old) (state_of self.new) result }
         ensures recorded { Records (OfLog name.now (Cut end)) self.old self.new result }
         ensures fails { FailsAsSet self.old self.new result }
@@ -317,10 +332,10 @@ impl Volume for MemoryVolume {
     fn log_prune(&mut self, name: &str, start: u64) -> Result<(), VolumeError>
         requires low { Unit {0} → ((state_of self.old).log name.now).start ≤ start }
         requires high { Unit {0} → start ≤ end_of ((state_of self.old).log name.now) }
-        ensures pruned { OnOk result (Unit {0} → (state_of self.new).log name.now ≡ pruned_to ((state_of self.old).log name.now) start) }
-        ensures others { Unit {0} → OnlyLog name.now (state_of self.old) (state_of self.new) }
-        ensures images { Unit {0} → LogMoves name.now (Advances start) (state_of self.old) (state_of self.new) }
-        ensures writes { Writes (Unit {0}) Failed (state_of self.old) (state_of self.new) result }
+        ensures pruned { OnOk result (Unit {0} →
+            (state_of self.new).log name.now ≡ pruned_to ((state_of self.old).log name.now) start) }
+        ensures call { let step = Advances start in
+            WritesLog (Unit {0}) Failed name.now step (state_of self.old) (state_of self.new) result }
         ensures answers { WriteAnswers (Unit {0}) (state_of self.old) (state_of self.new) result }
         ensures recorded { Records (OfLog name.now (Prune start)) self.old self.new result }
         ensures fails { FailsAsSet self.old self.new result }
@@ -332,10 +347,10 @@ impl Volume for MemoryVolume {
 
     fn log_clear(&mut self, name: &str, size: u64) -> Result<(), VolumeError>
         ensures cleared { OnOk result (Unit {0} → (state_of self.new).log name.now ≡ cleared_at size) }
-        ensures durable { OnOk result (Unit {0} → OnlyLeft ((state_of self.new).log_left (state_of self.new).clock name.now) (cleared_at size)) }
-        ensures others { Unit {0} → OnlyLog name.now (state_of self.old) (state_of self.new) }
-        ensures images { Unit {0} → LogMoves name.now (BecomesOneOf (cleared_at size)) (state_of self.old) (state_of self.new) }
-        ensures writes { Writes (Unit {0}) Failed (state_of self.old) (state_of self.new) result }
+        ensures durable { OnOk result (Unit {0} →
+            OnlyLeft ((state_of self.new).log_left (state_of self.new).clock name.now) (cleared_at size)) }
+        ensures call { let step = BecomesOneOf (cleared_at size) in
+            WritesLog (Unit {0}) Failed name.now step (state_of self.old) (state_of self.new) result }
         ensures answers { WriteAnswers (Unit {0}) (state_of self.old) (state_of self.new) result }
         ensures recorded { Records (OfLog name.now (Put size [])) self.old self.new result }
         ensures fails { FailsAsSet self.old self.new result }
@@ -348,10 +363,9 @@ impl Volume for MemoryVolume {
 
     fn log_remove(&mut self, name: &str) -> Result<(), VolumeError>
         ensures removed { OnOk result (Unit {0} → (state_of self.new).log name.now ≡ no_log) }
-        ensures durable { OnOk result (Unit {0} → OnlyLeft ((state_of self.new).log_left (state_of self.new).clock name.now) no_log) }
-        ensures others { Unit {0} → OnlyLog name.now (state_of self.old) (state_of self.new) }
-        ensures images { Unit {0} → LogMoves name.now Vanishes (state_of self.old) (state_of self.new) }
-        ensures writes { Writes (Unit {0}) Failed (state_of self.old) (state_of self.new) result }
+        ensures durable { OnOk result (Unit {0} →
+            OnlyLeft ((state_of self.new).log_left (state_of self.new).clock name.now) no_log) }
+        ensures call { WritesLog (Unit {0}) Failed name.now Vanishes (state_of self.old) (state_of self.new) result }
         ensures answers { WriteAnswers (Unit {0}) (state_of self.old) (state_of self.new) result }
         ensures recorded { Records (OfLog name.now (Put 0 [])) self.old self.new result }
         ensures fails { FailsAsSet self.old self.new result }
@@ -378,10 +392,10 @@ impl Volume for MemoryVolume {
 
     fn map_replace(&mut self, name: &str, map: &MetaMap) -> Result<(), VolumeError>
         ensures map { OnOk result (Unit {0} → (state_of self.new).map name.now ≡ map.now) }
-        ensures durable { OnOk result (Unit {0} → OnlyLeft ((state_of self.new).map_left (state_of self.new).clock name.now) map.now) }
-        ensures others { Unit {0} → OnlyMap name.now (state_of self.old) (state_of self.new) }
-        ensures images { Unit {0} → MapMoves name.now (BecomesOneOf map.now) (state_of self.old) (state_of self.new) }
-        ensures writes { Writes (Unit {0}) Failed (state_of self.old) (state_of self.new) result }
+        ensures durable { OnOk result (Unit {0} →
+            OnlyLeft ((state_of self.new).map_left (state_of self.new).clock name.now) map.now) }
+        ensures call { let step = BecomesOneOf map.now in
+            WritesMap (Unit {0}) Failed name.now step (state_of self.old) (state_of self.new) result }
         ensures answers { WriteAnswers (Unit {0}) (state_of self.old) (state_of self.new) result }
         ensures recorded { Records (OfMap name.now map.now) self.old self.new result }
         ensures fails { FailsAsSet self.old self.new result }
@@ -393,10 +407,10 @@ impl Volume for MemoryVolume {
 
     fn map_remove(&mut self, name: &str) -> Result<(), VolumeError>
         ensures removed { OnOk result (Unit {0} → (state_of self.new).map name.now ≡ map.empty) }
-        ensures durable { OnOk result (Unit {0} → OnlyLeft ((state_of self.new).map_left (state_of self.new).clock name.now) map.empty) }
-        ensures others { Unit {0} → OnlyMap name.now (state_of self.old) (state_of self.new) }
-        ensures images { Unit {0} → MapMoves name.now (BecomesOneOf map.empty) (state_of self.old) (state_of self.new) }
-        ensures writes { Writes (Unit {0}) Failed (state_of self.old) (state_of self.new) result }
+        ensures durable { OnOk result (Unit {0} →
+            OnlyLeft ((state_of self.new).map_left (state_of self.new).clock name.now) map.empty) }
+        ensures call { let step = BecomesOneOf map.empty in
+            WritesMap (Unit {0}) Failed name.now step (state_of self.old) (state_of self.new) result }
         ensures answers { WriteAnswers (Unit {0}) (state_of self.old) (state_of self.new) result }
         ensures recorded { Records (OfMap name.now map.empty) self.old self.new result }
         ensures fails { FailsAsSet self.old self.new result }

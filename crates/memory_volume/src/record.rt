@@ -24,7 +24,8 @@ pub fn record_log(
 ) -> Result<(), VolumeError>
     requires { CanChange (stored_log logs.old.items name.now) change }
     ensures recorded { OnOk result (calls.new.items ≡ calls.old.items ++ OfLog name.now change ∷ []) }
-    ensures kept { (maps : List StoredMap) → AreKept calls.old.items logs.old.items maps → AreKept calls.new.items logs.new.items maps }
+    ensures kept { (maps : List StoredMap) →
+        AreKept calls.old.items logs.old.items maps → AreKept calls.new.items logs.new.items maps }
     ensures err { OnErr result (calls.new.items ≡ calls.old.items) }
     ensures memory { IsOkUnless result VolumeError.Memory }
 {
@@ -45,7 +46,8 @@ pub fn record_map(
     map: &MetaMap,
 ) -> Result<(), VolumeError>
     ensures recorded { OnOk result (calls.new.items ≡ calls.old.items ++ OfMap name.now map.now ∷ []) }
-    ensures kept { (logs : List StoredLog) → AreKept calls.old.items logs maps.old.items → AreKept calls.new.items logs maps.new.items }
+    ensures kept { (logs : List StoredLog) →
+        AreKept calls.old.items logs maps.old.items → AreKept calls.new.items logs maps.new.items }
     ensures err { OnErr result (calls.new.items ≡ calls.old.items) }
     ensures memory { IsOkUnless result VolumeError.Memory }
 {

@@ -241,7 +241,8 @@ fn replay_slot(
 
 /// Replays a call.
 fn replay_call(alloc: Global, rows: &mut Vec<Replayed>, call: &Entry) -> Result<(), VolumeError>
-    ensures ok { OnOk result ((other : List ℕ) → replayed rows.new.items other ≡ next_versions other (replayed rows.old.items other) call.now) }
+    ensures ok { OnOk result ((other : List ℕ) →
+        replayed rows.new.items other ≡ next_versions other (replayed rows.old.items other) call.now) }
     ensures memory { IsOkUnless result VolumeError.Memory }
 {
     match call {

@@ -59,8 +59,10 @@ pub fn read_item(
     position: u64,
 ) -> Result<Bytes, VolumeError>
     ensures item { IfOk result (λ item. IsItemAt (stored_log logs.now name.now) position item) }
-    ensures pruned { (p : ℕ) → IsErrOf result (ItemPruned p) → (p ≡ position) × (position < (stored_log logs.now name.now).start) }
-    ensures out_of_range { (p : ℕ) → IsErrOf result (ItemOutOfRange p) → (p ≡ position) × (end_of (stored_log logs.now name.now) ≤ position) }
+    ensures pruned { (p : ℕ) → IsErrOf result (ItemPruned p) →
+        (p ≡ position) × (position < (stored_log logs.now name.now).start) }
+    ensures out_of_range { (p : ℕ) → IsErrOf result (ItemOutOfRange p) →
+        (p ≡ position) × (end_of (stored_log logs.now name.now) ≤ position) }
     ensures not_failed { IsErrOf result Failed → ⊥ }
 {
     let row = log_row(logs, name);
@@ -74,7 +76,8 @@ pub fn read_item(
 fn item_of(alloc: Global, log: &StoredLog, position: u64) -> Result<Bytes, VolumeError>
     ensures item { IfOk result (λ item. IsItemAt (log_of log.now) position item) }
     ensures pruned { (p : ℕ) → IsErrOf result (ItemPruned p) → (p ≡ position) × (position < (log_of log.now).start) }
-    ensures out_of_range { (p : ℕ) → IsErrOf result (ItemOutOfRange p) → (p ≡ position) × (end_of (log_of log.now) ≤ position) }
+    ensures out_of_range { (p : ℕ) → IsErrOf result (ItemOutOfRange p) →
+        (p ≡ position) × (end_of (log_of log.now) ≤ position) }
     ensures not_failed { IsErrOf result Failed → ⊥ }
 {
     if position < log.start {

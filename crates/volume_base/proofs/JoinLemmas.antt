@@ -17,6 +17,9 @@ only_log_joins name a b c ab bc = record { logs = λ other ne. bc.logs other ne 
 pub only_log_same : (name : List ℕ) (a b : State) → SameContents a b → OnlyLog name a b
 only_log_same name a b same = record { logs = λ other ne. same.logs other; maps = same.maps }
 
+pub only_map_same : (name : List ℕ) (a b : State) → SameContents a b → OnlyMap name a b
+only_map_same name a b same = record { logs = same.logs; maps = λ other ne. same.maps other }
+
 pub only_map_joins : (name : List ℕ) (a b c : State) → OnlyMap name a b → OnlyMap name b c → OnlyMap name a c
 only_map_joins name a b c ab bc = record { logs = λ other. bc.logs other ∙ ab.logs other; maps = λ other ne. bc.maps other ne ∙ ab.maps other ne }
 

@@ -1,4 +1,5 @@
 pub mod BoundLemmas
+pub mod CallLemmas
 pub mod ImageLemmas
 pub mod JoinLemmas
 pub mod MomentLemmas

@@ -126,6 +126,15 @@ pub log_moves_then_stays : (name : List ℕ) (step : Log → Log → Type 0) (a 
 log_moves_then_stays name step a b c ab bc =
     log_moves_joins name step Stays step a b c ab bc (λ old new goes. goes) (λ old mid new goes is. subst (step old) (sym is) goes)
 
+-- a wider step
+pub log_moves_wider : (name : List ℕ) (first second : Log → Log → Type 0) (a b : State) → LogMoves name first a b → ((old new : Log) → first old new → second old new) → LogMoves name second a b
+log_moves_wider name first second a b moves wider = record {
+  past = moves.past;
+  this = λ t log lo hi left. let from = moves.this t log lo hi left in (from.0, from.1, wider from.0 log from.2);
+  logs = moves.logs;
+  maps = moves.maps;
+}
+
 -- A log beside a map.
 
 pub pair_has_after : (one two : List ℕ) (Q : Log → Map → Type 0) (a b : State) → PairKeeps one two Q a b → PairHas b one two Q

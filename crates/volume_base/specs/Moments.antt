@@ -28,7 +28,8 @@ pub record NamesLeft (names : Names) (state : State) (t : ℕ) (image : Image) :
 abbrev pub present : State → Image
 present state = record { log = state.log; map = state.map }
 
--- Statements on moments. What is left is of one log (`LogLeft name`), of one map (`MapLeft name`), of the names of a store
+-- Statements on moments. What is left is of one log (`LogLeft name`), of one map (`MapLeft name`), of the names of
+-- a store
 -- (`NamesLeft names`), or of the whole volume (`LeftAt`): each word below is the same for all four.
 
 -- A crash now leaves only what has P.
@@ -89,7 +90,8 @@ Covers left stands from to (s ∷ next ∷ rest) =
     (turn : ℕ) × (from ≤ turn) × (turn ≤ to) × Between left from turn (stands s)
     × Covers left stands turn to (next ∷ rest)
 
--- One log beside one map, by their values: at each moment from old to new each image of this log, beside each of this map,
+-- One log beside one map, by their values: at each moment from old to new each image of this log, beside each of
+-- this map,
 -- has Q with it.
 pub record PairKeeps (one two : List ℕ) (Q : Log → Map → Type 0) (old new : State) : Type 0 where
   pub past : PastStays old new

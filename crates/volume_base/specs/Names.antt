@@ -47,3 +47,8 @@ pub record OthersStay (names : Names) (old new : State) : Type 0 where
   pub past : PastStays old new
   pub logs : (other : List ℕ) → IsNoneOf other names.logs → LogStays other old new
   pub maps : (other : List ℕ) → IsNoneOf other names.maps → MapStays other old new
+
+-- A call on these logs and maps: of every other the contents and the images stay.
+pub record NamesCall (names : Names) (old new : State) : Type 0 where
+  pub others : OnlyNames names old new
+  pub images : OthersStay names old new

@@ -83,6 +83,17 @@ pub record MapMoves (name : List ℕ) (step : Map → Map → Type 0) (old new :
   pub maps : (t : ℕ) (other : List ℕ) (m : Map) → old.clock ≤ t → t ≤ new.clock
       → other ≢ name → (new.map_left t other m ↔ old.map_left old.clock other m)
 
+-- A call on one log: every other log and every map stays, in contents and images, and at each moment an image of this
+-- log follows by this step from one of before.
+pub record LogCall (name : List ℕ) (step : Log → Log → Type 0) (old new : State) : Type 0 where
+  pub others : OnlyLog name old new
+  pub images : LogMoves name step old new
+
+-- The same for a call on one map.
+pub record MapCall (name : List ℕ) (step : Map → Map → Type 0) (old new : State) : Type 0 where
+  pub others : OnlyMap name old new
+  pub images : MapMoves name step old new
+
 -- A crash now leaves this and nothing else.
 abbrev pub OnlyLeft : {A : Type 0} → (A → Type 0) → A → Type 0
 OnlyLeft {A} images contents = (image : A) → images image → image ≡ contents
@@ -111,6 +122,17 @@ pub record Changes {T E : Type 0} (tells : Type 0) (fault : E) (old new : State)
   pub failed : IsErrOf result fault → Rose old.faults new.faults
   pub kept : OnOk result (new.faults ≡ old.faults)
   pub steady : old.steady → StaysSteady old new
+
+-- What a call that writes one log, or one map, says of that and of all the rest, whatever it answers.
+pub record WritesLog {T E : Type 0} (tells : Type 0) (fault : E) (name : List ℕ) (step : Log → Log → Type 0)
+    (old new : State) (result : Result T E) : Type 0 where
+  pub log : tells → LogCall name step old new
+  pub writes : Writes tells fault old new result
+
+pub record WritesMap {T E : Type 0} (tells : Type 0) (fault : E) (name : List ℕ) (step : Map → Map → Type 0)
+    (old new : State) (result : Result T E) : Type 0 where
+  pub map : tells → MapCall name step old new
+  pub writes : Writes tells fault old new result
 
 -- What one call of a volume that writes says besides: the clock rises on Ok, want of memory leaves it,
 -- and no other error comes than `Failed` and `Memory`.

@@ -3,7 +3,7 @@ ghost use Rattle.std.specs.FinMap as map;
 ghost use Rattle.volume_base.specs.declared.error.VolumeError.TheVariants.{Failed, ItemPruned, ItemOutOfRange};
 ghost use Rattle.volume_base.specs.Log.{IsItemAt, end_of, no_log, cleared_at, appended, cut_to, pruned_to, Grows, Shrinks, Advances, Vanishes, Stays, BecomesOneOf};
 ghost use Rattle.volume_base.specs.Moments.{LeftAt, present};
-ghost use Rattle.volume_base.specs.Volume.{State, OnlyLog, OnlyMap, LogMoves, MapMoves, OnlyLeft, Writes, WriteAnswers, Reads};
+ghost use Rattle.volume_base.specs.Volume.{State, OnlyLeft, WritesLog, WritesMap, WriteAnswers, Reads};
 
 use crate::{MetaMap, VolumeError};
 use codec_base::Bytes;
@@ -40,10 +40,8 @@ pub trait Volume {
         requires { tells → end_of ((state self.old).log name.now) + length items.now < 2 ^ 64 }
         ensures appended { OnOk result (tells →
             (state self.new).log name.now ≡ appended ((state self.old).log name.now) items.now) }
-        ensures others { tells → OnlyLog name.now (state self.old) (state self.new) }
-        ensures images { tells →
-            LogMoves name.now (Grows ((state self.old).log name.now) items.now) (state self.old) (state self.new) }
-        ensures writes { Writes tells Failed (state self.old) (state self.new) result }
+        ensures call { let step = Grows ((state self.old).log name.now) items.now in
+            WritesLog tells Failed name.now step (state self.old) (state self.new) result }
         ensures answers { WriteAnswers tells (state self.old) (state self.new) result };
 
     /// After it a crash leaves what the log holds.
@@ -51,9 +49,7 @@ pub trait Volume {
         ensures contents { tells → (state self.new).log name.now ≡ (state self.old).log name.now }
         ensures durable { OnOk result (tells →
             OnlyLeft ((state self.new).log_left (state self.new).clock name.now) ((state self.new).log name.now)) }
-        ensures others { tells → OnlyLog name.now (state self.old) (state self.new) }
-        ensures images { tells → LogMoves name.now Stays (state self.old) (state self.new) }
-        ensures writes { Writes tells Failed (state self.old) (state self.new) result }
+        ensures call { WritesLog tells Failed name.now Stays (state self.old) (state self.new) result }
         ensures answers { WriteAnswers tells (state self.old) (state self.new) result };
 
     /// Takes the items from a position on away. Until a sync a crash leaves any front of them.
@@ -62,9 +58,7 @@ pub trait Volume {
         requires high { tells → end ≤ end_of ((state self.old).log name.now) }
         ensures cut { OnOk result (tells →
             (state self.new).log name.now ≡ cut_to ((state self.old).log name.now) end) }
-        ensures others { tells → OnlyLog name.now (state self.old) (state self.new) }
-        ensures images { tells → LogMoves name.now (Shrinks end) (state self.old) (state self.new) }
-        ensures writes { Writes tells Failed (state self.old) (state self.new) result }
+        ensures call { WritesLog tells Failed name.now (Shrinks end) (state self.old) (state self.new) result }
         ensures answers { WriteAnswers tells (state self.old) (state self.new) result };
 
     /// Takes the items below a position away. Until a sync a crash leaves of them any back part.
@@ -73,9 +67,7 @@ pub trait Volume {
         requires high { tells → start ≤ end_of ((state self.old).log name.now) }
         ensures pruned { OnOk result (tells →
             (state self.new).log name.now ≡ pruned_to ((state self.old).log name.now) start) }
-        ensures others { tells → OnlyLog name.now (state self.old) (state self.new) }
-        ensures images { tells → LogMoves name.now (Advances start) (state self.old) (state self.new) }
-        ensures writes { Writes tells Failed (state self.old) (state self.new) result }
+        ensures call { WritesLog tells Failed name.now (Advances start) (state self.old) (state self.new) result }
         ensures answers { WriteAnswers tells (state self.old) (state self.new) result };
 
     /// Leaves an empty log at a position, and a crash then leaves that.
@@ -83,10 +75,8 @@ pub trait Volume {
         ensures cleared { OnOk result (tells → (state self.new).log name.now ≡ cleared_at size) }
         ensures durable { OnOk result (tells →
             OnlyLeft ((state self.new).log_left (state self.new).clock name.now) (cleared_at size)) }
-        ensures others { tells → OnlyLog name.now (state self.old) (state self.new) }
-        ensures images { tells →
-            LogMoves name.now (BecomesOneOf (cleared_at size)) (state self.old) (state self.new) }
-        ensures writes { Writes tells Failed (state self.old) (state self.new) result }
+        ensures call { let step = BecomesOneOf (cleared_at size) in
+            WritesLog tells Failed name.now step (state self.old) (state self.new) result }
         ensures answers { WriteAnswers tells (state self.old) (state self.new) result };
 
     /// Takes a log away, and a crash then leaves none.
@@ -94,9 +84,7 @@ pub trait Volume {
         ensures removed { OnOk result (tells → (state self.new).log name.now ≡ no_log) }
         ensures durable { OnOk result (tells →
             OnlyLeft ((state self.new).log_left (state self.new).clock name.now) no_log) }
-        ensures others { tells → OnlyLog name.now (state self.old) (state self.new) }
-        ensures images { tells → LogMoves name.now Vanishes (state self.old) (state self.new) }
-        ensures writes { Writes tells Failed (state self.old) (state self.new) result }
+        ensures call { WritesLog tells Failed name.now Vanishes (state self.old) (state self.new) result }
         ensures answers { WriteAnswers tells (state self.old) (state self.new) result };
 
     /// The map of this name; an empty one where there is none.
@@ -112,9 +100,7 @@ pub trait Volume {
         ensures map { OnOk result (tells → (state self.new).map name.now ≡ map.now) }
         ensures durable { OnOk result (tells →
             OnlyLeft ((state self.new).map_left (state self.new).clock name.now) map.now) }
-        ensures others { tells → OnlyMap name.now (state self.old) (state self.new) }
-        ensures images { tells → MapMoves name.now (BecomesOneOf map.now) (state self.old) (state self.new) }
-        ensures writes { Writes tells Failed (state self.old) (state self.new) result }
+        ensures call { WritesMap tells Failed name.now (BecomesOneOf map.now) (state self.old) (state self.new) result }
         ensures answers { WriteAnswers tells (state self.old) (state self.new) result };
 
     /// Takes a map away, and a crash then leaves none.
@@ -122,11 +108,11 @@ pub trait Volume {
         ensures removed { OnOk result (tells → (state self.new).map name.now ≡ map.empty) }
         ensures durable { OnOk result (tells →
             OnlyLeft ((state self.new).map_left (state self.new).clock name.now) map.empty) }
-        ensures others { tells → OnlyMap name.now (state self.old) (state self.new) }
-        ensures images { tells → MapMoves name.now (BecomesOneOf map.empty) (state self.old) (state self.new) }
-        ensures writes { Writes tells Failed (state self.old) (state self.new) result }
+        ensures call { let step = BecomesOneOf map.empty in
+            WritesMap tells Failed name.now step (state self.old) (state self.new) result }
         ensures answers { WriteAnswers tells (state self.old) (state self.new) result };
 
     /// What is there now is one of the images that a crash may leave now.
-    ghost contents_left: { (volume : Self) → tells → LeftAt (state volume) (state volume).clock (present (state volume)) };
+    ghost contents_left: { (volume : Self) → tells →
+        LeftAt (state volume) (state volume).clock (present (state volume)) };
 }

@@ -1,12 +1,12 @@
-use Rattle.volume_base.proofs.MomentLemmas.{log_moves_none, log_moves_idle}
+use Rattle.volume_base.proofs.CallLemmas.{log_call_none, log_call_read}
 use Rattle.volume_base.proofs.StepLemmas.{grows_same}
 use Rattle.journal_base.proofs.journal.JournalMutable.append_many.Goals as goal
 
-pub returns-in_err-texts-clause-images : goal.returns-in_err-texts-clause-images
-returns-in_err-texts-clause-images g c alone told = log_moves_none _ _ _ (grows_same _ _)
+pub returns-in_err-texts-clause-log : goal.returns-in_err-texts-clause-log
+returns-in_err-texts-clause-log g c alone told = log_call_none _ _ _ (grows_same _ _)
 
-pub returns-in_err-start-clause-images : goal.returns-in_err-start-clause-images
-returns-in_err-start-clause-images g c alone told = log_moves_idle _ _ _ _ c.log_bounds.ensures.answers.clock (c.log_bounds.ensures.answers.past told) (grows_same _ _)
+pub returns-in_err-start-clause-log : goal.returns-in_err-start-clause-log
+returns-in_err-start-clause-log g c alone told = log_call_read _ _ _ _ (grows_same _ _) _ _ _ c.log_bounds.ensures.answers told
 
-pub returns-then-is_empty-clause-images : goal.returns-then-is_empty-clause-images
-returns-then-is_empty-clause-images g c alone told = log_moves_none _ _ _ (grows_same _ _)
+pub returns-then-is_empty-clause-log : goal.returns-then-is_empty-clause-log
+returns-then-is_empty-clause-log g c alone told = log_call_none _ _ _ (grows_same _ _)

@@ -1,29 +1,41 @@
-use Rattle.std.proofs.Common.{min, take, sym, subst, ◌∙◌, ap, arith}
+use Rattle.std.proofs.Common.{min, take, sym, subst, rules, ◌∙◌, ap, arith}
 use Rattle.volume_base.specs.Log.{Log, end_of, cut_to}
-use Rattle.volume_base.proofs.MomentLemmas.{log_moves_idle, log_moves_after_idle, log_moves_then_stays}
+use Rattle.volume_base.proofs.CallLemmas.{log_call_read, log_call_after_read, log_call_then_stays}
 use Rattle.volume_base.proofs.StepLemmas.{shrinks_same, cut_to_lesser}
 use Rattle.journal_base.specs.Items.{Spells}
 use Rattle.journal_base.proofs.ItemLemmas.{spells_cut}
 use Rattle.journal_base.proofs.recovery.RecoveryBackingRecovery.finish.Goals as goal
 
-pub returns-in_err-start-clause-images : goal.returns-in_err-start-clause-images
-returns-in_err-start-clause-images g c told = log_moves_idle _ _ _ _ c.log_bounds.ensures.answers.clock (c.log_bounds.ensures.answers.past told) (shrinks_same _)
+pub returns-in_err-start-clause-call : goal.returns-in_err-start-clause-call
+returns-in_err-start-clause-call g c = record {
+  log = log_call_read _ _ _ _ (shrinks_same _) _ _ _ c.log_bounds.ensures.answers;
+  writes = search rules;
+}
 
-pub returns-then-size-start-clause-images : goal.returns-then-size-start-clause-images
-returns-then-size-start-clause-images g c told = log_moves_idle _ _ _ _ c.log_bounds.ensures.answers.clock (c.log_bounds.ensures.answers.past told) (shrinks_same _)
+pub returns-then-size-start-clause-call : goal.returns-then-size-start-clause-call
+returns-then-size-start-clause-call g c = record {
+  log = log_call_read _ _ _ _ (shrinks_same _) _ _ _ c.log_bounds.ensures.answers;
+  writes = search rules;
+}
 
-pub returns-in_err-cut_down-clause-images : goal.returns-in_err-cut_down-clause-images
-returns-in_err-cut_down-clause-images g c told =
-    let to_is = c.min-to.ensures ∙ ap (min c.args.size) (c.in_ok-start.ensures.end told ∙ ap (λ n. end_of ((g.V.Volume.state c.args.vol.now).log n)) c.as_str-name.ensures.value) in
-    let cut = rw (to_is, c.as_str-name.ensures.value) at (c.cut_down.ensures.images told) in
-    log_moves_after_idle _ _ _ _ _ c.log_bounds.ensures.answers.clock (c.log_bounds.ensures.answers.past told) (shrinks_same _) cut
+pub returns-in_err-cut_down-clause-call : goal.returns-in_err-cut_down-clause-call
+returns-in_err-cut_down-clause-call g c = record {
+  log = λ told.
+      let to_is = c.min-to.ensures ∙ ap (min c.args.size) (c.in_ok-start.ensures.end told ∙ ap (λ n. end_of ((g.V.Volume.state c.args.vol.now).log n)) c.as_str-name.ensures.value) in
+      let cut = rw (to_is, c.as_str-name.ensures.value) at (c.cut_down.ensures.call.log told) in
+      log_call_after_read _ _ _ _ (shrinks_same _) _ _ _ c.log_bounds.ensures.answers _ told cut;
+  writes = search rules;
+}
 
-pub returns-in_err-log_sync-clause-images : goal.returns-in_err-log_sync-clause-images
-returns-in_err-log_sync-clause-images g c told =
-    let to_is = c.min-to.ensures ∙ ap (min c.args.size) (c.in_ok-start.ensures.end told ∙ ap (λ n. end_of ((g.V.Volume.state c.args.vol.now).log n)) c.as_str-name.ensures.value) in
-    let cut = rw (to_is, c.as_str-name.ensures.value) at (c.cut_down.ensures.images told) in
-    let synced = rw (c.as_str-name.ensures.value) at (c.log_sync.ensures.images told) in
-    log_moves_then_stays _ _ _ _ _ (log_moves_after_idle _ _ _ _ _ c.log_bounds.ensures.answers.clock (c.log_bounds.ensures.answers.past told) (shrinks_same _) cut) synced
+pub returns-in_err-log_sync-clause-call : goal.returns-in_err-log_sync-clause-call
+returns-in_err-log_sync-clause-call g c = record {
+  log = λ told.
+      let to_is = c.min-to.ensures ∙ ap (min c.args.size) (c.in_ok-start.ensures.end told ∙ ap (λ n. end_of ((g.V.Volume.state c.args.vol.now).log n)) c.as_str-name.ensures.value) in
+      let cut = rw (to_is, c.as_str-name.ensures.value) at (c.cut_down.ensures.call.log told) in
+      let synced = rw (c.as_str-name.ensures.value) at (c.log_sync.ensures.call.log told) in
+      log_call_then_stays _ _ _ _ _ (log_call_after_read _ _ _ _ (shrinks_same _) _ _ _ c.log_bounds.ensures.answers _ told cut) synced;
+  writes = search rules;
+}
 
 pub returns-clause-cut : goal.returns-clause-cut
 returns-clause-cut g c told =
@@ -32,12 +44,18 @@ returns-clause-cut g c told =
     let cut = c.log_sync.ensures.contents told ∙ c.in_ok-cut_down.ensures.cut told ∙ ap (λ l. cut_to l c.min-to.result) log_is ∙ ap (cut_to ((g.V.Volume.state c.args.vol.now).log c.as_str-name.result.now)) to_is ∙ cut_to_lesser _ c.args.size in
     rw c.as_str-name.ensures.value at cut
 
-pub returns-clause-images : goal.returns-clause-images
-returns-clause-images g c told =
-    let to_is = c.min-to.ensures ∙ ap (min c.args.size) (c.in_ok-start.ensures.end told ∙ ap (λ n. end_of ((g.V.Volume.state c.args.vol.now).log n)) c.as_str-name.ensures.value) in
-    let cut = rw (to_is, c.as_str-name.ensures.value) at (c.cut_down.ensures.images told) in
-    let synced = rw (c.as_str-name.ensures.value) at (c.log_sync.ensures.images told) in
-    log_moves_then_stays _ _ _ _ _ (log_moves_after_idle _ _ _ _ _ c.log_bounds.ensures.answers.clock (c.log_bounds.ensures.answers.past told) (shrinks_same _) cut) synced
+pub returns-clause-durable : goal.returns-clause-durable
+returns-clause-durable g c told = let only = rw c.as_str-name.ensures.value at (c.in_ok-log_sync.ensures.durable told) in only
+
+pub returns-clause-call : goal.returns-clause-call
+returns-clause-call g c = record {
+  log = λ told.
+      let to_is = c.min-to.ensures ∙ ap (min c.args.size) (c.in_ok-start.ensures.end told ∙ ap (λ n. end_of ((g.V.Volume.state c.args.vol.now).log n)) c.as_str-name.ensures.value) in
+      let cut = rw (to_is, c.as_str-name.ensures.value) at (c.cut_down.ensures.call.log told) in
+      let synced = rw (c.as_str-name.ensures.value) at (c.log_sync.ensures.call.log told) in
+      log_call_then_stays _ _ _ _ _ (log_call_after_read _ _ _ _ (shrinks_same _) _ _ _ c.log_bounds.ensures.answers _ told cut) synced;
+  writes = search rules;
+}
 
 pub returns-clause-listed : goal.returns-clause-listed
 returns-clause-listed g c told list run =
