@@ -9,6 +9,7 @@ use Rattle.codec_base.specs.Laws.{done, ok_is}
 use Rattle.std.proofs.lemmas.List.{append-nil}
 use Rattle.codec_base.specs.PartsLaws.{whole_exact, whole_again}
 
+-- a step that failed, with the type of its value known
 abbrev failed : {A : Type 0} → CodecError → Result A CodecError
 failed e = Err e
 

@@ -3,6 +3,7 @@ use Rattle.std.specs.Prelude.{ℕ, List, codes}
 use Rattle.codec_base.specs.declared.error.InvalidAt.{InvalidAt}
 use Rattle.codec_base.specs.declared.error.InvalidAt.TheVariants.{Varint, Option, Length, Padding, Location, NonEmptyRange, Target, CompactTarget, Witness, ExtraData}
 
+-- the word for an invalid place
 unfoldable pub place_text : InvalidAt → List ℕ
 place_text Varint = codes "Varint"
 place_text Option = codes "Option"
