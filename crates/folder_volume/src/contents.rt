@@ -10,7 +10,7 @@ use volume_base::MetaMap;
 
 /// The logs and maps of a folder. Where the folder isn't there, each log is 0..0 and each map empty.
 #[derive(Drop)]
-pub struct Contents<R: Files> {
+pub(crate) struct Contents<R: Files> {
     directory: Directory<R>,
     logs: Logs<R>,
 }
@@ -19,21 +19,21 @@ impl<R: Files + Drop> Contents<R>
 where
     R::File: Lock,
 {
-    pub fn new(files: R, alloc: Global, path: &str) -> Result<Self, AllocError> {
+    pub(crate) fn new(files: R, alloc: Global, path: &str) -> Result<Self, AllocError> {
         Ok(Contents {
             directory: Directory::new(files, alloc, path)?,
             logs: Logs::new(alloc),
         })
     }
 
-    pub fn bounds(&mut self, name: &str) -> Result<(u64, u64), Failure> {
+    pub(crate) fn bounds(&mut self, name: &str) -> Result<(u64, u64), Failure> {
         match self.logs.find(&mut self.directory, name)? {
             Some(log) => Ok(log.bounds()),
             None => Ok((0, 0)),
         }
     }
 
-    pub fn read(&mut self, name: &str, position: u64) -> Result<Bytes, Failure> {
+    pub(crate) fn read(&mut self, name: &str, position: u64) -> Result<Bytes, Failure> {
         let alloc = self.directory.allocator();
         match self.logs.find(&mut self.directory, name)? {
             Some(log) => log.read(alloc, position),
@@ -41,45 +41,45 @@ where
         }
     }
 
-    pub fn append(&mut self, name: &str, items: &[Bytes]) -> Result<(), Failure> {
+    pub(crate) fn append(&mut self, name: &str, items: &[Bytes]) -> Result<(), Failure> {
         let log = self.logs.make(&mut self.directory, name)?;
         log.append(&self.directory, name, items)
     }
 
-    pub fn sync(&mut self, name: &str) -> Result<(), Failure> {
+    pub(crate) fn sync(&mut self, name: &str) -> Result<(), Failure> {
         match self.logs.find(&mut self.directory, name)? {
             Some(log) => log.sync(&mut self.directory),
             None => Ok(()),
         }
     }
 
-    pub fn cut(&mut self, name: &str, end: u64) -> Result<(), Failure> {
+    pub(crate) fn cut(&mut self, name: &str, end: u64) -> Result<(), Failure> {
         match self.logs.find(&mut self.directory, name)? {
             Some(log) => log.cut(end),
             None => only_at_zero(end),
         }
     }
 
-    pub fn prune(&mut self, name: &str, start: u64) -> Result<(), Failure> {
+    pub(crate) fn prune(&mut self, name: &str, start: u64) -> Result<(), Failure> {
         match self.logs.find(&mut self.directory, name)? {
             Some(log) => log.prune(&mut self.directory, name, start),
             None => only_at_zero(start),
         }
     }
 
-    pub fn clear(&mut self, name: &str, size: u64) -> Result<(), Failure> {
+    pub(crate) fn clear(&mut self, name: &str, size: u64) -> Result<(), Failure> {
         let log = self.logs.make(&mut self.directory, name)?;
         log.clear(&mut self.directory, name, size)
     }
 
-    pub fn remove(&mut self, name: &str) -> Result<(), Failure> {
+    pub(crate) fn remove(&mut self, name: &str) -> Result<(), Failure> {
         match self.logs.find(&mut self.directory, name)? {
             Some(log) => log.remove(&mut self.directory, name),
             None => Ok(()),
         }
     }
 
-    pub fn map(&mut self, name: &str) -> Result<MetaMap, Failure> {
+    pub(crate) fn map(&mut self, name: &str) -> Result<MetaMap, Failure> {
         check_name(name)?;
         if !self.directory.is_there()? {
             return Ok(MetaMap::new(self.directory.allocator()));
@@ -87,13 +87,13 @@ where
         read_map(&self.directory, name)
     }
 
-    pub fn replace_map(&mut self, name: &str, map: &MetaMap) -> Result<(), Failure> {
+    pub(crate) fn replace_map(&mut self, name: &str, map: &MetaMap) -> Result<(), Failure> {
         check_name(name)?;
         self.directory.make()?;
         replace_map(&mut self.directory, name, map)
     }
 
-    pub fn remove_map(&mut self, name: &str) -> Result<(), Failure> {
+    pub(crate) fn remove_map(&mut self, name: &str) -> Result<(), Failure> {
         check_name(name)?;
         if !self.directory.is_there()? {
             return Ok(());

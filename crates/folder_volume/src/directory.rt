@@ -8,7 +8,7 @@ use std::io::{self, ErrorKind, Write};
 
 /// What a file holds.
 #[derive(Clone, Copy, Debug, PartialEq, Eq)]
-pub enum Kind {
+pub(crate) enum Kind {
     Log,
     Map,
 }
@@ -33,8 +33,8 @@ impl Kind {
 
 /// A file that is written to take the place of another.
 #[derive(Drop)]
-pub struct Beside<T> {
-    pub file: T,
+pub(crate) struct Beside<T> {
+    pub(crate) file: T,
     from: String,
     to: String,
 }
@@ -42,7 +42,7 @@ pub struct Beside<T> {
 /// A folder, which need not be there before the first write. It is held open from the first call on that finds it there,
 /// and locked where the system can lock it.
 #[derive(Drop)]
-pub struct Directory<R: Files> {
+pub(crate) struct Directory<R: Files> {
     files: R,
     path: String,
     /// The folder above.
@@ -57,7 +57,7 @@ where
     R::File: Lock,
 {
     /// The folder of this path; the current one where the path is empty. Nothing is touched yet.
-    pub fn new(files: R, alloc: Global, path: &str) -> Result<Self, AllocError> {
+    pub(crate) fn new(files: R, alloc: Global, path: &str) -> Result<Self, AllocError> {
         let path = if path.is_empty() { "." } else { path };
         let mut above = String::from_str(alloc, path)?;
         above.push_str("/..")?;
@@ -71,12 +71,12 @@ where
         })
     }
 
-    pub fn allocator(&self) -> Global {
+    pub(crate) fn allocator(&self) -> Global {
         self.alloc
     }
 
     /// Whether the folder is there. It is held then.
-    pub fn is_there(&mut self) -> Result<bool, Failure> {
+    pub(crate) fn is_there(&mut self) -> Result<bool, Failure> {
         if self.held.is_some() {
             return Ok(true);
         }
@@ -94,7 +94,7 @@ where
     }
 
     /// Makes the folder, and those that it stands in, where it isn't there. Each name is synced before the next is made.
-    pub fn make(&mut self) -> Result<(), Failure> {
+    pub(crate) fn make(&mut self) -> Result<(), Failure> {
         if self.is_there()? {
             return Ok(());
         }
@@ -156,7 +156,7 @@ where
     }
 
     /// Makes the names in the folder outlast a crash, and its own with them.
-    pub fn sync_names(&mut self) -> Result<(), Failure> {
+    pub(crate) fn sync_names(&mut self) -> Result<(), Failure> {
         self.sync_own_name()?;
         match &mut self.held {
             Some(folder) => folder.sync(),
@@ -172,7 +172,7 @@ where
     }
 
     /// Opens the file of this name, where there is one, to read it, and to write behind its end where that is allowed.
-    pub fn open(&self, name: &str, kind: Kind) -> Result<Option<R::File>, Failure> {
+    pub(crate) fn open(&self, name: &str, kind: Kind) -> Result<Option<R::File>, Failure> {
         let path = self.path_of(name, kind.ending())?;
         match fs::metadata(&self.files, path.as_str()) {
             Ok(metadata) if metadata.is_file() => {}
@@ -191,7 +191,7 @@ where
     }
 
     /// Makes the file of this name, which isn't there.
-    pub fn create(&self, name: &str, kind: Kind) -> Result<R::File, Failure> {
+    pub(crate) fn create(&self, name: &str, kind: Kind) -> Result<R::File, Failure> {
         let path = self.path_of(name, kind.ending())?;
         let file = OpenOptions::new()
             .read(true)
@@ -202,7 +202,7 @@ where
     }
 
     /// Begins an empty file that is to take the place of the one of this name.
-    pub fn beside(&self, name: &str, kind: Kind) -> Result<Beside<R::File>, Failure> {
+    pub(crate) fn beside(&self, name: &str, kind: Kind) -> Result<Beside<R::File>, Failure> {
         let from = self.path_of(name, kind.ending_beside())?;
         let to = self.path_of(name, kind.ending())?;
         let file = OpenOptions::new()
@@ -215,7 +215,7 @@ where
     }
 
     /// Puts a file that was written beside in its place, or takes it away where that, or its writing, failed.
-    pub fn put_in_place(
+    pub(crate) fn put_in_place(
         &self,
         made: Beside<R::File>,
         written: Result<(), Failure>,
@@ -240,7 +240,7 @@ where
     }
 
     /// Takes the file of this name away, where there is one.
-    pub fn remove(&self, name: &str, kind: Kind) -> Result<(), Failure> {
+    pub(crate) fn remove(&self, name: &str, kind: Kind) -> Result<(), Failure> {
         let path = self.path_of(name, kind.ending())?;
         match fs::remove_file(&self.files, path.as_str()) {
             Ok(()) => Ok(()),
@@ -251,7 +251,7 @@ where
 }
 
 /// Refuses a name of a log or map that can't be part of a file's name.
-pub fn check_name(name: &str) -> Result<(), Failure> {
+pub(crate) fn check_name(name: &str) -> Result<(), Failure> {
     if name
         .as_bytes()
         .iter()

@@ -3,7 +3,7 @@ use std::io;
 
 /// Why a call on the files of a folder wasn't done.
 #[derive(Clone, Copy, Debug, PartialEq, Eq)]
-pub enum Failure {
+pub(crate) enum Failure {
     /// The outside failed, or holds what no volume writes.
     Outside,
     /// There is no memory.

@@ -17,7 +17,7 @@ impl Lock for File {
 }
 
 /// Locks an open folder, where the system can.
-pub fn lock_where_supported(folder: &impl Lock) -> Result<(), Failure> {
+pub(crate) fn lock_where_supported(folder: &impl Lock) -> Result<(), Failure> {
     match folder.lock_alone() {
         Ok(()) => Ok(()),
         Err(e) if e.kind() == ErrorKind::Unsupported => Ok(()),

@@ -12,7 +12,7 @@ use std::io::{self, Read, Seek, SeekFrom, Write};
 
 /// A log, as its file has it. The file is read once.
 #[derive(Drop)]
-pub struct LogFile<R: Files> {
+pub(crate) struct LogFile<R: Files> {
     /// None where the log isn't there.
     file: Option<Synced<R::File>>,
     start: u64,
@@ -43,7 +43,7 @@ where
     }
 
     /// The log of this name. One whose start and number of items together pass the greatest number is refused.
-    pub fn load(directory: &Directory<R>, name: &str) -> Result<Self, Failure> {
+    pub(crate) fn load(directory: &Directory<R>, name: &str) -> Result<Self, Failure> {
         let alloc = directory.allocator();
         let mut log = LogFile::absent(alloc);
         let Some(file) = directory.open(name, Kind::Log)? else {
@@ -62,7 +62,7 @@ where
     }
 
     /// The start and the end, which isn't past the greatest number.
-    pub fn bounds(&self) -> (u64, u64) {
+    pub(crate) fn bounds(&self) -> (u64, u64) {
         let count = self.ends.len() as u64;
         (self.start, self.start.saturating_add(count))
     }
@@ -85,7 +85,7 @@ where
     }
 
     /// The item at a position between the start and the end.
-    pub fn read(&mut self, alloc: Global, position: u64) -> Result<Bytes, Failure> {
+    pub(crate) fn read(&mut self, alloc: Global, position: u64) -> Result<Bytes, Failure> {
         let index = self.count_below(position)?;
         let from = self.offset(index).saturating_add(4);
         let Some(size) = self.offset(index.saturating_add(1)).checked_sub(from) else {
@@ -117,7 +117,7 @@ where
     }
 
     /// Adds items behind the end by one write. Where that fails, what it wrote is taken away before the next.
-    pub fn append(
+    pub(crate) fn append(
         &mut self,
         directory: &Directory<R>,
         name: &str,
@@ -162,7 +162,7 @@ where
     }
 
     /// Makes the log outlast a crash, and with it its file's name, or that there is none.
-    pub fn sync(&mut self, directory: &mut Directory<R>) -> Result<(), Failure> {
+    pub(crate) fn sync(&mut self, directory: &mut Directory<R>) -> Result<(), Failure> {
         self.mend()?;
         if let Some(file) = &mut self.file {
             file.sync()?;
@@ -175,7 +175,7 @@ where
     }
 
     /// Takes the items from a position on away.
-    pub fn cut(&mut self, end: u64) -> Result<(), Failure> {
+    pub(crate) fn cut(&mut self, end: u64) -> Result<(), Failure> {
         let count = self.count_below(end)?;
         let length = self.offset(count);
         if let Some(file) = &self.file {
@@ -187,7 +187,7 @@ where
     }
 
     /// Takes the items below a position away: those that stay are copied into a file that takes the place of this one.
-    pub fn prune(
+    pub(crate) fn prune(
         &mut self,
         directory: &mut Directory<R>,
         name: &str,
@@ -222,7 +222,7 @@ where
     }
 
     /// Leaves an empty log at a position, in a file that takes the place of this one.
-    pub fn clear(
+    pub(crate) fn clear(
         &mut self,
         directory: &mut Directory<R>,
         name: &str,
@@ -256,7 +256,11 @@ where
     }
 
     /// Takes the log away, for good.
-    pub fn remove(&mut self, directory: &mut Directory<R>, name: &str) -> Result<(), Failure> {
+    pub(crate) fn remove(
+        &mut self,
+        directory: &mut Directory<R>,
+        name: &str,
+    ) -> Result<(), Failure> {
         directory.remove(name, Kind::Log)?;
         self.file = None;
         self.start = 0;

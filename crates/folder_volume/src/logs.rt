@@ -8,7 +8,7 @@ use std::fs::Files;
 
 /// The logs of a folder that were asked for since it is locked.
 #[derive(Drop)]
-pub struct Logs<R: Files> {
+pub(crate) struct Logs<R: Files> {
     known: BTreeMap<String, LogFile<R>>,
 }
 
@@ -16,14 +16,14 @@ impl<R: Files + Drop> Logs<R>
 where
     R::File: Lock,
 {
-    pub fn new(alloc: Global) -> Self {
+    pub(crate) fn new(alloc: Global) -> Self {
         Logs {
             known: BTreeMap::new(alloc),
         }
     }
 
     /// The log of this name; None where the folder isn't there.
-    pub fn find(
+    pub(crate) fn find(
         &mut self,
         directory: &mut Directory<R>,
         name: &str,
@@ -40,7 +40,7 @@ where
     }
 
     /// The log of this name. The folder is made where it isn't there.
-    pub fn make(
+    pub(crate) fn make(
         &mut self,
         directory: &mut Directory<R>,
         name: &str,

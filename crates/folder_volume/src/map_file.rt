@@ -9,7 +9,10 @@ use std::io::{Read, Write};
 use volume_base::MetaMap;
 
 /// The map of this name; an empty one where there is none.
-pub fn read_map<R: Files + Drop>(directory: &Directory<R>, name: &str) -> Result<MetaMap, Failure>
+pub(crate) fn read_map<R: Files + Drop>(
+    directory: &Directory<R>,
+    name: &str,
+) -> Result<MetaMap, Failure>
 where
     R::File: Lock,
 {
@@ -61,7 +64,7 @@ fn bytes_of(alloc: Global, map: &MetaMap) -> Result<Vec<u8>, Failure> {
 }
 
 /// Puts a map in the place of the one of this name, for good.
-pub fn replace_map<R: Files + Drop>(
+pub(crate) fn replace_map<R: Files + Drop>(
     directory: &mut Directory<R>,
     name: &str,
     map: &MetaMap,

@@ -4,7 +4,7 @@ use std::io::ErrorKind;
 
 /// What is known of the folder's own name.
 #[derive(Clone, Copy, Debug, PartialEq, Eq)]
-pub enum OwnName {
+pub(crate) enum OwnName {
     /// It may not have been synced.
     Unsynced,
     /// It outlasts a crash.
@@ -15,7 +15,7 @@ pub enum OwnName {
 
 impl OwnName {
     /// Refuses a name that may be lost.
-    pub fn check(self) -> Result<(), Failure> {
+    pub(crate) fn check(self) -> Result<(), Failure> {
         if self == OwnName::Lost {
             return Err(Failure::Outside);
         }
@@ -23,7 +23,7 @@ impl OwnName {
     }
 
     /// Syncs a folder that holds a name. One whose file system syncs no folders will do where the name was there before.
-    pub fn sync_above(&mut self, above: &impl OpenFile, made: bool) -> Result<(), Failure> {
+    pub(crate) fn sync_above(&mut self, above: &impl OpenFile, made: bool) -> Result<(), Failure> {
         self.check()?;
         *self = OwnName::Lost;
         match above.sync_all() {

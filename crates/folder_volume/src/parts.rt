@@ -4,7 +4,7 @@ use codec_base::Bytes;
 use std::alloc::Global;
 
 /// Writes a byte string behind what is there. One of 2^32 bytes or more is refused.
-pub fn push_part(out: &mut Vec<u8>, part: &[u8]) -> Result<(), Failure> {
+pub(crate) fn push_part(out: &mut Vec<u8>, part: &[u8]) -> Result<(), Failure> {
     let Ok(size) = u32::try_from(part.len()) else {
         return Err(Failure::Outside);
     };
@@ -14,7 +14,7 @@ pub fn push_part(out: &mut Vec<u8>, part: &[u8]) -> Result<(), Failure> {
 }
 
 /// Takes the byte string in front, and gives what stands behind it. One that isn't whole is refused.
-pub fn take_part(alloc: Global, bytes: &[u8]) -> Result<(Bytes, &[u8]), Failure> {
+pub(crate) fn take_part(alloc: Global, bytes: &[u8]) -> Result<(Bytes, &[u8]), Failure> {
     let Some((prefix, rest)) = bytes.split_first_chunk::<4>() else {
         return Err(Failure::Outside);
     };

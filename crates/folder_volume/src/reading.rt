@@ -8,23 +8,23 @@ use std::fs::OpenFile;
 use std::io::{BufReader, Read, Seek};
 
 /// The bytes that the start of a log takes in its file.
-pub const HEAD: u64 = 8;
+pub(crate) const HEAD: u64 = 8;
 
 /// The bytes that are read at once.
 const BUFFER: usize = 65536;
 
 /// What the file of a log says: its start, and where each whole item ends.
 #[derive(Drop)]
-pub struct Scanned {
+pub(crate) struct Scanned {
     /// None where the file is too short to say it.
-    pub start: Option<u64>,
-    pub ends: Vec<u64>,
+    pub(crate) start: Option<u64>,
+    pub(crate) ends: Vec<u64>,
     /// Whether bytes stand behind the last whole item.
-    pub torn: bool,
+    pub(crate) torn: bool,
 }
 
 /// Reads the file of a log, and gives it back.
-pub fn scan<T: Read + Seek + OpenFile + Drop>(
+pub(crate) fn scan<T: Read + Seek + OpenFile + Drop>(
     alloc: Global,
     file: T,
 ) -> Result<(T, Scanned), Failure> {
