@@ -143,15 +143,15 @@ fn keeps_a_failed_started_sync(rt: HostRuntime) -> Result<(), Fail> {
     Ok(())
 }
 
-/// A volume on which one word is synced, and three more aren't.
+/// A volume on which three words are synced, and two more aren't.
 fn unsynced_words(alloc: Global) -> Result<MemoryVolume, Fail> {
     let mut vol = MemoryVolume::new(alloc);
     let cfg = config(alloc, LengthCfg { max: 9 })?;
     let journal: VariableJournal<Bytes> = open(&mut vol, cfg, None)?;
-    let one = words(alloc, &[b"one"])?;
-    let journal = append_all(journal, &mut vol, &one)?.commit(&mut vol)?;
     let three = words(alloc, &[b"one", b"two", b"three"])?;
-    let _journal = append_all(journal, &mut vol, &three)?;
+    let journal = append_all(journal, &mut vol, &three)?.commit(&mut vol)?;
+    let two = words(alloc, &[b"one", b"two"])?;
+    let _journal = append_all(journal, &mut vol, &two)?;
     Ok(vol)
 }
 
@@ -170,7 +170,7 @@ fn span_after(alloc: Global, vol: &MemoryVolume, end: u64) -> Result<(u64, u64),
 #[test]
 fn an_unsynced_append_leaves_any_front(rt: HostRuntime) -> Result<(), Fail> {
     let vol = unsynced_words(rt.alloc())?;
-    for (end, left) in [(0, 1), (1, 1), (2, 2), (3, 3), (4, 4), (9, 4)] {
+    for (end, left) in [(0, 3), (2, 3), (3, 3), (4, 4), (5, 5), (9, 5)] {
         assert!(rt; span_after(rt.alloc(), &vol, end)? == (0, left));
     }
     Ok(())
@@ -189,19 +189,22 @@ fn synced<J: Backing>(
     journal.sync(vol)
 }
 
-/// How many items a journal is read, by a read of the first and by a replay.
-fn count<J: Contiguous>(vol: &mut MemoryVolume, journal: &J) -> Result<u64, JournalError> {
+/// The items that a replay of a journal gives.
+fn replayed<J: Contiguous>(
+    alloc: Global,
+    vol: &mut MemoryVolume,
+    journal: &J,
+) -> Result<Vec<J::Item>, JournalError> {
     let (start, end) = journal.bounds();
-    let mut count = journal.read_many(vol, &[start])?.len() as u64;
     let mut replay = journal.replay(start, end)?;
+    let mut items = Vec::new(alloc);
     for _ in 0..9 {
         match replay.next(vol) {
             None => break,
-            Some(Err(error)) => return Err(error),
-            Some(Ok(_)) => count = count.saturating_add(1),
+            Some(item) => items.push(item?)?,
         }
     }
-    Ok(count)
+    Ok(items)
 }
 
 /// The end behind the last item that fits, of a log that is being opened and then emptied at its end.
@@ -223,13 +226,25 @@ fn last_fit<J: Backing, P: Fn(&J::Item) -> bool>(
 fn each_call_answers_at_items_of_several_sizes(rt: HostRuntime) -> Result<(), Fail> {
     let alloc = rt.alloc();
     let mut vol = MemoryVolume::new(alloc);
-    let word = Bytes::from_slice(alloc, b"seven")?;
+    let items = words(alloc, &[b"seven", b"two", b"three"])?;
     let cfg = config(alloc, LengthCfg { max: 9 })?;
-    let journal: VariableJournal<Bytes> = synced(&mut vol, cfg, &word)?;
-    assert!(rt; count(&mut vol, &journal)? == 2);
+    let journal: VariableJournal<Bytes> = synced(&mut vol, cfg, &items[0])?;
+    let journal = append_all(journal, &mut vol, &items[1..])?;
+    assert!(rt; journal.read_many(&mut vol, &[3, 4, 5])? == items);
+    assert!(rt; replayed(alloc, &mut vol, &journal)? == items);
     let cfg = config(alloc, LengthCfg { max: 9 })?;
-    let fits = |item: &Bytes| item.len() == 5;
-    assert!(rt; last_fit::<VariableJournal<Bytes>, _>(&mut vol, cfg, fits)? == 4);
+    let fits = |item: &Bytes| item.len() == 3;
+    assert!(rt; last_fit::<VariableJournal<Bytes>, _>(&mut vol, cfg, fits)? == 5);
+    Ok(())
+}
+
+#[test]
+fn reads_items_of_one_size_in_their_order(rt: HostRuntime) -> Result<(), Fail> {
+    let mut vol = MemoryVolume::new(rt.alloc());
+    let journal = numbered(rt.alloc(), &mut vol)?;
+    let items = numbers(rt.alloc(), 5)?;
+    assert!(rt; journal.read_many(&mut vol, &[2, 3, 4])?.as_slice() == &items[2..]);
+    assert!(rt; replayed(rt.alloc(), &mut vol, &journal)?.as_slice() == &items[2..]);
     Ok(())
 }
 
