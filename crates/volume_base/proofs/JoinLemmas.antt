@@ -40,23 +40,24 @@ writes_joins tells first_fault last_fault fault a b c answer last result ab bc s
 -- A call that reads and then writes.
 
 pub changes_of_writes : {T E : Type 0} (tells : Type 0) (fault : E) (a b : State) (result : Result T E) → Writes tells fault a b result → Changes tells fault a b result
-changes_of_writes tells fault a b result w = record { later = w.later; still = w.still; faults = w.faults; failed = w.failed; kept = w.kept; steady = w.steady }
+changes_of_writes tells fault a b result w = record { later = w.later; still = w.still; faults = w.faults; failed = w.failed; kept = w.kept; reads = omega (arith, w.reads); steady = w.steady }
 
 pub changes_of_reads : {T E : Type 0} (tells : Type 0) (fault : E) (a b : State) (result : Result T E) → Reads tells fault a b result → Changes tells fault a b result
-changes_of_reads tells fault a b result r = record { later = omega (arith, r.clock); still = λ told same. r.contents told; faults = r.faults; failed = r.failed; kept = r.kept; steady = r.steady }
+changes_of_reads tells fault a b result r = record { later = omega (arith, r.clock); still = λ told same. r.contents told; faults = r.faults; failed = r.failed; kept = r.kept; reads = r.reads; steady = r.steady }
 
 -- Calls that each answered Ok.
 pub record Went (tells : Type 0) (old new : State) : Type 0 where
   pub later : old.clock ≤ new.clock
   pub still : tells → new.clock ≡ old.clock → SameContents old new
   pub faults : new.faults ≡ old.faults
+  pub reads : old.reads ≤ new.reads
   pub steady : old.steady → StaysSteady old new
 
 pub went_none : (tells : Type 0) (s : State) → Went tells s s
-went_none tells s = record { later = omega arith; still = λ told same. record { logs = λ name. refl; maps = λ name. refl }; faults = refl; steady = λ steady. record { steady = steady; faults = refl } }
+went_none tells s = record { later = omega arith; still = λ told same. record { logs = λ name. refl; maps = λ name. refl }; faults = refl; reads = omega arith; steady = λ steady. record { steady = steady; faults = refl } }
 
 pub went_of : {T E : Type 0} (tells : Type 0) (fault : E) (a b : State) (answer : T) → Changes tells fault a b (Ok answer) → Went tells a b
-went_of tells fault a b answer c = record { later = c.later; still = c.still; faults = c.kept; steady = c.steady }
+went_of tells fault a b answer c = record { later = c.later; still = c.still; faults = c.kept; reads = c.reads; steady = c.steady }
 
 pub went_of_writes : {T E : Type 0} (tells : Type 0) (fault : E) (a b : State) (answer : T) → Writes tells fault a b (Ok answer) → Went tells a b
 went_of_writes tells fault a b answer w = went_of tells fault a b answer (changes_of_writes tells fault a b (Ok answer) w)
@@ -69,6 +70,7 @@ went_joins tells a b c ab bc = record {
   later = omega (arith, ab.later, bc.later);
   still = λ told same. same_joins a b c (ab.still told (omega (arith, ab.later, bc.later, same))) (bc.still told (omega (arith, ab.later, bc.later, same)));
   faults = bc.faults ∙ ab.faults;
+  reads = omega (arith, ab.reads, bc.reads);
   steady = λ steady. let one = ab.steady steady in let two = bc.steady one.steady in record { steady = two.steady; faults = two.faults ∙ one.faults };
 }
 
@@ -81,5 +83,6 @@ changes_joins tells last_fault fault a b c last result ab bc same kept = record 
   faults = omega (arith, ab.faults, bc.faults);
   failed = λ is. subst (λ before. Rose before c.faults) ab.faults (bc.failed (same is));
   kept = on_ok result (c.faults ≡ b.faults) (c.faults ≡ a.faults) (λ is. is ∙ ab.faults) kept;
+  reads = omega (arith, ab.reads, bc.reads);
   steady = λ steady. let one = ab.steady steady in let two = bc.steady one.steady in record { steady = two.steady; faults = two.faults ∙ one.faults };
 }

@@ -1,5 +1,5 @@
 -- Runs of calls that only read.
-use Rattle.std.proofs.Common.{◌≡◌, Ok, Err, ◌∙◌, refl, subst, arith}
+use Rattle.std.proofs.Common.{◌≡◌, ◌≤◌, Ok, Err, ◌∙◌, refl, subst, arith}
 use Rattle.std.specs.Prelude.{Result, IsErrOf, OnOk}
 use Rattle.codec_base.specs.Causes.{Rose}
 use Rattle.volume_base.specs.Volume.{State, PastStays, SameContents, StaysSteady, Reads}
@@ -12,6 +12,7 @@ pub record OnlyRead (tells : Type 0) (old new : State) : Type 0 where
   pub past : tells → PastStays old new
   pub contents : tells → SameContents old new
   pub faults : new.faults ≡ old.faults
+  pub reads : old.reads ≤ new.reads
   pub steady : old.steady → StaysSteady old new
 
 pub only_read_none : (tells : Type 0) (s : State) → OnlyRead tells s s
@@ -20,6 +21,7 @@ only_read_none tells s = record {
   past = λ told. past_same s;
   contents = λ told. record { logs = λ name. refl; maps = λ name. refl };
   faults = refl;
+  reads = omega arith;
   steady = λ steady. record { steady = steady; faults = refl };
 }
 
@@ -30,6 +32,7 @@ only_read_joins tells fault a b c answer ab bc = record {
   past = λ told. past_joins a b c (ab.past told) (bc.past told);
   contents = λ told. same_joins a b c (ab.contents told) (bc.contents told);
   faults = bc.kept ∙ ab.faults;
+  reads = omega (arith, ab.reads, bc.reads);
   steady = λ steady. let one = ab.steady steady in let two = bc.steady one.steady in record { steady = two.steady; faults = two.faults ∙ one.faults };
 }
 
@@ -46,6 +49,7 @@ reads_joins tells fault a b c r s ab bc same kept = record {
   faults = omega (arith, ab.faults, bc.faults);
   failed = λ is. subst (λ before. Rose before c.faults) ab.faults (bc.failed (same is));
   kept = on_ok s (c.faults ≡ b.faults) (c.faults ≡ a.faults) (λ is. is ∙ ab.faults) kept;
+  reads = omega (arith, ab.reads, bc.reads);
   steady = λ steady. let one = ab.steady steady in let two = bc.steady one.steady in record { steady = two.steady; faults = two.faults ∙ one.faults };
 }
 
@@ -58,5 +62,6 @@ reads_of tells fault a b r ab never = record {
   faults = omega (arith, ab.faults);
   failed = λ is. absurd (never is);
   kept = on_each_ok r (b.faults ≡ a.faults) ab.faults;
+  reads = ab.reads;
   steady = ab.steady;
 }

@@ -114,13 +114,14 @@ pub record Writes {T E : Type 0} (tells : Type 0) (fault : E) (old new : State) 
   pub kept : OnOk result (new.faults ≡ old.faults)
   pub steady : old.steady → StaysSteady old new
 
--- What a call says that writes and may read, whatever it answers: as `Writes`, but for the count of reads.
+-- What a call says that writes and may read, whatever it answers: as `Writes`, but the count of reads may rise.
 pub record Changes {T E : Type 0} (tells : Type 0) (fault : E) (old new : State) (result : Result T E) : Type 0 where
   pub later : old.clock ≤ new.clock
   pub still : tells → new.clock ≡ old.clock → SameContents old new
   pub faults : old.faults ≤ new.faults
   pub failed : IsErrOf result fault → Rose old.faults new.faults
   pub kept : OnOk result (new.faults ≡ old.faults)
+  pub reads : old.reads ≤ new.reads
   pub steady : old.steady → StaysSteady old new
 
 -- What a call that writes one log, or one map, says of that and of all the rest, whatever it answers.
@@ -143,7 +144,7 @@ pub record WriteAnswers {T : Type 0} (tells : Type 0) (old new : State) (result 
   pub not_out_of_range : (p : ℕ) → IsErrOf result (ItemOutOfRange p) → ⊥
 
 -- A call that only reads leaves contents, clock and images, whatever it answers. This fault has its cause in the count,
--- and a call that succeeds counts no fault.
+-- a call that succeeds counts no fault, and the count of reads never falls.
 pub record Reads {T E : Type 0} (tells : Type 0) (fault : E) (old new : State) (result : Result T E) : Type 0 where
   pub clock : new.clock ≡ old.clock
   pub past : tells → PastStays old new
@@ -151,4 +152,5 @@ pub record Reads {T E : Type 0} (tells : Type 0) (fault : E) (old new : State) (
   pub faults : old.faults ≤ new.faults
   pub failed : IsErrOf result fault → Rose old.faults new.faults
   pub kept : OnOk result (new.faults ≡ old.faults)
+  pub reads : old.reads ≤ new.reads
   pub steady : old.steady → StaysSteady old new
