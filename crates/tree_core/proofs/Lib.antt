@@ -10,6 +10,7 @@ pub mod FoldLemmas
 pub mod TreeLemmas
 pub mod MarkLemmas
 pub mod ApplyLemmas
+pub mod ChainLemmas
 pub mod PinnedLemmas
 pub mod BuiltLemmas
 pub mod PinningLemmas

@@ -5,7 +5,7 @@ use Rattle.tree_shape.specs.Shape.{Shape, made, peaks_down}
 use Rattle.tree_store.specs.declared.error.Error.{Error}
 use Rattle.tree_store.specs.declared.error.Error.TheVariants.{StaleBatch, AncestorDropped, Memory}
 use Rattle.tree_core.specs.Pruned.{peaks_at}
-use Rattle.tree_core.specs.Links.{HasMark}
+use Rattle.tree_core.specs.Links.{HasMark, StandsBehind}
 use Rattle.tree_core.specs.Tree.{Tree, node_at}
 use Rattle.tree_core.specs.Batches.{Sealed}
 
@@ -16,6 +16,10 @@ IsMarkOf s t n ps = (n ≡ t.leaves) × (map Some ps ≡ map (λ c. node_at t (s
 -- segment i has the tree's mark before it
 abbrev pub FitsTree : {D : Type 0} → Shape → Tree D → Sealed D → ℕ → Type 0
 FitsTree s t b i = IsSomeAnd (slice_get b.links i) (λ g. IsMarkOf s t g.leaves g.peaks)
+
+-- the mark behind the batch is the tree's
+abbrev pub EndsAtTree : {D : Type 0} → Shape → Sealed D → Tree D → Type 0
+EndsAtTree s b t = (ps : List _) → StandsBehind s b.links b.leaves ps → IsMarkOf s t b.leaves ps
 
 -- where no mark fits: the batch's chain began at the tree's mark, and both sizes are told; or it didn't
 abbrev pub RefusedByTree : {F D : Type 0} → Shape → Tree D → Sealed D → Error F → Type 0

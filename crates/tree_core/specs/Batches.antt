@@ -3,7 +3,7 @@ use Rattle.std.specs.Prelude.{◌≡◌, ℕ, ◌+◌, ◌-◌, ◌^◌, ◌<◌
 use Rattle.tree_shape.specs.Hashing.{Hashing}
 use Rattle.tree_shape.specs.Shape.{Shape, made}
 use Rattle.tree_core.specs.Pruned.{made_from, peaks_at}
-use Rattle.tree_core.specs.Links.{ChainSegment, IsLinked, IsBatchOf, first_leaves, joined_nodes}
+use Rattle.tree_core.specs.Links.{ChainSegment, IsLinked, AreChained, StandsBehind, IsBatchOf, first_leaves, joined_nodes}
 
 -- a sealed batch: the mark on which its chain began, the segments that are kept, its own the last, and its leaves
 pub record Sealed (D : Type 0) : Type 0 where
@@ -32,10 +32,13 @@ pub record IsSoundSealed {D : Type 0} (s : Shape) (b : Sealed D) : Type 0 where
   pub few : b.leaves ≤ 2 ^ 62
   pub some : 0 < length b.links
   pub linked : IsLinked s b.first b.links b.leaves
+  pub chained : AreChained s b.links
 
 pub record IsSoundUnsealed {D : Type 0} (s : Shape) (b : Unsealed D) : Type 0 where
   pub few : b.base + length b.digests ≤ 2 ^ 62
   pub linked : IsLinked s b.first b.links b.base
+  pub chained : AreChained s b.links
+  pub marked : StandsBehind s b.links b.base b.base_peaks
 
 -- a sealed batch of this list of leaf digests
 abbrev pub IsSealedOf : {D : Type 0} → Shape → Hashing D → List D → Sealed D → Type 0

@@ -1,10 +1,8 @@
 -- Segments of a chain of batches, each with the mark before it.
-use Rattle.std.specs.Prelude.{◌≡◌, ℕ, ◌+◌, ◌≤◌, List, [], ◌∷◌, ◌++◌, length, slice_get, IsSomeAnd}
-use Rattle.std.specs.Coded.{×_prop}
-use Rattle.std.proofs.Props.{props}
+use Rattle.std.specs.Prelude.{◌≡◌, ℕ, ◌+◌, ◌≤◌, List, [], ◌∷◌, ◌++◌, length, map, Some, slice_get, IsSomeAnd}
 use Rattle.tree_shape.specs.Hashing.{Hashing}
-use Rattle.tree_shape.specs.Shape.{Shape}
-use Rattle.tree_core.specs.Pruned.{made_from, peaks_at, nodes_from}
+use Rattle.tree_shape.specs.Shape.{Shape, peaks_down}
+use Rattle.tree_core.specs.Pruned.{made_from, peaks_at, nodes_from, held_at}
 
 -- a segment: the mark before it, the number of its leaves, its nodes
 pub record ChainSegment (D : Type 0) : Type 0 where
@@ -23,14 +21,30 @@ abbrev pub IsLinked : {D : Type 0} → Shape → ℕ → List (ChainSegment D) �
 IsLinked s n [] m = n ≡ m
 IsLinked s n (g ∷ gs) m = IsNext s n g × IsLinked s (n + g.later) gs m
 
-pub IsLinked-prop : {D : Type 0} (s : Shape) (n : ℕ) (gs : List (ChainSegment D)) (m : ℕ) → IsProp (IsLinked s n gs m)
-IsLinked-prop s n [] m = Prim.hlevel props
-IsLinked-prop s n (g ∷ gs) m = ×_prop (Prim.hlevel props) (IsLinked-prop s (n + g.later) gs m)
-
 -- and are those of this list
 abbrev pub IsLinkedOf : {D : Type 0} → Shape → Hashing D → List D → ℕ → List (ChainSegment D) → Type 0
 IsLinkedOf s h all n [] = n ≡ length all
 IsLinkedOf s h all n (g ∷ gs) = (g.leaves ≡ n) × (g.peaks ≡ peaks_at s h all n) × (g.nodes ≡ nodes_from s h all n g.later) × IsLinkedOf s h all (n + g.later) gs
+
+-- the mark behind a segment: so many leaves, and the digests of their peaks, the newest first, each of its nodes or of the mark before it
+abbrev pub IsMarkBehind : {D : Type 0} → Shape → ChainSegment D → ℕ → List D → Type 0
+IsMarkBehind s g n ps = (n ≡ g.leaves + g.later) × (map Some ps ≡ map (λ c. held_at s g.leaves g.peaks g.nodes c.0 c.1) (peaks_down n (s.heights n)))
+
+-- behind the last of these segments stands this mark
+abbrev pub StandsBehind : {D : Type 0} → Shape → List (ChainSegment D) → ℕ → List D → Type 0
+StandsBehind s [] n ps = Unit {0}
+StandsBehind s (g ∷ []) n ps = IsMarkBehind s g n ps
+StandsBehind s (g ∷ f ∷ gs) n ps = StandsBehind s (f ∷ gs) n ps
+
+-- the first of these segments has the mark behind g before it
+abbrev pub GoesOn : {D : Type 0} → Shape → ChainSegment D → List (ChainSegment D) → Type 0
+GoesOn s g [] = Unit {0}
+GoesOn s g (f ∷ gs) = IsMarkBehind s g f.leaves f.peaks
+
+-- each of these segments has the mark behind the one before it
+abbrev pub AreChained : {D : Type 0} → Shape → List (ChainSegment D) → Type 0
+AreChained s [] = Unit {0}
+AreChained s (g ∷ gs) = GoesOn s g gs × AreChained s gs
 
 -- their nodes, one after another
 abbrev pub joined_nodes : {D : Type 0} → List (ChainSegment D) → List D

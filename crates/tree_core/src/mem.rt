@@ -59,8 +59,8 @@ impl<F: Family, D: Digest> Mem<F, D> {
     ghost use Rattle.tree_core.specs.Pruned.{made_from, nodes_from, peaks_at, Extends};
     ghost use Rattle.tree_core.specs.Reading.{ArePeaks, OnlyRefusedBy};
     ghost use Rattle.tree_core.specs.Tree.{Tree, node_at, IsSound, IsOf, IsPrunedTo, IsGrown, IsBuilt, NotBuilt, IsPinned, IsRested, empty_tree, prune_answer};
-    ghost use Rattle.tree_core.specs.Batches.{BeginsAt, StandsAt, IsUnsealedOf, IsSealedOf};
-    ghost use Rattle.tree_core.specs.Applied.{IsLonger, IsMarkOf, FitsTree, RefusedByTree, Fits, Refused};
+    ghost use Rattle.tree_core.specs.Batches.{BeginsAt, StandsAt, IsUnsealedOf, IsSealedOf, sealed_node};
+    ghost use Rattle.tree_core.specs.Applied.{IsLonger, IsMarkOf, EndsAtTree, FitsTree, RefusedByTree, Fits, Refused};
     ghost use Rattle.tree_proof.specs.Cover.{meets};
     ghost use Rattle.tree_verification.specs.Ranges.{range_answer, leaf_answer, Proves};
 
@@ -304,6 +304,7 @@ impl<F: Family, D: Digest> Mem<F, D> {
     pub fn to_batch(&self) -> Result<MerkleizedBatch<F, D>, Error<F>>
         ensures stands { IfOk result (λ b. StandsAt self.now.leaves b) }
         ensures marked { IfOk result (λ b. IsMarkOf F.shape self.now b.began b.peaks × FitsTree F.shape self.now b 0) }
+        ensures behind { IfOk result (λ b. EndsAtTree F.shape b self.now) }
         ensures batch { IfOk result (λ b. (h : Hashing D) (all : List D) → IsOf F.shape h all self.now → IsSealedOf F.shape h all b) }
         ensures memory { IsOkUnless result Error.Memory }
     {
@@ -335,6 +336,8 @@ impl<F: Family, D: Digest> Mem<F, D> {
     /// Appends what the batch has behind the mark of this tree. Refuses as `place_of`.
     pub fn apply_batch(&mut self, batch: &MerkleizedBatch<F, D>) -> Result<(), Error<F>>
         ensures longer { OnOk result (IsLonger F.shape batch.now.leaves self.old self.new) }
+        ensures since { OnOk result ((p : ℕ) → length (made F.shape self.old.leaves) ≤ p → node_at self.new p ≡ sealed_node F.shape batch.now p) }
+        ensures behind { OnOk result (EndsAtTree F.shape batch.now self.new) }
         ensures marked { OnOk result ((i : ℕ) × FitsTree F.shape self.old batch.now i) }
         ensures answer { IfErr result (RefusedByTree F.shape self.old batch.now) }
         ensures fits { OnOk result ((h : Hashing D) (all : List D) → IsOf F.shape h all self.old → (i : ℕ) × Fits F.shape h all self.old.leaves batch.now i) }

@@ -37,7 +37,7 @@ impl<F: Family, D: Digest> MerkleizedBatch<F, D> {
     ghost use Rattle.tree_shape.specs.Shape.{made};
     ghost use Rattle.tree_shape.specs.Root.{root};
     ghost use Rattle.tree_shape.specs.Slow.{nodes};
-    ghost use Rattle.tree_core.specs.Links.{ChainSegment, IsLinked, HasMark, joined_nodes};
+    ghost use Rattle.tree_core.specs.Links.{ChainSegment, IsLinked, StandsBehind, HasMark, joined_nodes};
     ghost use Rattle.tree_core.specs.Batches.{Sealed, IsSoundSealed, IsSealedOf, IsUnsealedOf, IsChildOf, sealed_node};
     ghost use Rattle.tree_core.specs.Applied.{WhyNot};
     ghost use Rattle.tree_core.specs.Tree.{IsOf};
@@ -177,6 +177,7 @@ impl<F: Family, D: Digest> MerkleizedBatch<F, D> {
     /// A child, with this batch's segments and its own.
     pub fn new_batch(&self) -> Result<UnmerkleizedBatch<F, D>, Error<F>>
         ensures child { IfOk result (λ b. IsChildOf self.now b) }
+        ensures behind { IfOk result (λ b. StandsBehind F.shape self.now.links b.base b.base_peaks) }
         ensures batch { IfOk result (λ b. (h : Hashing D) (all : List D) → IsSealedOf F.shape h all self.now → IsUnsealedOf F.shape h all b) }
         ensures memory { IsOkUnless result Error.Memory }
     {

@@ -3,7 +3,7 @@ ghost use Rattle.std.specs.Prelude.{◌≡◌, ℕ, ◌+◌, ◌-◌, ◌≤◌,
 ghost use Rattle.tree_shape.specs.Hashing.{Hashing};
 ghost use Rattle.tree_shape.specs.Root.{root};
 ghost use Rattle.tree_core.specs.Pruned.{made_from, nodes_from, peaks_at, held_at};
-ghost use Rattle.tree_core.specs.Links.{ChainSegment, first_leaves, HasMark, joined_nodes};
+ghost use Rattle.tree_core.specs.Links.{ChainSegment, IsMarkBehind, first_leaves, HasMark, joined_nodes};
 ghost use Rattle.tree_core.specs.Batches.{IsSoundSegment};
 
 use crate::growth::mark_of;
@@ -86,6 +86,7 @@ impl<F: Family, D: Digest> Segment<F, D> {
     /// The mark behind it.
     pub(crate) fn mark_behind(&self, alloc: Global) -> Result<Mark<F, D>, AllocError>
         ensures leaves { IfOk result (λ m. m.leaves ≡ self.now.leaves + self.now.later) }
+        ensures mark { IfOk result (λ m. IsMarkBehind F.shape self.now m.leaves m.peaks.items) }
         ensures peaks { IfOk result (λ m. (h : Hashing D) (all : List D) → self.now.peaks ≡ peaks_at F.shape h all self.now.leaves →
             self.now.nodes ≡ nodes_from F.shape h all self.now.leaves self.now.later → m.peaks.items ≡ peaks_at F.shape h all (self.now.leaves + self.now.later)) }
     {

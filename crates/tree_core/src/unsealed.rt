@@ -33,7 +33,7 @@ impl<F: Family, D: Digest> Model for UnmerkleizedBatch<F, D> {
 impl<F: Family, D: Digest> UnmerkleizedBatch<F, D> {
     ghost use Rattle.std.specs.Prelude.{◌≡◌, ℕ, ◌+◌, ◌-◌, ◌≤◌, ◌<◌, ◌^◌, List, [], ◌∷◌, ◌++◌, length, map, IfOk, OnOk, OnErr, IsOkUnless};
     ghost use Rattle.tree_shape.specs.Slow.{leaf};
-    ghost use Rattle.tree_core.specs.Links.{ChainSegment, IsLinked};
+    ghost use Rattle.tree_core.specs.Links.{ChainSegment, IsLinked, AreChained, StandsBehind};
     ghost use Rattle.tree_core.specs.Batches.{Unsealed, IsUnsealedOf, IsSealedOf, IsSealedFrom, leaf_count, with_digests};
 
     /// An empty batch that stands on a mark, behind these segments.
@@ -44,7 +44,9 @@ impl<F: Family, D: Digest> UnmerkleizedBatch<F, D> {
         first: u64,
         base: Mark<F, D>,
     ) -> Self
-        requires { IsLinked F.shape first (map {B = ChainSegment D} (λ g. g.value) segments.items) base.leaves }
+        requires linked { IsLinked F.shape first (map {B = ChainSegment D} (λ g. g.value) segments.items) base.leaves }
+        requires chained { AreChained F.shape (map {B = ChainSegment D} (λ g. g.value) segments.items) }
+        requires marked { StandsBehind F.shape (map {B = ChainSegment D} (λ g. g.value) segments.items) base.leaves base.peaks.items }
         ensures { result ≡ record { began = boundary.value.leaves; peaks = boundary.value.peaks.items; first = first; links = map (λ g. g.value) segments.items; base = base.leaves; base_peaks = base.peaks.items; digests = [] } }
     {
         UnmerkleizedBatch {

@@ -4,6 +4,8 @@
 #[cfg(test)]
 mod batches;
 #[cfg(test)]
+mod chains;
+#[cfg(test)]
 mod example;
 #[cfg(test)]
 mod lists;

@@ -3,6 +3,7 @@ use Rattle.tree_core.specs.Pruned.{made_from, peaks_at}
 use Rattle.tree_core.specs.Tree.{Tree, IsGrown}
 use Rattle.tree_core.proofs.LinkLemmas.{mark_within}
 use Rattle.tree_core.proofs.ApplyLemmas.{fits_mark, fitting, longer, applied}
+use Rattle.tree_core.proofs.ChainLemmas.{since_batch, behind_batch}
 use Rattle.tree_core.proofs.mem.Mem.apply_batch.Goals as goal
 
 pub overflow_sub-later : goal.overflow_sub-later
@@ -60,3 +61,15 @@ returns-in_ok-append_nodes-in-Ok-clause-tree g c h all made tree sealed =
     let grown = subst (λ (j : ℕ). IsGrown s j c.deref.result.now t c.append_nodes.new.self) (sym later) c.in_ok-append_nodes-in-Ok.ensures.ok in
     applied s h all made t c.append_nodes.new.self b c.in-Ok.place t.leaves (peaks_at s h all t.leaves) c.deref.result.now g.met.F.Family.lawful g.met.F.Family.keeps
     refl refl c.leaves.ensures.sound ((c.in-Ok.ensures {u = tt}).fits h all tree) (c.deref.ensures.value ∙ c.in_ok-nodes-in-Ok.ensures) grown tree sealed
+
+pub returns-in_ok-append_nodes-in-Ok-clause-since : goal.returns-in_ok-append_nodes-in-Ok-clause-since
+returns-in_ok-append_nodes-in-Ok-clause-since g c =
+    let s = g.F.Family.shape in
+    let t = c.args.self.now in
+    let mark = fits_mark s t c.args.batch.now c.in-Ok.place (c.in-Ok.ensures {u = tt}).place in
+    since_batch s t c.append_nodes.new.self c.args.batch.now c.in-Ok.place _ mark.0 c.deref.result.now c.leaves.ensures.sound mark.1 (c.deref.ensures.value ∙ c.in_ok-nodes-in-Ok.ensures) c.in_ok-append_nodes-in-Ok.ensures.ok
+
+pub returns-in_ok-append_nodes-in-Ok-clause-behind : goal.returns-in_ok-append_nodes-in-Ok-clause-behind
+returns-in_ok-append_nodes-in-Ok-clause-behind g c =
+    behind_batch g.F.Family.shape c.args.self.now c.append_nodes.new.self c.args.batch.now c.in-Ok.place _ c.deref.result.now g.met.F.Family.lawful g.met.F.Family.keeps c.leaves.ensures.sound (c.in-Ok.ensures {u = tt}).place
+    (c.deref.ensures.value ∙ c.in_ok-nodes-in-Ok.ensures) c.in_ok-append_nodes-in-Ok.ensures.ok (returns-in_ok-append_nodes-in-Ok-clause-longer g c).leaves

@@ -2,6 +2,7 @@ use Rattle.std.proofs.Common.{sym, ◌∙◌, ap, subst}
 use Rattle.tree_core.specs.Pruned.{peaks_at}
 use Rattle.tree_core.specs.Batches.{Sealed, Unsealed, IsSealedOf, IsUnsealedOf}
 use Rattle.tree_core.proofs.LinkLemmas.{link_of, batch_like}
+use Rattle.tree_core.proofs.ChainLemmas.{behind_last}
 use Rattle.tree_core.proofs.sealed.MerkleizedBatch.new_batch.Goals as goal
 
 pub returns-clause-batch : goal.returns-clause-batch

@@ -4,6 +4,7 @@ use Rattle.tree_core.specs.Pruned.{made_from, nodes_from, peaks_at, Continues}
 use Rattle.tree_core.specs.Links.{ChainSegment}
 use Rattle.tree_core.specs.Batches.{Sealed, Unsealed, IsUnsealedOf, IsSealedOf}
 use Rattle.tree_core.proofs.LinkLemmas.{linked_push_map, batch_push_map, continues, ends_with, peaks_longer, linked_drop_at, batch_drop}
+use Rattle.tree_core.proofs.ChainLemmas.{chained_seal}
 use Rattle.tree_core.proofs.unsealed.UnmerkleizedBatch.merkleize.Goals as goal
 
 pub seal-requires : goal.seal-requires
@@ -20,6 +21,8 @@ seal-requires g c =
         linked = linked_push_map s _ c.first_of-first.result c.self.inside.base.leaves c.len-later.result c.in_ok-kept.kept.items c.push_own.new.segments.items c.in_ok-own.own c.in_ok-push_own.ensures kept
             (ap (λ (l : ChainSegment g.row.D.Denot). l.leaves) own) (ap (λ (l : ChainSegment g.row.D.Denot). l.later) own)
             (ap (λ (l : ChainSegment g.row.D.Denot). length l.nodes) own ∙ c.in_ok-nodes.ensures.counted ∙ ap (λ n. length (made_from s c.self.inside.base.leaves n)) (ap length c.deref-3.ensures.value ∙ sym c.self.inside.digests.ok.0 ∙ sym c.len-later.ensures));
+        chained = chained_seal s _ c.self.inside.segments.items c.in_ok-kept.kept.items c.push_own.new.segments.items (c.len.result - c.args.reached) c.self.inside.base.leaves c.self.inside.base.peaks.items c.in_ok-own.own
+            c.self.invariant.chained c.self.invariant.marked (rw c.deref-2.ensures.value at c.in_ok-kept.ensures) c.in_ok-push_own.ensures (ap (λ (l : ChainSegment g.row.D.Denot). l.leaves) own) (ap (λ (l : ChainSegment g.row.D.Denot). l.peaks) own);
       };
     }
 
