@@ -1,14 +1,14 @@
 -- Marks along a chain, on a tree of which no list is told.
 use Rattle.std.proofs.Common.{◌≡◌, inl, inr, ℕ, zero, suc, ◌+◌, ◌-◌, ◌^◌, ◌<◌, ◌≤◌, List, [], ◌∷◌, ◌++◌, length, map, drop, Some, Option, refl, sym, ◌∙◌, ap, subst, arith, length-drop}
-use Rattle.std.specs.Prelude.{◌==◌, ◌&&◌, slice_get, IsSomeAnd, nat_le}
+use Rattle.std.specs.Prelude.{slice_get, IsSomeAnd}
 use Rattle.std.proofs.lemmas.Bool.Decides.{eqb_tells, leb_tells}
 use Rattle.std.proofs.lemmas.List.{map-append}
 use Rattle.std.proofs.lemmas.Option.{slice_get_within, same_Some}
 use Rattle.tree_shape.specs.Shape.{Shape, made, peaks_down, Stands, IsLawful}
-use Rattle.tree_shape.specs.Kept.{PeakIn, PeakOf, IsPeakOrLater, KeepsPeaks}
-use Rattle.tree_shape.proofs.NeededLemmas.{leaf_position, made_le, at_hand_back}
+use Rattle.tree_shape.specs.Kept.{PeakIn, PeakOf, KeepsPeaks}
+use Rattle.tree_shape.proofs.NeededLemmas.{leaf_position, at_hand_back}
 use Rattle.tree_core.specs.Pruned.{made_from, peak_found, held_at}
-use Rattle.tree_core.specs.Links.{ChainSegment, IsLinked, HasMark, joined_nodes, IsMarkBehind, StandsBehind, GoesOn, AreChained}
+use Rattle.tree_core.specs.Links.{ChainSegment, IsNext, IsLinked, HasMark, joined_nodes, IsMarkBehind, StandsBehind, AreChained}
 use Rattle.tree_core.specs.Tree.{Tree, node_at, IsGrown}
 use Rattle.tree_shape.specs.Places.{get-behind}
 use Rattle.tree_store.specs.declared.error.Error.{Error}
@@ -16,7 +16,7 @@ use Rattle.tree_store.specs.declared.error.Error.TheVariants.{StaleBatch, Ancest
 use Rattle.tree_core.specs.Batches.{Sealed, Unsealed, IsSoundSealed, IsSealedFrom, sealed_node}
 use Rattle.tree_core.specs.Applied.{IsMarkOf, EndsAtTree, FitsTree, RefusedByTree}
 use Rattle.tree_core.proofs.Later.{get_past, get_front, length-split}
-use Rattle.tree_core.proofs.LinkLemmas.{linked_from, get_map}
+use Rattle.tree_core.proofs.LinkLemmas.{linked_from}
 use Rattle.tree_core.proofs.PrunedLemmas.{peak_stands}
 use Rattle.tree_core.proofs.ApplyLemmas.{fits_mark}
 
@@ -74,24 +74,27 @@ behind_told s f g n ps w q counted before nodes mark =
           ])
         ]
 
+-- the same where the segment is the first of some, whose nodes f tells
+front_told : {D : Type 0} (s : Shape) (f : ℕ → Option D) (n : ℕ) (g : ChainSegment D) (gs : List (ChainSegment D)) (o : ℕ) (qs : List D) → IsLawful s → KeepsPeaks s → IsNext s n g
+    → map (λ (d : D). Some d) g.peaks ≡ peaks_told s f n → ((i : ℕ) → f (length (made s n) + i) ≡ slice_get (joined_nodes (g ∷ gs)) i) → IsMarkBehind s g o qs → map (λ (d : D). Some d) qs ≡ peaks_told s f o
+front_told s f n g gs o qs w q next before nodes mark =
+    behind_told s f g o qs w q (next.counted ∙ ap (λ b. length (made_from s b g.later)) (sym next.starts)) (before ∙ ap (peaks_told s f) (sym next.starts))
+    (λ i lt. ap (λ b. f (length (made s b) + i)) next.starts ∙ nodes i ∙ get_front g.nodes (joined_nodes gs) i lt) mark
+
 -- so along a chain: the mark behind the last segment
 pub chain_told : {D : Type 0} (s : Shape) (f : ℕ → Option D) (n : ℕ) (g : ChainSegment D) (gs : List (ChainSegment D)) (m l : ℕ) (ps : List D) → IsLawful s → KeepsPeaks s → IsLinked s n (g ∷ gs) m → AreChained s (g ∷ gs)
     → map (λ (d : D). Some d) g.peaks ≡ peaks_told s f n → ((i : ℕ) → f (length (made s n) + i) ≡ slice_get (joined_nodes (g ∷ gs)) i) → StandsBehind s (g ∷ gs) l ps
     → map (λ (d : D). Some d) ps ≡ peaks_told s f l
-chain_told {D = D} s f n g gs m l ps w q linked chained before nodes behind = rest gs linked.1 chained nodes behind
-  where
-    counted : length g.nodes ≡ length (made_from s g.leaves g.later)
-    counted = linked.0.counted ∙ ap (λ b. length (made_from s b g.later)) (sym linked.0.starts)
-
-    next : (fs : List (ChainSegment D)) → ((i : ℕ) → f (length (made s n) + i) ≡ slice_get (joined_nodes (g ∷ fs)) i) → (o : ℕ) (qs : List D) → IsMarkBehind s g o qs → map (λ (d : D). Some d) qs ≡ peaks_told s f o
-    next fs held o qs mark = behind_told s f g o qs w q counted (before ∙ ap (peaks_told s f) (sym linked.0.starts))
-        (λ i lt. ap (λ b. f (length (made s b) + i)) linked.0.starts ∙ held i ∙ get_front g.nodes (joined_nodes fs) i lt) mark
-
-    rest : (fs : List (ChainSegment D)) → IsLinked s (n + g.later) fs m → AreChained s (g ∷ fs) → ((i : ℕ) → f (length (made s n) + i) ≡ slice_get (joined_nodes (g ∷ fs)) i) → StandsBehind s (g ∷ fs) l ps → map (λ (d : D). Some d) ps ≡ peaks_told s f l
-    rest [] link chain held end = next [] held l ps end
-    rest (h ∷ fs) link chain held end =
-        chain_told s f (n + g.later) h fs m l ps w q link chain.1 (next (h ∷ fs) held h.leaves h.peaks chain.0 ∙ ap (peaks_told s f) link.0.starts)
-        (λ i. let e : length (made s (n + g.later)) + i ≡ length (made s n) + (length g.nodes + i) = omega (arith, length-split s n g.later, linked.0.counted) in ap f e ∙ held (length g.nodes + i) ∙ get_past g.nodes (joined_nodes (h ∷ fs)) i) end
+chain_told s f n g [] m l ps w q linked chained before nodes behind = front_told s f n g [] l ps w q linked.0 before nodes behind
+chain_told s f n g (h ∷ gs) m l ps w q linked chained before nodes behind =
+    let next = front_told s f n g (h ∷ gs) h.leaves h.peaks w q linked.0 before nodes chained.0 in
+    let split = length-split s n g.later in
+    let counted = linked.0.counted in
+    chain_told s f (n + g.later) h gs m l ps w q linked.1 chained.1 (next ∙ ap (peaks_told s f) linked.1.0.starts)
+    (λ i.
+    let e : length (made s (n + g.later)) + i ≡ length (made s n) + (length g.nodes + i) = omega (arith, split, counted) in
+    ap f e ∙ nodes (length g.nodes + i) ∙ get_past g.nodes (joined_nodes (h ∷ gs)) i)
+    behind
 
 pub chained_drop : {D : Type 0} (s : Shape) (gs : List (ChainSegment D)) (i : ℕ) → AreChained s gs → AreChained s (drop i gs)
 chained_drop s [] zero c = tt
@@ -138,10 +141,12 @@ joined_from s n (g ∷ gs) m zero c ps l k =
 joined_from s n (g ∷ gs) m (suc i) c ps l k =
     let r = joined_from s (n + g.later) gs m i c ps l.1 k in
     let split = length-split s n g.later in
-    let counted = l.0.counted in
-    (omega (arith, r.0, split), λ p le.
-      let e : p - length (made s n) ≡ length g.nodes + (p - length (made s (n + g.later))) = omega (arith, le, r.0, split, counted) in
-      ap (slice_get (g.nodes ++ joined_nodes gs)) e ∙ get_past g.nodes (joined_nodes gs) (p - length (made s (n + g.later))) ∙ r.1 p le)
+    let counted = l.0.counted in (
+      omega (arith, r.0, split),
+      λ p le.
+          let e : p - length (made s n) ≡ length g.nodes + (p - length (made s (n + g.later))) = omega (arith, le, r.0, split, counted) in
+          ap (slice_get (g.nodes ++ joined_nodes gs)) e ∙ get_past g.nodes (joined_nodes gs) (p - length (made s (n + g.later))) ∙ r.1 p le,
+    )
 
 -- behind a tree's nodes stand the batch's, from the segment on that has the tree's mark before it
 pub since_batch : {D : Type 0} (s : Shape) (t u : Tree D) (b : Sealed D) (i j : ℕ) (ps more : List D) → IsSoundSealed s b → HasMark b.links i t.leaves ps → more ≡ joined_nodes (drop i b.links) → IsGrown s j more t u
@@ -170,7 +175,7 @@ peaks_grown : {D : Type 0} (s : Shape) (t u : Tree D) (j : ℕ) (more : List D) 
 peaks_grown s t u j more w grown =
     same_at_peaks (λ x k. node_at t (s.position x k)) (λ x k. node_at u (s.position x k)) t.leaves (s.heights t.leaves)
     (λ x k peak. sym (grown.nodes.before (s.position x k)
-      (slice_get_within (made s t.leaves) (s.position x k) (x, k) (peak_stands s (made s t.leaves) t.leaves (s.heights t.leaves) x k (w.peaks t.leaves) peak))))
+    (slice_get_within (made s t.leaves) (s.position x k) (x, k) (peak_stands s (made s t.leaves) t.leaves (s.heights t.leaves) x k (w.peaks t.leaves) peak))))
 
 chain_from : {D : Type 0} (s : Shape) (t u : Tree D) (j n l : ℕ) (gs : List (ChainSegment D)) (ps : List D) → IsLawful s → KeepsPeaks s → IsGrown s j (joined_nodes gs) t u → begins_at s t gs → IsLinked s t.leaves gs n → AreChained s gs
     → StandsBehind s gs l ps → map (λ (d : D). Some d) ps ≡ peaks_told s (node_at u) l

@@ -65,7 +65,12 @@ fn append_two<F: Family, H: Hasher>(
 
 /// A batch of one leaf on an imported belt.
 fn parent(alloc: Global, peaks: [u8; 2]) -> Result<Batch, Error<Mmb>> {
-    sealed(imported(alloc, peaks)?.new_batch()?, &hasher(), digest(3), 0)
+    sealed(
+        imported(alloc, peaks)?.new_batch()?,
+        &hasher(),
+        digest(3),
+        0,
+    )
 }
 
 /// Its child of one leaf, with or without its parent's nodes.

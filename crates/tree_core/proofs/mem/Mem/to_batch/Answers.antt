@@ -1,5 +1,7 @@
 use Rattle.std.proofs.Common.{◌≡◌, length, sym, ◌∙◌, ap, subst}
-use Rattle.tree_core.specs.Pruned.{peaks_at}
+use Rattle.tree_core.specs.Pruned.{made_from, peaks_at}
+use Rattle.tree_core.specs.Applied.{IsMarkOf}
+use Rattle.tree_core.proofs.ChainLemmas.{behind_empty}
 use Rattle.tree_core.specs.Links.{ChainSegment}
 use Rattle.tree_core.specs.Tree.{Tree}
 use Rattle.tree_core.specs.Batches.{Sealed, IsSealedOf}
@@ -19,3 +21,17 @@ returns-clause-batch g c h all of =
     (ap (λ (l : ChainSegment g.row.D.Denot). l.peaks) own ∙ c.in_ok-mark.ensures.peaks h all of ∙ ap (peaks_at s h all) (sym n))
     (ap (λ (l : ChainSegment g.row.D.Denot). l.later) own) (ap (λ (l : ChainSegment g.row.D.Denot). l.nodes) own ∙ c.new-nodes.ensures.items) (n ∙ of.count) (c.in_ok-copied.ensures.leaves ∙ c.in_ok-mark.ensures.leaves ∙ sym n)
     (c.in_ok-copied.ensures.peaks ∙ c.in_ok-mark.ensures.peaks h all of ∙ ap (peaks_at s h all) (sym n)))))
+
+pub returns-clause-behind : goal.returns-clause-behind
+returns-clause-behind g c =
+    let s = g.F.Family.shape in
+    let t = c.args.self.now in
+    let n : c.self.inside.leaves ≡ t.leaves = ap (λ (u : Tree g.row.D.Denot). u.leaves) c.self.view_is in
+    let own = c.in_ok-own.ensures.ok ∙ c.new-2.ensures in
+    let nodes = ap (λ (l : ChainSegment g.row.D.Denot). l.nodes) own ∙ c.new-nodes.ensures.items in
+    let later = ap (λ (l : ChainSegment g.row.D.Denot). l.later) own in
+    let one = ap (λ (b : Sealed g.row.D.Denot). b.links) c.seal.ensures ∙ one_link _ c.push_own.new.segments.items c.new-segments.result.items c.in_ok-own.own c.in_ok-push_own.ensures c.new-segments.ensures.items in
+    behind_empty s t c.seal.result c.in_ok-own.own.value g.met.F.Family.lawful g.met.F.Family.keeps one nodes
+    (ap length nodes ∙ none_made s c.in_ok-own.own.value.leaves ∙ ap (λ j. length (made_from s c.in_ok-own.own.value.leaves j)) (sym later))
+    (ap (λ (b : Sealed g.row.D.Denot). b.leaves) c.seal.ensures ∙ n)
+    (subst (λ (l : ChainSegment g.row.D.Denot). IsMarkOf s t l.leaves l.peaks) (sym own) c.in_ok-mark.ensures.mark)

@@ -1,4 +1,5 @@
-use Rattle.std.proofs.Common.{sym, ◌∙◌, ap, subst}
+use Rattle.std.proofs.Common.{◌-◌, List, length, sym, ◌∙◌, ap, subst, arith}
+use Rattle.tree_core.specs.Links.{ChainSegment, StandsBehind}
 use Rattle.tree_core.specs.Pruned.{peaks_at}
 use Rattle.tree_core.specs.Batches.{Sealed, Unsealed, IsSealedOf, IsUnsealedOf}
 use Rattle.tree_core.proofs.LinkLemmas.{link_of, batch_like}
@@ -14,3 +15,12 @@ returns-clause-batch g c h all of =
       batch = rw c.in_ok-boundary.ensures.cases (batch_like s h all _ _ c.self.inside.first _ _ (rw c.deref.ensures.value at c.in_ok-segments.ensures) inside);
       base = c.in_ok-base.ensures.peaks h all own.peaks own.nodes ∙ ap (peaks_at s h all) (sym c.in_ok-base.ensures.leaves);
     })
+
+pub begin-requires-clause-marked : goal.begin-requires-clause-marked
+begin-requires-clause-marked g c =
+    let s = g.F.Family.shape in
+    let b = c.args.self.now in
+    let some = c.own.ensures.sound.some in
+    let links = (rw c.deref.ensures.value at c.in_ok-segments.ensures) ∙ ap (λ (z : Sealed g.row.D.Denot). z.links) c.self.view_is in
+    subst (λ (gs : List (ChainSegment g.row.D.Denot)). StandsBehind s gs c.in_ok-base.base.leaves c.in_ok-base.base.peaks.items) (sym links)
+    (behind_last s b.links (length b.links - 1) c.in_ok-base.base.leaves c.own.result.now c.in_ok-base.base.peaks.items c.own.ensures.last (omega (arith, some)) c.in_ok-base.ensures.mark)
