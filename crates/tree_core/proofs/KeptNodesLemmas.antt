@@ -10,6 +10,7 @@ use Rattle.std.proofs.lemmas.Option.{slice_get_past, slice_get_within, slice_get
 use Rattle.tree_core.specs.Pruned.{Extends}
 use Rattle.tree_core.specs.KeptNodes.{entry_at, placed, AreBefore, ArePinsThenRun}
 use Rattle.tree_verification.proofs.KeyLemmas.{key_apart, key_itself}
+use Rattle.tree_proof.proofs.RebuildLemmas.{append_nil}
 use Rattle.tree_core.proofs.Later.{get_past}
 use Rattle.tree_core.proofs.MemLemmas.{take-next}
 
@@ -80,6 +81,15 @@ placed-next ds first i d g =
 pub pushed : {D : Type 0} (old es fs : List (ℕ × D)) (ds : List D) (first i : ℕ) (d : D) → es ≡ old ++ placed first (take i ds) → i < length ds → d ≡ get_or ds i d → fs ≡ es ++ ((first + i, d) ∷ []) → fs ≡ old ++ placed first (take (suc i) ds)
 pushed old es fs ds first i d so lt is e =
     e ∙ ap (λ xs. xs ++ ((first + i, d) ∷ [])) so ∙ append_assoc old (placed first (take i ds)) ((first + i, d) ∷ []) ∙ ap (λ xs. old ++ xs) (sym (placed-next ds first i d (slice_get-get_or ds i d lt ∙ ap Some (sym is))))
+
+-- more of them behind these, of which the others follow
+pub placed_on : {D : Type 0} (es fs all : List (ℕ × D)) (next : ℕ) (ds rest both : List D) → es ++ placed next both ≡ all → both ≡ ds ++ rest → fs ≡ es ++ placed next ds → fs ++ placed (next + length ds) rest ≡ all
+placed_on es fs all next ds rest both told parts e =
+    ap (λ xs. xs ++ placed (next + length ds) rest) e ∙ append_assoc es (placed next ds) (placed (next + length ds) rest)
+    ∙ ap (λ xs. es ++ xs) (sym (ap (placed next) parts ∙ placed-append ds rest next)) ∙ told
+
+pub placed_last : {D : Type 0} (es all : List (ℕ × D)) (next : ℕ) (rest : List D) → es ++ placed next rest ≡ all → rest ≡ [] → es ≡ all
+placed_last es all next rest told none = sym (append_nil es) ∙ ap (λ ds. es ++ placed next ds) (sym none) ∙ told
 
 -- ---- the first entries, in turn
 

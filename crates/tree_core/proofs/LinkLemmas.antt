@@ -13,6 +13,7 @@ use Rattle.tree_shape.specs.Hashing.{Hashing}
 use Rattle.tree_shape.specs.Shape.{Shape, made, PeaksStand, IsLawful}
 use Rattle.tree_shape.specs.Kept.{KeepsPeaks}
 use Rattle.tree_shape.specs.Slow.{leaf_at, node_of, peak_digests}
+use Rattle.tree_proof.proofs.RebuildLemmas.{append_nil}
 use Rattle.tree_core.proofs.MemLemmas.{take-next, node-append, map-nodes-append}
 use Rattle.tree_core.specs.Pruned.{made_from, nodes_from, peaks_at, Extends, Continues}
 use Rattle.tree_store.specs.Stores.{IsTreeOf}
@@ -106,18 +107,11 @@ bytes_same xs ys e = (slice_eq-Decides Decides-eqb xs ys (pointwise nat_eq xs ys
 pub mark_within_map : {D X : Type 0} (f : X → ChainSegment D) (xs : List X) (i n : ℕ) (ps : List D) → HasMark (map f xs) i n ps → i < length xs
 mark_within_map f xs i n ps k = let w = mark_within (map f xs) i n ps k in let l = length-map xs f in omega (arith, w, l)
 
-append_nil : {X : Type 0} (xs : List X) → xs ++ [] ≡ xs
-append_nil [] = refl
-append_nil (x ∷ xs) = ap (λ ys. x ∷ ys) (append_nil xs)
-
-pub joined_end : {D X : Type 0} (f : X → ChainSegment D) (xs : List X) (i : ℕ) (ys zs : List D) → length xs ≤ i → ys ++ joined_nodes (drop i (map f xs)) ≡ zs → ys ≡ zs
-joined_end {D = D} f xs i ys zs le e = sym (append_nil ys) ∙ ap (λ ns. ys ++ ns) (sym (past (map f xs) i (let l = length-map xs f in omega (arith, le, l)))) ∙ e
-  where
-    past : (gs : List (ChainSegment D)) (j : ℕ) → length gs ≤ j → joined_nodes (drop j gs) ≡ []
-    past [] zero le = refl
-    past [] (suc j) le = refl
-    past (g ∷ gs) zero le = absurd (omega arith)
-    past (g ∷ gs) (suc j) le = past gs j (omega arith)
+pub joined_past : {D X : Type 0} (f : X → ChainSegment D) (xs : List X) (i : ℕ) → length xs ≤ i → joined_nodes (drop i (map f xs)) ≡ []
+joined_past f [] zero le = refl
+joined_past f [] (suc i) le = refl
+joined_past f (x ∷ xs) zero le = absurd (omega arith)
+joined_past f (x ∷ xs) (suc i) le = joined_past f xs i (omega arith)
 
 pub ends_with : {D : Type 0} (s : Shape) (h : Hashing D) (all : List D) (n : ℕ) (gs : List (ChainSegment D)) (m : ℕ) → IsLinked s n gs m → IsLinkedOf s h all n gs → m ≡ length all
 ends_with s h all n [] m l k = sym l ∙ k
@@ -212,9 +206,6 @@ link_of s h all n (f ∷ gs) (suc i) g l e = link_of s h all (n + f.later) gs i 
 pub get_map : {D X : Type 0} (f : X → ChainSegment D) (xs : List X) (i : ℕ) (x : X) → slice_get xs i ≡ Some x → slice_get (map f xs) i ≡ Some (f x)
 get_map f xs i x e = slice_get-map f xs i ∙ ap (option_map f) e
 
-pub share_step : {D X : Type 0} (f : X → ChainSegment D) (xs ys : List X) (i : ℕ) (x y : X) → map f ys ≡ take i (map f xs) → slice_get xs i ≡ Some x → f y ≡ f x → map f (ys ++ (y ∷ [])) ≡ take (suc i) (map f xs)
-share_step f xs ys i x y e ex q = map-append f ys (y ∷ []) ∙ ap (λ gs. gs ++ (f y ∷ [])) e ∙ ap (λ g. take i (map f xs) ++ (g ∷ [])) q ∙ sym (take-next (map f xs) i (f x) (get_map f xs i x ex))
-
 pub last_link_map : {D X : Type 0} (s : Shape) (f : X → ChainSegment D) (n : ℕ) (xs : List X) (m i : ℕ) (x : X) → IsLinked s n (map f xs) m → slice_get xs i ≡ Some x → suc i ≡ length xs → IsLast s m (f x)
 last_link_map s f n xs m i x l e q = last_link s n (map f xs) m i (f x) l (get_map f xs i x e) (q ∙ sym (length-map xs f))
 
@@ -260,9 +251,9 @@ first_past f [] (suc i) m le = refl
 first_past f (y ∷ xs) zero m le = absurd (omega arith)
 first_past f (y ∷ xs) (suc i) m le = first_past f xs i m (omega arith)
 
-pub share_next : {D X : Type 0} (f : X → ChainSegment D) (xs ys : List X) (i place : ℕ) (x y : X) → map f ys ++ drop i (map f xs) ≡ drop place (map f xs) → slice_get xs i ≡ Some x → f y ≡ f x
-    → map f (ys ++ (y ∷ [])) ++ drop (suc i) (map f xs) ≡ drop place (map f xs)
-share_next {D = D} {X = X} f xs ys i place x y e ex q =
+pub share_next : {D X : Type 0} (f : X → ChainSegment D) (xs ys : List X) (i : ℕ) (zs : List (ChainSegment D)) (x y : X) → map f ys ++ drop i (map f xs) ≡ zs → slice_get xs i ≡ Some x → f y ≡ f x
+    → map f (ys ++ (y ∷ [])) ++ drop (suc i) (map f xs) ≡ zs
+share_next {D = D} {X = X} f xs ys i all x y e ex q =
     ap (λ gs. gs ++ drop (suc i) (map f xs)) (map-append f ys (y ∷ [])) ∙ append_assoc (map f ys) (f y ∷ []) (drop (suc i) (map f xs))
     ∙ ap (λ g. map f ys ++ (g ∷ drop (suc i) (map f xs))) q ∙ ap (λ gs. map f ys ++ gs) (sym (step xs i ex)) ∙ e
   where

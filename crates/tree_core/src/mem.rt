@@ -59,7 +59,8 @@ impl<F: Family, D: Digest> Mem<F, D> {
     ghost use Rattle.tree_core.specs.Pruned.{made_from, nodes_from, peaks_at, Extends};
     ghost use Rattle.tree_core.specs.Reading.{ArePeaks, OnlyRefusedBy};
     ghost use Rattle.tree_core.specs.Tree.{Tree, node_at, IsSound, IsOf, IsPrunedTo, IsGrown, IsBuilt, NotBuilt, IsPinned, IsRested, empty_tree, prune_answer};
-    ghost use Rattle.tree_core.specs.Batches.{BeginsAt, StandsAt, IsUnsealedOf, IsSealedOf, sealed_node};
+    ghost use Rattle.tree_core.specs.Links.{joined_nodes};
+    ghost use Rattle.tree_core.specs.Batches.{BeginsAt, StandsAt, IsSoundSealed, IsUnsealedOf, IsSealedOf, sealed_node};
     ghost use Rattle.tree_core.specs.Applied.{IsLonger, IsMarkOf, EndsAtTree, FitsTree, RefusedByTree, Fits, Refused};
     ghost use Rattle.tree_proof.specs.Cover.{meets};
     ghost use Rattle.tree_verification.specs.Ranges.{range_answer, leaf_answer, Proves};
@@ -274,16 +275,16 @@ impl<F: Family, D: Digest> Mem<F, D> {
         Ok(mark)
     }
 
-    /// Adds the nodes that later leaves make, all or none.
-    fn append_nodes(&mut self, more: &[D], later: u64) -> Result<(), AllocError>
-        requires few { self.old.leaves + later ≤ 2 ^ 62 }
-        requires counted { length more.now ≡ length (made_from F.shape self.old.leaves later) }
-        ensures ok { OnOk result (IsGrown F.shape later more.now self.old self.new) }
+    /// Adds what the batch has from a kept segment on, whose mark has the tree's leaves: all or nothing.
+    fn append_from(&mut self, batch: &MerkleizedBatch<F, D>, place: usize) -> Result<(), AllocError>
+        requires { FitsTree F.shape self.old batch.now place }
+        ensures ok { OnOk result (IsGrown F.shape (batch.now.leaves - self.old.leaves) (joined_nodes (drop place batch.now.links)) self.old self.new) }
+        ensures sound { IsSoundSealed F.shape batch.now }
         ensures err { OnErr result (self.new ≡ self.old) }
     {
-        let size = F::size(self.leaves);
-        push_all(&mut self.nodes, size, more)?;
-        self.leaves += later;
+        let leaves = batch.leaves().as_u64();
+        batch.push_nodes(&mut self.nodes, F::size(self.leaves), place)?;
+        self.leaves = leaves;
         Ok(())
     }
 
@@ -347,9 +348,7 @@ impl<F: Family, D: Digest> Mem<F, D> {
     {
         match self.place_of(batch) {
             Ok(place) => {
-                let later = batch.leaves().as_u64() - self.leaves;
-                let nodes = batch.nodes_from_place(self.alloc, place as usize)?;
-                self.append_nodes(&nodes, later)?;
+                self.append_from(batch, place as usize)?;
                 Ok(())
             }
             Err(error) => Err(error),

@@ -1,6 +1,6 @@
 use crate::mark::Mark;
 use crate::overlay::Overlay;
-use crate::segment::{Segment, node_in, nodes_from_place, place_of, share_from};
+use crate::segment::{Segment, node_in, place_of, push_nodes, share_all};
 use crate::{Error, Mem, UnmerkleizedBatch};
 use std::alloc::{AllocError, Global};
 use std::marker::Model;
@@ -32,7 +32,7 @@ impl<F: Family, D: Digest> Model for MerkleizedBatch<F, D> {
 }
 
 impl<F: Family, D: Digest> MerkleizedBatch<F, D> {
-    ghost use Rattle.std.specs.Prelude.{◌≡◌, ℕ, ◌+◌, ◌-◌, ◌≤◌, ◌<◌, ◌^◌, List, [], length, map, drop, slice_get, Some, None, IfOk, IfSome, IsOk, IsOkUnless, IsSome};
+    ghost use Rattle.std.specs.Prelude.{◌≡◌, ℕ, ◌+◌, ◌-◌, ◌≤◌, ◌<◌, ◌^◌, List, [], length, map, drop, ◌++◌, slice_get, Some, None, OnOk, OnErr, IfOk, IfSome, IsOk, IsOkUnless, IsSome};
     ghost use Rattle.tree_shape.specs.Hashing.{Hashing};
     ghost use Rattle.tree_shape.specs.Shape.{made};
     ghost use Rattle.tree_shape.specs.Root.{root};
@@ -40,6 +40,7 @@ impl<F: Family, D: Digest> MerkleizedBatch<F, D> {
     ghost use Rattle.tree_core.specs.Links.{ChainSegment, IsLinked, StandsBehind, HasMark, joined_nodes};
     ghost use Rattle.tree_core.specs.Batches.{Sealed, IsSoundSealed, IsSealedOf, IsUnsealedOf, IsChildOf, sealed_node};
     ghost use Rattle.tree_core.specs.Applied.{WhyNot};
+    ghost use Rattle.tree_core.specs.KeptNodes.{placed};
     ghost use Rattle.tree_core.specs.Tree.{IsOf};
     ghost use Rattle.tree_core.specs.Overlay.{overlaid, AreAlike};
     ghost use Rattle.tree_core.specs.Reading.{OnlyRefusedBy};
@@ -183,7 +184,7 @@ impl<F: Family, D: Digest> MerkleizedBatch<F, D> {
     {
         let base = self.own().mark_behind(self.alloc)?;
         let boundary = self.boundary.clone()?;
-        let segments = share_from(self.alloc, &self.segments, 0)?;
+        let segments = share_all(self.alloc, &self.segments)?;
         Ok(UnmerkleizedBatch::begin(self.alloc, boundary, segments, self.first, base))
     }
 
@@ -196,12 +197,19 @@ impl<F: Family, D: Digest> MerkleizedBatch<F, D> {
         place_of(&self.segments, mark)
     }
 
-    /// The nodes of the segments from this one on, which has a mark before it.
-    pub(crate) fn nodes_from_place(&self, alloc: Global, place: usize) -> Result<Vec<D>, AllocError>
-        requires { place ≤ length self.now.links }
-        ensures { IfOk result (λ v. v.items ≡ joined_nodes (drop place self.now.links)) }
+    /// Puts its nodes from a kept segment on behind others, the first at this position, or none.
+    pub(crate) fn push_nodes(
+        &self,
+        nodes: &mut Vec<(u64, D)>,
+        first: u64,
+        place: usize,
+    ) -> Result<(), AllocError>
+        requires within { place ≤ length self.now.links }
+        requires few { first + length (joined_nodes (drop place self.now.links)) < 2 ^ 64 }
+        ensures ok { OnOk result (nodes.new.items ≡ nodes.old.items ++ placed first (joined_nodes (drop place self.now.links))) }
+        ensures err { OnErr result (nodes.new.items ≡ nodes.old.items) }
     {
-        nodes_from_place(alloc, &self.segments, place)
+        push_nodes(nodes, first, &self.segments, place)
     }
 
     /// Why a tree with this mark, which stands before no kept segment, can't take the batch.

@@ -1,12 +1,14 @@
 //! What one batch of a chain added.
-ghost use Rattle.std.specs.Prelude.{◌≡◌, ℕ, ◌+◌, ◌-◌, ◌≤◌, ◌<◌, ◌^◌, ◌↔◌, List, [], ◌∷◌, ◌++◌, length, map, drop, slice_get, OnOk, IfOk, IfSome, IsTrue, Some, None};
+ghost use Rattle.std.specs.Prelude.{◌≡◌, ℕ, ◌+◌, ◌-◌, ◌≤◌, ◌<◌, ◌^◌, ◌↔◌, List, [], ◌∷◌, ◌++◌, length, map, drop, slice_get, OnOk, OnErr, IfOk, IfSome, IsTrue, Some, None};
 ghost use Rattle.tree_shape.specs.Hashing.{Hashing};
 ghost use Rattle.tree_shape.specs.Root.{root};
 ghost use Rattle.tree_core.specs.Pruned.{made_from, nodes_from, peaks_at, held_at};
 ghost use Rattle.tree_core.specs.Links.{ChainSegment, IsMarkBehind, first_leaves, HasMark, joined_nodes};
 ghost use Rattle.tree_core.specs.Batches.{IsSoundSegment};
+ghost use Rattle.tree_core.specs.KeptNodes.{placed};
 
 use crate::growth::mark_of;
+use crate::kept_nodes::push_all;
 use crate::mark::Mark;
 use crate::peaks::{Peaks, root_from};
 use std::alloc::{AllocError, Global};
@@ -112,20 +114,31 @@ pub(crate) fn place_of<F: Family, D: Digest>(
     None
 }
 
-/// The nodes of the segments from this one on.
-pub(crate) fn nodes_from_place<F: Family, D: Digest>(
-    alloc: Global,
+/// Puts the nodes of the segments from this one on behind others, the first at this position, or none.
+pub(crate) fn push_nodes<F: Family, D: Digest>(
+    nodes: &mut Vec<(u64, D)>,
+    first: u64,
     segments: &[Rc<Segment<F, D>>],
     place: usize,
-) -> Result<Vec<D>, AllocError>
-    requires { place ≤ length segments.now }
-    ensures { IfOk result (λ v. v.items ≡ joined_nodes (drop place (map (λ g. g.value) segments.now))) }
+) -> Result<(), AllocError>
+    requires within { place ≤ length segments.now }
+    requires few { first + length (joined_nodes (drop place (map (λ g. g.value) segments.now))) < 2 ^ 64 }
+    ensures ok { OnOk result (nodes.new.items ≡ nodes.old.items ++ placed first (joined_nodes (drop place (map (λ g. g.value) segments.now)))) }
+    ensures err { OnErr result (nodes.new.items ≡ nodes.old.items) }
 {
-    let mut nodes = Vec::new(alloc);
+    let before = nodes.len();
+    let mut next = first;
     for i in place..segments.len() {
-        nodes.extend_from_slice(segments[i].nodes())?;
+        let more = segments[i].nodes();
+        match push_all(nodes, next, more) {
+            Ok(()) => next += more.len() as u64,
+            Err(_) => {
+                nodes.truncate(before);
+                return Err(AllocError);
+            }
+        }
     }
-    Ok(nodes)
+    Ok(())
 }
 
 /// The leaves before the segments from this one on, the last of which ends at `end`.
@@ -143,17 +156,25 @@ pub(crate) fn first_of<F: Family, D: Digest>(
     }
 }
 
-/// Handles to the segments from this one on.
-pub(crate) fn share_from<F: Family, D: Digest>(
+/// Keeps the segments from this one on, and lets go of those before it.
+pub(crate) fn keep_from<F: Family, D: Digest>(segments: &mut Vec<Rc<Segment<F, D>>>, place: usize)
+    requires { place ≤ length segments.old.items }
+    ensures { map {B = ChainSegment D} (λ g. g.value) segments.new.items ≡ drop place (map (λ g. g.value) segments.old.items) }
+{
+    let kept = segments.len() - place;
+    segments.rotate_left(place);
+    segments.truncate(kept);
+}
+
+/// Another handle to each of these segments.
+pub(crate) fn share_all<F: Family, D: Digest>(
     alloc: Global,
     segments: &[Rc<Segment<F, D>>],
-    place: usize,
 ) -> Result<Vec<Rc<Segment<F, D>>>, AllocError>
-    requires { place ≤ length segments.now }
-    ensures { IfOk result (λ v. map {B = ChainSegment D} (λ g. g.value) v.items ≡ drop place (map (λ g. g.value) segments.now)) }
+    ensures { IfOk result (λ v. map {B = ChainSegment D} (λ g. g.value) v.items ≡ map (λ g. g.value) segments.now) }
 {
     let mut shared = Vec::new(alloc);
-    for i in place..segments.len() {
+    for i in 0..segments.len() {
         shared.push(segments[i].clone()?)?;
     }
     Ok(shared)

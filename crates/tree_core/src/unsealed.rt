@@ -1,6 +1,6 @@
 use crate::growth::nodes_after;
 use crate::mark::Mark;
-use crate::segment::{Segment, first_of, push_own, share_from};
+use crate::segment::{Segment, first_of, keep_from, push_own};
 use crate::{Error, MerkleizedBatch};
 use std::alloc::Global;
 use std::marker::Model;
@@ -117,20 +117,20 @@ impl<F: Family, D: Digest> UnmerkleizedBatch<F, D> {
         let UnmerkleizedBatch {
             alloc,
             boundary,
-            segments,
+            mut segments,
             first: _,
             base,
             digests,
         } = self;
         let place = segments.len() - reached as usize;
         let first = first_of(&segments, place, base.leaves);
-        let mut kept = share_from(alloc, &segments, place)?;
+        keep_from(&mut segments, place);
         let nodes = nodes_after::<F, H>(alloc, &base, &digests, hasher)?;
         let later = digests.len() as u64;
         let leaves = base.leaves + later;
         let own = Rc::new(alloc, Segment::new(base, later, nodes))?;
-        push_own(&mut kept, own)?;
-        Ok(MerkleizedBatch::seal(alloc, boundary, kept, first, leaves))
+        push_own(&mut segments, own)?;
+        Ok(MerkleizedBatch::seal(alloc, boundary, segments, first, leaves))
     }
 
     /// Adds a leaf.

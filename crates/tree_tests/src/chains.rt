@@ -58,9 +58,10 @@ fn append_two<F: Family, H: Hasher>(
     let mut child = parent.new_batch()?;
     child.add_leaf_digest(second)?;
     let child = child.merkleize(hasher, 0)?;
-    tree.apply_batch(&parent)?;
-    tree.apply_batch(&child)?;
-    Ok(())
+    match tree.apply_batch(&parent) {
+        Ok(()) => tree.apply_batch(&child),
+        Err(error) => Err(error),
+    }
 }
 
 /// A batch of one leaf on an imported belt.

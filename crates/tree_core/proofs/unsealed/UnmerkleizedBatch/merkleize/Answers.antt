@@ -12,17 +12,17 @@ seal-requires g c =
     let s = g.F.Family.shape in
     let own = c.in_ok-own.ensures.ok ∙ c.new.ensures in
     let few = c.self.invariant.few in
-    let kept = linked_drop_at s c.self.inside.first _ _ c.self.inside.base.leaves (c.len.result - c.args.reached) c.first_of-first.result (rw c.deref-2.ensures.value at c.in_ok-kept.ensures) (rw c.deref.ensures.value at c.first_of-first.ensures) c.self.invariant.linked in
-    let longer = ap length c.in_ok-push_own.ensures ∙ length-append c.in_ok-kept.kept.items _ in
+    let kept = linked_drop_at s c.self.inside.first _ _ c.self.inside.base.leaves (c.len.result - c.args.reached) c.first_of-first.result c.keep_from.ensures (rw c.deref.ensures.value at c.first_of-first.ensures) c.self.invariant.linked in
+    let longer = ap length c.in_ok-push_own.ensures ∙ length-append c.keep_from.new.segments.items _ in
     record {
       sound = record {
         few = omega (arith, few, c.len-later.ensures, c.self.inside.digests.ok.0);
         some = (let l = length-map c.push_own.new.segments.items (λ r. r.value) in omega (arith, l, longer));
-        linked = linked_push_map s _ c.first_of-first.result c.self.inside.base.leaves c.len-later.result c.in_ok-kept.kept.items c.push_own.new.segments.items c.in_ok-own.own c.in_ok-push_own.ensures kept
+        linked = linked_push_map s _ c.first_of-first.result c.self.inside.base.leaves c.len-later.result c.keep_from.new.segments.items c.push_own.new.segments.items c.in_ok-own.own c.in_ok-push_own.ensures kept
             (ap (λ (l : ChainSegment g.row.D.Denot). l.leaves) own) (ap (λ (l : ChainSegment g.row.D.Denot). l.later) own)
-            (ap (λ (l : ChainSegment g.row.D.Denot). length l.nodes) own ∙ c.in_ok-nodes.ensures.counted ∙ ap (λ n. length (made_from s c.self.inside.base.leaves n)) (ap length c.deref-3.ensures.value ∙ sym c.self.inside.digests.ok.0 ∙ sym c.len-later.ensures));
-        chained = chained_seal s _ c.self.inside.segments.items c.in_ok-kept.kept.items c.push_own.new.segments.items (c.len.result - c.args.reached) c.self.inside.base.leaves c.self.inside.base.peaks.items c.in_ok-own.own
-            c.self.invariant.chained c.self.invariant.marked (rw c.deref-2.ensures.value at c.in_ok-kept.ensures) c.in_ok-push_own.ensures (ap (λ (l : ChainSegment g.row.D.Denot). l.leaves) own) (ap (λ (l : ChainSegment g.row.D.Denot). l.peaks) own);
+            (ap (λ (l : ChainSegment g.row.D.Denot). length l.nodes) own ∙ c.in_ok-nodes.ensures.counted ∙ ap (λ n. length (made_from s c.self.inside.base.leaves n)) (ap length c.deref-2.ensures.value ∙ sym c.self.inside.digests.ok.0 ∙ sym c.len-later.ensures));
+        chained = chained_seal s _ c.self.inside.segments.items c.keep_from.new.segments.items c.push_own.new.segments.items (c.len.result - c.args.reached) c.self.inside.base.leaves c.self.inside.base.peaks.items c.in_ok-own.own
+            c.self.invariant.chained c.self.invariant.marked c.keep_from.ensures c.in_ok-push_own.ensures (ap (λ (l : ChainSegment g.row.D.Denot). l.leaves) own) (ap (λ (l : ChainSegment g.row.D.Denot). l.peaks) own);
       };
     }
 
@@ -35,12 +35,12 @@ returns-clause-batch g c all un =
     let inside = subst (λ (b : Unsealed g.row.D.Denot). IsUnsealedOf s h all b) (sym c.self.view_is) un in
     let end : c.self.inside.base.leaves ≡ length all = ends_with s h all c.self.inside.first _ c.self.inside.base.leaves c.self.invariant.linked inside.batch.linked in
     let kept = batch_drop s h all c.self.inside.boundary.value.leaves c.self.inside.boundary.value.peaks.items c.self.inside.first c.self.inside.base.leaves (c.len.result - c.args.reached) _ _ c.first_of-first.result end
-    (rw c.deref-2.ensures.value at c.in_ok-kept.ensures) (rw c.deref.ensures.value at c.first_of-first.ensures) inside.batch in
+    c.keep_from.ensures (rw c.deref.ensures.value at c.first_of-first.ensures) inside.batch in
     let before : c.self.inside.base.peaks.items ≡ peaks_at s h (all ++ c.self.inside.digests.items) c.self.inside.base.leaves = inside.base ∙ peaks_longer s h all more c.self.inside.base.leaves g.met.F.Family.lawful (omega (arith, end)) in
     let goes : Continues (all ++ c.self.inside.digests.items) c.self.inside.base.leaves c.self.inside.digests.items = rw end (continues all more) in
     let nodes : c.in_ok-nodes.nodes.items ≡ nodes_from s h (all ++ c.self.inside.digests.items) c.self.inside.base.leaves (length c.self.inside.digests.items) =
-    (rw c.deref-3.ensures.value at c.in_ok-nodes.ensures.nodes) (all ++ more) before goes in
-    let sealed = batch_push_map s h all more _ c.self.inside.boundary.value.leaves c.self.inside.boundary.value.peaks.items c.first_of-first.result c.in_ok-kept.kept.items c.push_own.new.segments.items c.in_ok-own.own
+    (rw c.deref-2.ensures.value at c.in_ok-nodes.ensures.nodes) (all ++ more) before goes in
+    let sealed = batch_push_map s h all more _ c.self.inside.boundary.value.leaves c.self.inside.boundary.value.peaks.items c.first_of-first.result c.keep_from.new.segments.items c.push_own.new.segments.items c.in_ok-own.own
     g.met.F.Family.lawful c.in_ok-push_own.ensures kept (ap (λ (l : ChainSegment g.row.D.Denot). l.leaves) own ∙ end) (ap (λ (l : ChainSegment g.row.D.Denot). l.peaks) own ∙ inside.base ∙ ap (peaks_at s h all) end)
     (ap (λ (l : ChainSegment g.row.D.Denot). l.later) own ∙ c.len-later.ensures ∙ c.self.inside.digests.ok.0)
     (ap (λ (l : ChainSegment g.row.D.Denot). l.nodes) own ∙ nodes ∙ ap (λ b. nodes_from s h (all ++ c.self.inside.digests.items) b (length c.self.inside.digests.items)) end) in
