@@ -4,3 +4,4 @@ pub mod ReachLemmas
 pub mod PoolLemmas
 pub mod ReachedLemmas
 pub mod StateLemmas
+pub mod PlaceLemmas

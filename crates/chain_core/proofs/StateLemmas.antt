@@ -7,6 +7,7 @@ use Rattle.std.specs.Option.{option_map}
 use Rattle.std.proofs.Math.Seq.{take-length}
 use Rattle.std.proofs.lemmas.List.{length-append, take-append-le}
 use Rattle.chain_core.specs.Commitments.{later_state, is_same, is_same_equivalence, is_same-exact}
+use Rattle.chain_core.specs.Sealing.{is_at}
 use Rattle.chain_core.specs.States.{sizes, commitment_of, same_state, IsStateIn, AreStatesIn}
 use Rattle.chain_core.specs.declared.commitment.Commitment.{Commitment}
 use Rattle.tree_shape.specs.Hashing.{Hashing}
@@ -113,3 +114,17 @@ module _ {F D Op V : Type 0} (s : Shape) (h : Hashing D) (m : Meaning Op V) wher
         → Decides (stands_on (same_state F s h m) now list db.size (sizes tips)) (Contains (db ∷ tips) Now)
     stands_decides db tips k ks =
         or_decides (stands_at (same_state F s h m) now list db.size) (list_any (stands_at (same_state F s h m) now list) (sizes tips)) db tips Now (state_decides db k) (any_decides tips ks)
+
+  -- ---- whether the present state is one of several, by a test of states and by one of lists
+
+  module _ (now : State Op) (list : List Op) where
+    same_there : (c : Commitment F D) → In list c → is_same h.bytes (commitment_of s h m now.ops) c ≡ stands_at (same_state F s h m) now list c.size
+    same_there c k = ap (is_same h.bytes (commitment_of s h m now.ops)) k.1
+
+    any_there : (cs : List (Commitment F D)) → AllIn list cs → is_at h.bytes (commitment_of s h m now.ops) cs ≡ list_any (stands_at (same_state F s h m) now list) (sizes cs)
+    any_there [] k = refl
+    any_there (c ∷ cs) k = rw (same_there c k.0, any_there cs k.1) refl
+
+    pub stands_there : (db : Commitment F D) (tips : List (Commitment F D)) → In list db → AllIn list tips
+        → is_at h.bytes (commitment_of s h m now.ops) (db ∷ tips) ≡ stands_on (same_state F s h m) now list db.size (sizes tips)
+    stands_there db tips k ks = rw (same_there db k, any_there tips ks) refl

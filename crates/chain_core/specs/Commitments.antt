@@ -12,7 +12,8 @@ is_same bytes a b = (a.size == b.size) && pointwise nat_eq (bytes a.root) (bytes
 -- It is symmetric and transitive.
 pub is_same_per : {F D : Type 0} (bytes : D → List ℕ) → IsPartialEquivalence (is_same {F = F} bytes)
 is_same_per bytes =
-    and_per (on_per (λ c. c.size) (partial_equiv_from_equiv nat_eq_equiv)) (on_per (λ c. bytes c.root) (lists_per (partial_equiv_from_equiv nat_eq_equiv)))
+    and_per (on_per (λ c. c.size) (partial_equiv_from_equiv nat_eq_equiv))
+    (on_per (λ c. bytes c.root) (lists_per (partial_equiv_from_equiv nat_eq_equiv)))
 
 -- It is an equivalence.
 pub is_same_equivalence : {F D : Type 0} (bytes : D → List ℕ) → IsEquivalence (is_same {F = F} bytes)
@@ -25,7 +26,8 @@ later_state inherited None = inherited
 later_state inherited (Some base) = if nat_lt inherited.size base.size then base else inherited
 
 -- Where roots with the same bytes are equal, states that are the same are equal.
-pub is_same-exact : {F D : Type 0} (bytes : D → List ℕ) → ((x y : D) → bytes x ≡ bytes y → x ≡ y) → (a b : Commitment F D) → is_same bytes a b ≡ true → a ≡ b
+pub is_same-exact : {F D : Type 0} (bytes : D → List ℕ) → ((x y : D) → bytes x ≡ bytes y → x ≡ y)
+    → (a b : Commitment F D) → is_same bytes a b ≡ true → a ≡ b
 is_same-exact {F} {D} bytes exact a b same = equal sizes roots
   where
     roots_same : Bool
@@ -35,7 +37,8 @@ is_same-exact {F} {D} bytes exact a b same = equal sizes roots
     sizes = (Decides-eqb a.size b.size).0 (first_so (a.size == b.size) roots_same same)
 
     roots : a.root ≡ b.root
-    roots = exact a.root b.root ((bytes_decides (bytes a.root) (bytes b.root)).0 (second_so (a.size == b.size) roots_same same))
+    roots = exact a.root b.root
+        ((bytes_decides (bytes a.root) (bytes b.root)).0 (second_so (a.size == b.size) roots_same same))
 
     equal : a.size ≡ b.size → a.root ≡ b.root → a ≡ b
     equal p q i = record { size = p i; root = q i }

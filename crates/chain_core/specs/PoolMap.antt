@@ -24,5 +24,6 @@ abbrev pub IsKept : {T : Type 0} → BTreeMap ℕ (HeldBatch T) → ℕ → Type
 IsKept {T} batches drawn = (k : ℕ) (b : HeldBatch T) → get nat_cmp batches k ≡ Some b → IsKeptAt drawn k b
 
 -- Under k stands w, and under every other number what stood there.
-abbrev pub SetsAt : {T : Type 0} → BTreeMap ℕ (HeldBatch T) → BTreeMap ℕ (HeldBatch T) → ℕ → Option (HeldBatch T) → Type 0
+abbrev pub SetsAt : {T : Type 0} → BTreeMap ℕ (HeldBatch T) → BTreeMap ℕ (HeldBatch T) → ℕ → Option (HeldBatch T)
+    → Type 0
 SetsAt old new k w = (get nat_cmp new k ≡ w) × ((q : ℕ) → q ≢ k → get nat_cmp new q ≡ get nat_cmp old q)

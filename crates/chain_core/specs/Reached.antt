@@ -35,7 +35,8 @@ module _ {T : Type 0} where
     oldest_in (c ∷ next ∷ cs) = oldest_in (next ∷ cs)
 
     -- What is reached from a link on has these tips, the newest first, and its oldest has this base.
-    pub record Reaches (pool : List (Option (HeldBatch T))) (link : Option ℕ) (tips : List (Commitment F D)) (oldest : Option (Commitment F D)) : Type 0 where
+    pub record Reaches (pool : List (Option (HeldBatch T))) (link : Option ℕ) (tips : List (Commitment F D))
+        (oldest : Option (Commitment F D)) : Type 0 where
       pub ids : List ℕ
       pub reach : IsReach (slot_at pool) link ids
       pub tips_are : tips ≡ map (λ c. (bounds c).tip) (items_at pool ids)
@@ -50,7 +51,8 @@ module _ {T : Type 0} where
     parent_floor pool parent floor = option_map_or (λ c. (bounds c).inactivity_floor) (linked_item pool parent) floor
 
     -- Where a batch may be sealed that has this parent, or stands on this state of a log with this floor.
-    pub record IsPlaceOf (pool : List (Option (HeldBatch T))) (parent : Option ℕ) (base : Commitment F D) (floor : ℕ) (place : Place F D) : Type 0 where
+    pub record IsPlaceOf (pool : List (Option (HeldBatch T))) (parent : Option ℕ) (base : Commitment F D) (floor : ℕ)
+        (place : Place F D) : Type 0 where
       pub oldest : Option (Commitment F D)
       pub reach : Reaches pool parent place.ancestors oldest
       pub boundary : place.boundary ≡ later_state (inherited_state pool parent base) oldest

@@ -26,19 +26,22 @@ abbrev pub IsStateIn : {F D Op V : Type 0} → Shape → Hashing D → Meaning O
 IsStateIn s h m list c = (c.size ≤ length list) × (c ≡ commitment_of s h m (take c.size list))
 
 -- So are all.
-abbrev pub AreStatesIn : {F D Op V : Type 0} → Shape → Hashing D → Meaning Op V → List Op → List (Commitment F D) → Type 0
+abbrev pub AreStatesIn : {F D Op V : Type 0} → Shape → Hashing D → Meaning Op V → List Op → List (Commitment F D)
+    → Type 0
 AreStatesIn s h m list [] = Unit {0}
 AreStatesIn s h m list (c ∷ cs) = IsStateIn s h m list c × AreStatesIn s h m list cs
 
 -- The states of a sealed batch are those of fronts of its list, and its tip is that of the whole.
-pub record AreBounds {F D Op V : Type 0} (s : Shape) (h : Hashing D) (m : Meaning Op V) (list : List Op) (b : Bounds F D) : Type 0 where
+pub record AreBounds {F D Op V : Type 0} (s : Shape) (h : Hashing D) (m : Meaning Op V) (list : List Op)
+    (b : Bounds F D) : Type 0 where
   pub base : IsStateIn s h m list b.base
   pub db : IsStateIn s h m list b.db
   pub ancestors : AreStatesIn s h m list b.ancestors
   pub tip : b.tip ≡ commitment_of s h m list
 
 -- A sealed batch of a list, full or compact: its states are the list's, its floor is the list's, and its own operations stand in the list from its base on.
-pub record IsBatchOf {F D Op V : Type 0} (s : Shape) (h : Hashing D) (m : Meaning Op V) (list operations : List Op) (b : Bounds F D) : Type 0 where
+pub record IsBatchOf {F D Op V : Type 0} (s : Shape) (h : Hashing D) (m : Meaning Op V) (list operations : List Op)
+    (b : Bounds F D) : Type 0 where
   pub bounds : AreBounds s h m list b
   pub floor : b.inactivity_floor ≡ floor_of m list
   pub own : operations ≡ drop b.base.size list

@@ -28,7 +28,8 @@ impl<F: Drop, D: Digest> Bounds<F, D> {
         state: Commitment<F, D>,
         inactivity_floor: Location<F>,
     ) -> Result<Self, Error<F>>
-        ensures { result ≡ Ok (record { base = state; db = state; tip = state; ancestors = []; inactivity_floor = inactivity_floor }) }
+        ensures { result ≡
+            Ok (record { base = state; db = state; tip = state; ancestors = []; inactivity_floor = inactivity_floor }) }
     {
         Ok(Bounds {
             base: state.copied(),

@@ -1,7 +1,9 @@
 ghost use Rattle.std.specs.Prelude.{◌≡◌};
 ghost use Rattle.chain_core.specs.Texts.{fault_text};
+ghost use Rattle.chain_core.specs.Sealing.{refusal_of};
 ghost use Rattle.chain_core.specs.declared.error.Error.TheVariants.{Memory};
 
+use log_model::Refusal;
 use std::alloc::{AllocError, AllocFailed};
 use tree_shape::Location;
 use volume_base::JournalError;
@@ -64,6 +66,27 @@ pub enum Error<F> {
     InvalidInitializationBound,
     Volume,
     Memory,
+}
+
+impl<F> Error<F> {
+    /// The refusal of a seal or an apply that it is, where it is one.
+    pub fn refusal(&self) -> Option<Refusal>
+        ensures { result ≡ refusal_of self.now }
+    {
+        match self {
+            Error::StaleBatch => Some(Refusal::StaleBatch),
+            Error::Merkle(tree_store::Error::LocationOverflow(size)) => {
+                Some(Refusal::LocationOverflow(size.as_u64()))
+            }
+            Error::FloorRegressed(floor, below) => {
+                Some(Refusal::FloorRegressed(floor.as_u64(), below.as_u64()))
+            }
+            Error::FloorBeyondSize(floor, location) => {
+                Some(Refusal::FloorBeyondSize(floor.as_u64(), location.as_u64()))
+            }
+            _ => None,
+        }
+    }
 }
 
 impl<F> From<AllocError> for Error<F> {

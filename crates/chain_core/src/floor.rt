@@ -1,4 +1,5 @@
-ghost use Rattle.std.specs.Prelude.{◌≡◌, ◌↔◌, ◌≤◌, ◌<◌, IsOk, IsErrOf};
+ghost use Rattle.log_model.specs.Refusals.{floor_refusal};
+ghost use Rattle.chain_core.specs.Sealing.{Refuses};
 
 use crate::Error;
 use tree_shape::Location;
@@ -10,9 +11,7 @@ pub fn validate_merkleize_floor<F>(
     floor: Location<F>,
     commit_loc: Location<F>,
 ) -> Result<(), Error<F>>
-    ensures between { IsOk result ↔ ((start ≤ floor) × (floor ≤ commit_loc)) }
-    ensures regressed { IsErrOf result (Error.FloorRegressed floor start) ↔ (floor < start) }
-    ensures beyond { IsErrOf result (Error.FloorBeyondSize floor commit_loc) ↔ ((start ≤ floor) × (commit_loc < floor)) }
+    ensures { Refuses (floor_refusal start floor commit_loc) result }
 {
     if floor < start {
         return Err(Error::FloorRegressed(floor, start));

@@ -1,10 +1,10 @@
 //! Where a batch may be sealed.
-ghost use Rattle.std.specs.Prelude.{◌≡◌, ◌+◌, ◌<◌, ◌^◌, IfOk, IfErr, IsOkUnless};
+ghost use Rattle.std.specs.Prelude.{◌≡◌, ◌+◌, ◌-◌, ◌<◌, ◌^◌, IfOk, IsOkUnless};
 ghost use Rattle.std.specs.Option.{ForSome};
 ghost use Rattle.chain_core.specs.Slots.{IsAlive};
 ghost use Rattle.chain_core.specs.Commitments.{later_state};
 ghost use Rattle.chain_core.specs.Reached.{IsPlaceOf};
-ghost use Rattle.chain_core.specs.Sealing.{states_of, MaySeal, MayNotSeal};
+ghost use Rattle.chain_core.specs.Sealing.{place_refusal, Refuses};
 
 use crate::{
     BatchId, Chained, Commitment, Error, Pool, PoolError, Reach, effective_boundary, reach_of,
@@ -64,33 +64,30 @@ impl<F: Drop, D: Digest> Place<F, D> {
         }
     }
 
-    /// The size of a batch of so many operations behind its base, its commit among them, where it may be sealed at the state
-    /// `current`. Refuses, in this order: `StaleBatch`, `Merkle(LocationOverflow(size))`, `FloorRegressed`, `FloorBeyondSize`.
+    /// The size of a batch of `size` operations and its commit, where it may be sealed at the state `current`. Refuses, in
+    /// this order: `StaleBatch`, `Merkle(LocationOverflow(size + 1))`, `FloorRegressed`, `FloorBeyondSize`.
     pub fn check(
         &self,
         current: &Commitment<F, D>,
-        base: u64,
-        own: u64,
+        size: u64,
         floor: Location<F>,
     ) -> Result<u64, Error<F>>
-        requires some { 0 < own }
-        requires few { base + own < 2 ^ 64 }
-        ensures tip { IfOk result (λ tip. tip ≡ base + own) }
-        ensures may { IfOk result (λ tip. MaySeal (states_of self.now) current.now tip self.now.floor floor) }
-        ensures refused { IfErr result (MayNotSeal (states_of self.now) current.now (base + own) self.now.floor floor) }
+        requires { size < 2 ^ 64 - 1 }
+        ensures tip { IfOk result (λ tip. tip ≡ size + 1) }
+        ensures refused { Refuses (place_refusal D.bytes self.now current.now size floor) result }
     {
         validate_batch_applicable(
             current.copied(),
             self.boundary.copied(),
             self.ancestors.as_slice(),
         )?;
-        let tip = base + own;
+        let tip = size + 1;
         if tip > MAX_LEAVES {
             let overflow = tree_store::Error::LocationOverflow(Location::new(tip));
             return Err(Error::Merkle(overflow));
         }
         let start = Location::new(self.floor.as_u64());
-        validate_merkleize_floor(start, floor, Location::new(tip - 1))?;
+        validate_merkleize_floor(start, floor, Location::new(size))?;
         Ok(tip)
     }
 }

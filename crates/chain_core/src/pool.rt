@@ -176,7 +176,8 @@ impl<T: Drop> Pool<T> {
 
     /// The ancestors of a batch that is alive, from its parent on, to the last one before the first that is dead.
     pub fn ancestors_of(&self, id: BatchId) -> Result<Vec<BatchId>, PoolError>
-        ensures reach { IfOk result (λ ids. IfSome (slot_at self.now id) (λ b. IsReach (slot_at self.now) b.parent ids.items)) }
+        ensures reach { IfOk result
+            (λ ids. IfSome (slot_at self.now id) (λ b. IsReach (slot_at self.now) b.parent ids.items)) }
         ensures dead { IsErrOf result PoolError.NoBatch ↔ (slot_at self.now id ≡ None) }
     {
         let link = self.parent(id)?;
@@ -204,7 +205,8 @@ impl<T: Drop> Pool<T> {
     pub fn insert(&mut self, item: T, parent: Option<BatchId>) -> Result<BatchId, PoolError>
         requires room { length self.old < 2 ^ 64 - 1 }
         requires after { ForSome parent (λ p. p < length self.old) }
-        ensures ok { OnOk result (self.new ≡ self.old ++ Some (record { item = item; parent = parent; holds = 1 }) ∷ []) }
+        ensures ok { OnOk result (self.new ≡ self.old ++ Some (record { item = item; parent = parent; holds = 1 }) ∷
+            []) }
         ensures number { IfOk result (λ id. id ≡ length self.old) }
         ensures for_ever { KeepsDead self.old self.new }
         ensures err { OnErr result (self.new ≡ self.old) }
@@ -236,7 +238,8 @@ impl<T: Drop> Pool<T> {
     /// Holds a batch once less. Where this was its last hold its item is dropped, and the number stays dead.
     pub fn release(&mut self, id: BatchId) -> Result<(), PoolError>
         ensures alive { IsOk result ↔ IsAlive self.old id }
-        ensures ok { OnOk result (self.new ≡ slice_set self.old id (option_and_then without_hold (slot_at self.old id))) }
+        ensures ok { OnOk result
+            (self.new ≡ slice_set self.old id (option_and_then without_hold (slot_at self.old id))) }
         ensures for_ever { KeepsDead self.old self.new }
         ensures err { OnErr result (self.new ≡ self.old) }
         ensures dead { IsOkUnless result PoolError.NoBatch }
@@ -298,7 +301,8 @@ fn release_at<T: Drop>(
 ) -> Result<(), PoolError>
     requires held { ForSome (get nat_cmp batches.old number) (λ b. 0 < b.holds) }
     ensures alive { IsOk result ↔ IsSome (get nat_cmp batches.old number) }
-    ensures less { SetsAt batches.old batches.new number (option_and_then without_hold (get nat_cmp batches.old number)) }
+    ensures less { SetsAt batches.old batches.new number
+        (option_and_then without_hold (get nat_cmp batches.old number)) }
     ensures dead { IsOkUnless result PoolError.NoBatch }
 {
     match batches.get_mut(&number) {

@@ -5,7 +5,7 @@ use Rattle.std.proofs.Math.Seq.{take-length}
 use Rattle.std.proofs.lemmas.List.{length-append, take-append-le}
 use Rattle.log_model.specs.Meaning.{Meaning}
 use Rattle.log_model.specs.Operations.{floor_of}
-use Rattle.log_model.specs.Batches.{Batch, Unsealed, Sealed, Gone, UnsealedBatch, SealedBatch, begun_on, size_of, appended, sealed, snapshot_of}
+use Rattle.log_model.specs.StateBatches.{Batch, Unsealed, Sealed, Gone, UnsealedBatch, SealedBatch, begun_on, size_of, appended, sealed, snapshot_of}
 use Rattle.log_model.specs.Machine.{State, max_leaves, batch_at, with_batch, with_new, begun, snapshot_taken}
 use Rattle.log_model.specs.Reach.{as_sealed, reach, tips_of, effective_boundary, sealed_here}
 use Rattle.log_model.specs.Good.{EndsWithCommit, FloorsRise, ValuesAre, AreAppends, IsGoodList, IsMark, AreMarks, IsGoodBatch, ParentFits, HasParent, IsGood, IsGoodLog}

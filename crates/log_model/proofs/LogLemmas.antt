@@ -6,9 +6,9 @@ use Rattle.std.proofs.Math.Nat.{mul-div-le}
 use Rattle.std.proofs.lemmas.List.{length-append, take-append-le, take-append-drop}
 use Rattle.log_model.specs.Meaning.{Meaning}
 use Rattle.log_model.specs.Operations.{floor_of}
-use Rattle.log_model.specs.Batches.{Sealed, Gone, SealedBatch}
+use Rattle.log_model.specs.StateBatches.{Sealed, Gone, SealedBatch}
 use Rattle.log_model.specs.Machine.{State, batch_at, by_blobs, sizes_with, applied, committed, synced, pruned}
-use Rattle.log_model.specs.Sizes.{RiseTo, AreSizes, first_at_least}
+use Rattle.log_model.specs.AppliedSizes.{RiseTo, AreSizes, first_at_least}
 use Rattle.log_model.specs.Good.{EndsWithCommit, FloorsRise, IsGoodList, IsGoodBatch, HasParent, AreCommits, IsDurable, IsGoodLog, IsGood}
 use Rattle.log_model.proofs.GoodLemmas.{Keeps, keeps_self, still_has}
 use Rattle.log_model.proofs.SizeLemmas.{either, rise_le, last_applied, sizes_grow, has_longer, first_longer, first_higher, lt_is, not_lt}

@@ -10,7 +10,7 @@ use Rattle.volume_base.specs.Moments.{Image}
 use Rattle.log_model.specs.Meaning.{Meaning}
 use Rattle.log_model.specs.Operations.{floor_of}
 use Rattle.log_model.specs.Machine.{State}
-use Rattle.log_model.specs.Sizes.{RiseTo, AreSizes, sizes_to, first_at_least}
+use Rattle.log_model.specs.AppliedSizes.{RiseTo, AreSizes, sizes_to, first_at_least}
 use Rattle.log_model.specs.Good.{EndsWithCommit, FloorsRise, ValuesAre, IsGoodList, AreCommits, IsDurable, IsGoodLog, IsGood}
 use Rattle.log_model.specs.Stored.{DatabaseNames, StandsFor, durable_witnesses}
 use Rattle.log_model.specs.Opening.{has, last_kept, opens_at, opened, commit_from, last_commit}

@@ -10,7 +10,7 @@ use Rattle.std.proofs.lemmas.Option.{none-some, cond_some}
 use Rattle.std.proofs.lemmas.Slice.Eq.{slice_eq-Decides}
 use Rattle.log_model.specs.Meaning.{Meaning}
 use Rattle.log_model.specs.Operations.{floor_of}
-use Rattle.log_model.specs.Batches.{Batch, Unsealed, Sealed, Gone, UnsealedBatch, SealedBatch}
+use Rattle.log_model.specs.StateBatches.{Batch, Unsealed, Sealed, Gone, UnsealedBatch, SealedBatch}
 use Rattle.log_model.specs.Machine.{State, SameTest, batch_at, same_operations, stands_at}
 use Rattle.log_model.specs.Reach.{is_alive, as_sealed, linked, if_alive, alive_at, reach_from, link_bound, reach, tips_of, oldest_base, later, inherited_boundary, effective_boundary, floor_below, stands_on, may_seal}
 use Rattle.log_model.specs.Good.{IsStand, IsMark, AreMarks, IsGoodBatch, ParentFits, HasParent, IsGood}

@@ -2,7 +2,7 @@
 use Rattle.std.proofs.Common.{◌≡◌, ℕ, zero, suc, ◌<◌, ◌≤◌, Bool, true, false, cond, List, [], ◌∷◌, ◌++◌, refl, arith}
 use Rattle.std.specs.Prelude.{nat_le, nat_lt, Contains}
 use Rattle.std.proofs.lemmas.Bool.Decides.{nat_tests}
-use Rattle.log_model.specs.Sizes.{RiseTo, AreSizes, first_at_least}
+use Rattle.log_model.specs.AppliedSizes.{RiseTo, AreSizes, first_at_least}
 use Rattle.std.proofs.lemmas.List.Elements.{Contains-append_left}
 
 pub le_is : (m n : ℕ) → nat_le m n ≡ true → m ≤ n

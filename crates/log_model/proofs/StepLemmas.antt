@@ -4,10 +4,10 @@ use Rattle.std.specs.Prelude.{nat_lt, IfSome}
 use Rattle.std.specs.Bool.{Decides}
 use Rattle.log_model.specs.Meaning.{Meaning}
 use Rattle.log_model.specs.Operations.{floor_of}
-use Rattle.log_model.specs.Batches.{UnsealedBatch, SealedBatch, Unsealed, Sealed, size_of}
+use Rattle.log_model.specs.StateBatches.{UnsealedBatch, SealedBatch, Unsealed, Sealed, size_of}
 use Rattle.log_model.specs.Machine.{State, SameTest, max_leaves, same_operations, batch_at, with_batch, applied}
 use Rattle.log_model.specs.Reach.{floor_below, may_seal, may_apply, sealed_here}
-use Rattle.log_model.specs.Sealing.{seal_refusal, apply_refusal, prune_refusal}
+use Rattle.log_model.specs.Refusals.{seal_refusal, apply_refusal, prune_refusal}
 use Rattle.log_model.specs.Good.{AnyList, IsGoodBatch, IsGood, IsGoodState}
 use Rattle.log_model.specs.Laws.{Allows, StepsStayGood}
 use Rattle.log_model.proofs.ReachLemmas.{floor_here, stood_alone, lists_decide, stood_on}

@@ -16,7 +16,7 @@ use Rattle.tree_store.proofs.StoredLemmas.{stands_wider, stands_longer, stands_e
 use Rattle.log_model.specs.Meaning.{Meaning}
 use Rattle.log_model.specs.Operations.{leaves_from}
 use Rattle.log_model.specs.Machine.{fresh}
-use Rattle.log_model.specs.Sizes.{RiseTo, AreSizes, first_at_least}
+use Rattle.log_model.specs.AppliedSizes.{RiseTo, AreSizes, first_at_least}
 use Rattle.log_model.specs.Good.{IsGood}
 use Rattle.log_model.specs.Witness.{pins_of, last_bytes, witness_text}
 use Rattle.log_model.specs.Stored.{DatabaseNames, FullStands, CompactStands, StandsFor, IsEmpty, durable_witnesses}

@@ -2,10 +2,10 @@
 use Rattle.std.specs.Prelude.{◌≡◌, ◌⊎◌, ℕ, ◌+◌, ◌<◌, ◌≤◌, List, [], ◌∷◌, length, take, unwrap_or, IsSome, IsNone, IfSome, IsSomeAnd, Contains, Option, Some, None}
 use Rattle.log_model.specs.Meaning.{Meaning}
 use Rattle.log_model.specs.Operations.{floor_of}
-use Rattle.log_model.specs.Batches.{Batch, Unsealed, Sealed, Gone, size_of}
+use Rattle.log_model.specs.StateBatches.{Batch, Unsealed, Sealed, Gone, size_of}
 use Rattle.log_model.specs.Machine.{State, max_leaves, batch_at}
 use Rattle.log_model.specs.Reach.{as_sealed}
-use Rattle.log_model.specs.Sizes.{AreSizes, first_at_least}
+use Rattle.log_model.specs.AppliedSizes.{AreSizes, first_at_least}
 
 -- A list ends with a commit.
 abbrev pub EndsWithCommit : {Op V : Type 0} → Meaning Op V → List Op → Type 0
@@ -42,7 +42,8 @@ abbrev pub IsStand : {Op V : Type 0} → Meaning Op V → (List Op → Type 0) �
 IsStand m among list = EndsWithCommit m list × among list
 
 -- A list of the log: it begins with the first commit, the log may stand there, a tree can hold it, its values are allowed, and its floors rise.
-pub record IsGoodList {Op V : Type 0} (m : Meaning Op V) (among : List Op → Type 0) (allowed : V → Type 0) (first : Op) (list : List Op) : Type 0 where
+pub record IsGoodList {Op V : Type 0} (m : Meaning Op V) (among : List Op → Type 0) (allowed : V → Type 0) (first : Op)
+    (list : List Op) : Type 0 where
   pub begins : take 1 list ≡ first ∷ []
   pub stand : IsStand m among list
   pub few : length list ≤ max_leaves
@@ -60,8 +61,12 @@ AreMarks m among list (n ∷ ns) = IsMark m among list n × AreMarks m among lis
 
 -- An unsealed batch stands on a list of the log, whose length is its base; its appends are allowed, and a tree can hold them. The base, the boundary and the tips of a sealed one are marks of its list, whose floor is its floor.
 abbrev pub IsGoodBatch : {Op V : Type 0} → Meaning Op V → (List Op → Type 0) → (V → Type 0) → Op → Batch Op → Type 0
-IsGoodBatch m among allowed first (Unsealed u) = IsGoodList m among allowed first u.list × (u.base ≡ length u.list) × AreAppends m u.pending × ValuesAre m allowed u.pending × (size_of u ≤ max_leaves)
-IsGoodBatch m among allowed first (Sealed c) = IsGoodList m among allowed first c.list × IsMark m among c.list c.base × IsMark m among c.list c.boundary × AreMarks m among c.list c.tips × (c.floor ≡ floor_of m c.list)
+IsGoodBatch m among allowed first (Unsealed u) =
+    IsGoodList m among allowed first u.list × (u.base ≡ length u.list) × AreAppends m u.pending
+    × ValuesAre m allowed u.pending × (size_of u ≤ max_leaves)
+IsGoodBatch m among allowed first (Sealed c) =
+    IsGoodList m among allowed first c.list × IsMark m among c.list c.base × IsMark m among c.list c.boundary
+    × AreMarks m among c.list c.tips × (c.floor ≡ floor_of m c.list)
 IsGoodBatch m among allowed first Gone = Unit {0}
 
 -- The parent of a batch b is a sealed one of a lower number. Its list is the batch's, up to the batch's base.
@@ -97,13 +102,15 @@ pub record IsGoodLog {Op V : Type 0} (m : Meaning Op V) (s : State Op) : Type 0 
   pub wstart : s.wstart ≤ first_at_least s.prune s.sizes
 
 -- The log's list is good, and so is each batch, and its parent fits.
-pub record IsGood {Op V : Type 0} (m : Meaning Op V) (among : List Op → Type 0) (allowed : V → Type 0) (first : Op) (s : State Op) : Type 0 where
+pub record IsGood {Op V : Type 0} (m : Meaning Op V) (among : List Op → Type 0) (allowed : V → Type 0) (first : Op)
+    (s : State Op) : Type 0 where
   pub ops : IsGoodList m among allowed first s.ops
   pub log : IsGoodLog m s
   pub batches : (b : ℕ) → IsGoodBatch m among allowed first (batch_at s b)
   pub parents : (b : ℕ) → HasParent s b (batch_at s b)
 
 -- A good state of which something is durable.
-pub record IsGoodState {Op V : Type 0} (m : Meaning Op V) (among : List Op → Type 0) (allowed : V → Type 0) (first : Op) (s : State Op) : Type 0 where
+pub record IsGoodState {Op V : Type 0} (m : Meaning Op V) (among : List Op → Type 0) (allowed : V → Type 0) (first : Op)
+    (s : State Op) : Type 0 where
   pub good : IsGood m among allowed first s
   pub some : 1 ≤ s.durable

@@ -1,8 +1,8 @@
 pub mod Meaning
 pub mod Operations
 pub mod Hashed
-pub mod Batches
-pub mod Sizes
+pub mod StateBatches
+pub mod AppliedSizes
 pub mod Machine
 pub mod Reach
 pub mod Good
@@ -13,5 +13,5 @@ pub mod Opening
 pub mod Valid
 pub mod Reads
 pub mod Proofs
-pub mod Sealing
+pub mod Refusals
 pub mod Laws

@@ -2,8 +2,8 @@
 use Rattle.std.specs.Prelude.{ℕ, ◌*◌, ◌/◌, ◌^◌, max, nat_lt, Bool, List, [], ◌∷◌, ◌++◌, length, take, slice_index_or, slice_set, Option, if◌then◌else◌}
 use Rattle.std.specs.List.{flat_map}
 use Rattle.std.specs.Cmp.Lexicographic.{pointwise}
-use Rattle.log_model.specs.Sizes.{first_at_least}
-use Rattle.log_model.specs.Batches.{Batch, Unsealed, Sealed, Gone, SealedBatch, begun_on, snapshot_of}
+use Rattle.log_model.specs.AppliedSizes.{first_at_least}
+use Rattle.log_model.specs.StateBatches.{Batch, Unsealed, Sealed, Gone, SealedBatch, begun_on, snapshot_of}
 
 pub record State (Op : Type 0) : Type 0 where
   -- the list of operations
@@ -27,7 +27,17 @@ max_leaves = 2 ^ 62
 
 -- The state of a fresh volume: its first commit is there, and nothing is durable.
 abbrev pub fresh : {Op : Type 0} → Op → State Op
-fresh commit = record { ops = commit ∷ []; sizes = 1 ∷ []; durable = 0; node_durable = 0; prune = 0; start = 0; wstart = 0; batches = [] }
+fresh commit =
+    record {
+      ops = commit ∷ [];
+      sizes = 1 ∷ [];
+      durable = 0;
+      node_durable = 0;
+      prune = 0;
+      start = 0;
+      wstart = 0;
+      batches = [];
+    }
 
 -- Batch b. It is gone where no such number was drawn.
 abbrev pub batch_at : {Op : Type 0} → State Op → ℕ → Batch Op

@@ -4,7 +4,7 @@ use Rattle.volume_base.specs.Log.{Log, end_of}
 use Rattle.volume_base.specs.Moments.{Image}
 use Rattle.log_model.specs.Meaning.{Meaning}
 use Rattle.log_model.specs.Machine.{State}
-use Rattle.log_model.specs.Sizes.{sizes_to}
+use Rattle.log_model.specs.AppliedSizes.{sizes_to}
 use Rattle.log_model.specs.Stored.{DatabaseNames}
 
 -- Whether a log has an item at this position.
@@ -14,7 +14,8 @@ has log position = nat_le log.start position && nat_lt position (end_of log)
 -- The last of these sizes that is at most this and whose position, counted from i, the log of witnesses keeps; or the one before, where there is none.
 abbrev pub last_kept : ℕ → Log → ℕ → ℕ → List ℕ → ℕ
 last_kept most witness before i [] = before
-last_kept most witness before i (n ∷ ns) = last_kept most witness (if nat_le n most && has witness i then n else before) (i + 1) ns
+last_kept most witness before i (n ∷ ns) =
+    last_kept most witness (if nat_le n most && has witness i then n else before) (i + 1) ns
 
 -- The applied size at which an image is opened: the last that the log of operations reaches; as sizes rise, it is the greatest. It is 1 where none is kept.
 abbrev pub opens_at : {Op : Type 0} → DatabaseNames → State Op → Image → ℕ
@@ -23,7 +24,8 @@ opens_at names s image = last_kept (end_of (image.log names.log)) (image.log nam
 -- The end of the last commit of a list that ends at or below this: the operations are counted from i, and the last that was found ends there.
 abbrev pub commit_from : {Op V : Type 0} → Meaning Op V → ℕ → ℕ → ℕ → List Op → ℕ
 commit_from m most i found [] = found
-commit_from m most i found (op ∷ ops) = commit_from m most (i + 1) (if nat_lt i most && is_some (m.floor op) then i + 1 else found) ops
+commit_from m most i found (op ∷ ops) =
+    commit_from m most (i + 1) (if nat_lt i most && is_some (m.floor op) then i + 1 else found) ops
 
 abbrev pub last_commit : {Op V : Type 0} → Meaning Op V → ℕ → List Op → ℕ
 last_commit m most ops = commit_from m most 0 0 ops
@@ -46,7 +48,8 @@ opened names s image = opened_at names s image (opens_at names s image)
 
 -- An image is opened in turns: the full database without a cap at f, the compact one under the cap f at c, and the full one again, under the cap c,
 -- at c.
-pub record Realigned {Op V : Type 0} (m : Meaning Op V) (names : DatabaseNames) (state : State Op) (image : Image) (f c : ℕ) : Type 0 where
+pub record Realigned {Op V : Type 0} (m : Meaning Op V) (names : DatabaseNames) (state : State Op) (image : Image)
+    (f c : ℕ) : Type 0 where
   pub opens : c ≡ opens_at names state image
   pub past : state.durable ≤ c
   pub within : c ≤ f

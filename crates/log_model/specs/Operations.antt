@@ -26,4 +26,5 @@ leaves_from s h m i ops = map (λ p. leaf s h p.0 p.1) (enumerate_from i (map m.
 
 -- The root of a list of operations: that of the tree of their bytes, folded forward, with the peaks that end at or below its floor inactive.
 unfoldable pub root_of : {D Op V : Type 0} → Shape → Hashing D → Meaning Op V → List Op → D
-root_of s h m ops = root s h (leaf_digests s h (map m.encoding ops)) (inactive s (length ops) (floor_of m ops)) ForwardFold
+root_of s h m ops =
+    root s h (leaf_digests s h (map m.encoding ops)) (inactive s (length ops) (floor_of m ops)) ForwardFold

@@ -35,7 +35,8 @@ module _ {Op V : Type 0} (m : Meaning Op V) where
 
 -- Why the commit that ends the first n operations isn't proved, where witnesses of these sizes are kept: no such size; no witness of it.
 abbrev pub commit_proof_refusal : {Op : Type 0} → List Op → List ℕ → ℕ → Option Refusal
-commit_proof_refusal ops kept n = or_else (size_refusal ops n) (refuse_if (not (list_any (λ k. k == n) kept)) (ItemPruned (n - 1)))
+commit_proof_refusal ops kept n =
+    or_else (size_refusal ops n) (refuse_if (not (list_any (λ k. k == n) kept)) (ItemPruned (n - 1)))
 
 -- The end of a proof in the first n that begins at a and has at most so many operations.
 abbrev pub proof_end : ℕ → ℕ → ℕ → ℕ

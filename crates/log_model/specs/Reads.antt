@@ -2,7 +2,7 @@
 use Rattle.std.specs.Prelude.{ℕ, Bool, nat_lt, nat_le, List, [], ◌∷◌, ◌++◌, length, map, take, drop, Option, Some, None, Result, Ok, Err, if◌then◌else◌}
 use Rattle.log_model.specs.Meaning.{Meaning}
 use Rattle.log_model.specs.Operations.{last_value}
-use Rattle.log_model.specs.Batches.{UnsealedBatch, SealedBatch}
+use Rattle.log_model.specs.StateBatches.{UnsealedBatch, SealedBatch}
 use Rattle.log_model.specs.Machine.{State, SameTest}
 use Rattle.log_model.specs.Reach.{floor_below, may_read_sealed, may_read_unsealed}
 use Rattle.log_model.specs.declared.refusal.Refusal.{Refusal}
@@ -77,7 +77,8 @@ sealed_reading same s c = record { here = may_read_sealed same s c; list = c.lis
 
 -- An unsealed batch is read with its appends, from the floor on that it builds on.
 abbrev pub unsealed_reading : {Op V : Type 0} → SameTest Op → Meaning Op V → State Op → UnsealedBatch Op → Reading Op
-unsealed_reading same m s u = record { here = may_read_unsealed same s u; list = u.list ++ u.pending; floor = floor_below m s u }
+unsealed_reading same m s u =
+    record { here = may_read_unsealed same s u; list = u.list ++ u.pending; floor = floor_below m s u }
 
 module _ {Op V : Type 0} (m : Meaning Op V) where
   abbrev pub batch_answer : Reading Op → ℕ → Result (Option V) Refusal

@@ -10,7 +10,8 @@ use Rattle.log_model.specs.Machine.{State}
 use Rattle.log_model.specs.Stored.{DatabaseNames, StandsFor}
 use Rattle.log_model.specs.Good.{IsGood, AnyList}
 
-module _ {D Op V : Type 0} (s : Shape) (h : Hashing D) (spelling : D → List ℕ) (m : Meaning Op V) (allowed : V → Type 0) (first : Op) (names : DatabaseNames) where
+module _ {D Op V : Type 0} (s : Shape) (h : Hashing D) (spelling : D → List ℕ) (m : Meaning Op V) (allowed : V → Type 0)
+    (first : Op) (names : DatabaseNames) where
   -- A good state without batches, for which each image stands that a crash may leave now; and nothing clashes that is hashed for these lists.
   pub record IsValid (lists : List (List Op)) (state : State Op) (now : volume.State) : Type 0 where
     pub good : IsGood m AnyList allowed first state

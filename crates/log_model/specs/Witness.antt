@@ -19,4 +19,5 @@ module _ {D Op V : Type 0} (s : Shape) (h : Hashing D) (m : Meaning Op V) where
 
   -- The bytes of the witness of a list at a size: the commit there, the size, and the peaks of the tree before the commit.
   abbrev pub witness_text : (D → List ℕ) → List Op → ℕ → List ℕ
-  witness_text spelling ops size = byte_list (last_bytes ops size) ++ (varint size ++ spelled_list spelling (pins_of ops (size - 1)))
+  witness_text spelling ops size =
+      byte_list (last_bytes ops size) ++ (varint size ++ spelled_list spelling (pins_of ops (size - 1)))

@@ -2,7 +2,7 @@ ghost use Rattle.std.specs.Prelude.{◌≡◌, ◌*◌, ◌≤◌, ℕ, length, 
 ghost use Rattle.std.specs.NonZero.{non_zero_u64_get};
 ghost use Rattle.volume_base.specs.Log.{end_of};
 ghost use Rattle.volume_base.specs.Moments.{Image};
-ghost use Rattle.log_model.specs.Batches.{SealedBatch};
+ghost use Rattle.log_model.specs.StateBatches.{SealedBatch};
 ghost use Rattle.log_model.specs.Machine.{State, applied, by_blobs, committed, fresh, pruned, synced};
 ghost use Rattle.log_model.specs.Extent.{IsExtentOf};
 ghost use Rattle.log_model.specs.Opening.{opens_at};

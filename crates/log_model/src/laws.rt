@@ -19,16 +19,20 @@ use volume_base::Volume;
 
 /// Two lists with one root have the same encodings, or two different inputs of what is hashed for them have one digest.
 pub fn encodings_law<F: Family, H: Hasher, O: Logged>()
-    ensures { (first second : List O) → length first ≤ 2 ^ 62 → length second ≤ 2 ^ 62 → root_of F.shape H.hash O.meaning first ≡ root_of F.shape H.hash O.meaning second →
-        (map O.meaning.encoding first ≡ map O.meaning.encoding second) ⊎ Clash H.hash (inputs_of F.shape H.hash O.meaning first ++ inputs_of F.shape H.hash O.meaning second) }
+    ensures { (first second : List O) → length first ≤ 2 ^ 62 → length second ≤ 2 ^ 62 →
+        root_of F.shape H.hash O.meaning first ≡ root_of F.shape H.hash O.meaning second →
+        (map O.meaning.encoding first ≡ map O.meaning.encoding second) ⊎
+        Clash H.hash (inputs_of F.shape H.hash O.meaning first ++ inputs_of F.shape H.hash O.meaning second) }
 {
     one_root_law::<F, H>();
 }
 
 /// Of lists without a clash, whose operations are allowed, two with one root are one.
 pub fn no_clash_law<F: Family, H: Hasher, O: Logged + Read>(cfg: &O::Cfg)
-    ensures { (lists : List (List O)) (first second : List O) → NoClash F.shape H.hash O.meaning lists → Contains lists first → Contains lists second →
-        AllByRecursion (O.admits cfg.now) first → AllByRecursion (O.admits cfg.now) second → length first ≤ 2 ^ 62 → length second ≤ 2 ^ 62 →
+    ensures { (lists : List (List O)) (first second : List O) → NoClash F.shape H.hash O.meaning lists →
+        Contains lists first → Contains lists second →
+        AllByRecursion (O.admits cfg.now) first → AllByRecursion (O.admits cfg.now) second → length first ≤ 2 ^ 62 →
+        length second ≤ 2 ^ 62 →
         root_of F.shape H.hash O.meaning first ≡ root_of F.shape H.hash O.meaning second → first ≡ second }
 {
     encodings_law::<F, H, O>();
@@ -67,6 +71,7 @@ pub fn fresh_law<F: Family, H: Hasher, O: Logged, V: Volume>(volume: &V)
     ensures contents { (admits : O.Value → Bool) (first : O) (names : DatabaseNames) (lists : List (List O)) →
         O.meaning.floor first ≡ Some 0 → IfSome (O.meaning.value first) (λ v. admits v ≡ true) →
         NoClash F.shape H.hash O.meaning lists → IsEmpty names (present (V.state volume.now)) →
-        IsValidContents F.shape H.hash H.Digest.spelling O.meaning (λ v. admits v ≡ true) first names lists (fresh first)
+        IsValidContents F.shape H.hash H.Digest.spelling O.meaning (λ v. admits v ≡ true) first names lists
+        (fresh first)
         (V.state volume.now) }
 {}

@@ -25,7 +25,8 @@ fn push_leaf<F: Family, H: Hasher, O: Logged>(
     operation: &O,
 ) -> Result<(), CodecError>
     requires { length leaves.old.items < 2 ^ 62 }
-    ensures leaf { OnOk result (leaves.new.items ≡ leaves.old.items ++ leaf F.shape H.hash (length leaves.old.items) (O.meaning.encoding operation.now) ∷ []) }
+    ensures leaf { OnOk result (leaves.new.items ≡ leaves.old.items ++
+        leaf F.shape H.hash (length leaves.old.items) (O.meaning.encoding operation.now) ∷ []) }
     ensures err { OnErr result (leaves.new.items ≡ leaves.old.items) }
     ensures memory { IsOkUnless result CodecError.Memory }
 {
@@ -43,7 +44,8 @@ pub fn push_leaves<F: Family, H: Hasher, O: Logged>(
     operations: &[O],
 ) -> Result<(), CodecError>
     requires { length leaves.old.items + length operations.now ≤ 2 ^ 62 }
-    ensures leaves { OnOk result (leaves.new.items ≡ leaves.old.items ++ leaves_from F.shape H.hash O.meaning (length leaves.old.items) operations.now) }
+    ensures leaves { OnOk result (leaves.new.items ≡ leaves.old.items ++
+        leaves_from F.shape H.hash O.meaning (length leaves.old.items) operations.now) }
     ensures count { OnOk result (length leaves.new.items ≡ length leaves.old.items + length operations.now) }
     ensures err { OnErr result (leaves.new.items ≡ leaves.old.items) }
     ensures memory { IsOkUnless result CodecError.Memory }
@@ -65,7 +67,8 @@ pub fn root_of_leaves<F: Family, H: Hasher, O: Logged>(
     floor: u64,
 ) -> Result<H::Digest, CodecError>
     requires { length leaves.now ≤ 2 ^ 62 }
-    ensures root { (ops : List O) → leaves.now ≡ leaves_from F.shape H.hash O.meaning 0 ops → floor ≡ floor_of O.meaning ops → IfOk result (λ root. root ≡ root_of F.shape H.hash O.meaning ops) }
+    ensures root { (ops : List O) → leaves.now ≡ leaves_from F.shape H.hash O.meaning 0 ops →
+        floor ≡ floor_of O.meaning ops → IfOk result (λ root. root ≡ root_of F.shape H.hash O.meaning ops) }
     ensures memory { IsOkUnless result CodecError.Memory }
 {
     let hasher = Standard::<H>::new(Bagging::ForwardFold);

@@ -2,7 +2,7 @@
 ghost use Rattle.std.specs.Prelude.{◌≡◌};
 ghost use Rattle.volume_base.specs.Log.{Log, end_of};
 ghost use Rattle.log_model.specs.Opening.{last_kept};
-ghost use Rattle.log_model.specs.Sizes.{first_at_least};
+ghost use Rattle.log_model.specs.AppliedSizes.{first_at_least};
 
 /// The index of the first size that is at least this; their number where none is.
 pub fn first_at_least(sizes: &[u64], least: u64) -> u64

@@ -8,7 +8,7 @@ use Rattle.std.proofs.lemmas.Option.{same_Some}
 use Rattle.chain_core.specs.Slots as slots
 use Rattle.chain_core.specs.Slots.{holds_of}
 use Rattle.chain_core.specs.declared.pool.HeldBatch.{HeldBatch}
-use Rattle.log_model.specs.Batches as batches
+use Rattle.log_model.specs.StateBatches as batches
 use Rattle.log_model.specs.Good.{AreAppends}
 use Rattle.log_model.specs.Machine.{max_leaves}
 use Rattle.log_model.specs.Reach.{names, is_child, link_bound}

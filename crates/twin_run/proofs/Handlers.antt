@@ -8,33 +8,35 @@ use Rattle.std.proofs.lemmas.List.{set-get_or}
 use Rattle.std.proofs.lemmas.Option.{none-some, same_Some, cond_some}
 use Rattle.chain_core.specs.Slots as slots
 use Rattle.chain_core.specs.Slots.{holds_of}
-use Rattle.chain_core.specs.Sealing.{states_of, MaySeal, MayNotSeal}
+use Rattle.chain_core.specs.Sealing.{is_at, place_refusal}
 use Rattle.chain_core.specs.declared.commitment.Commitment.{Commitment}
-use Rattle.chain_core.specs.declared.error.Error.{Error}
-use Rattle.chain_core.specs.declared.error.Error.TheVariants as chain_error
-use Rattle.chain_core.specs.declared.error.Error.TheVariants.{Merkle}
 use Rattle.chain_core.specs.declared.place.Place.{Place}
-use Rattle.tree_store.specs.declared.error.Error.TheVariants as tree_error
 use Rattle.chain_core.specs.declared.pool.HeldBatch.{HeldBatch}
 use Rattle.tree_shape.specs.declared.mmr.Mmr.{Mmr}
 use Rattle.tree_shape.specs.declared.sha256.Sha256Digest.{Sha256Digest}
-use Rattle.log_model.specs.Batches as batches
-use Rattle.log_model.specs.Batches.{is_held}
+use Rattle.log_model.specs.StateBatches as batches
+use Rattle.log_model.specs.StateBatches.{is_held}
 use Rattle.log_model.specs.Machine.{State, SameTest, batch_at, begun, applied, with_batch, max_leaves}
+use Rattle.log_model.specs.Refusals.{seal_refusal}
 use Rattle.log_model.specs.Reach.{stands_on, may_seal, may_apply, floor_below, sealed_here, effective_boundary, reach, tips_of}
 use Rattle.op_codec.specs.declared.keyless.Operation.TheVariants.{Append, Commit}
 use Rattle.command_text.specs.declared.command.Answer.{Answer}
 use Rattle.command_text.specs.declared.command.Answer.TheVariants as answer
 use Rattle.log_model.specs.declared.refusal.Refusal.{Refusal}
 use Rattle.log_model.specs.declared.refusal.Refusal.TheVariants.{StaleBatch, LocationOverflow}
-use Rattle.twin_run.specs.Operation.{Operation, meaning}
-use Rattle.twin_run.specs.Step.{Outcome, refused, lost, begin_on, append_to, seal_refusal, metadata_length, done_sealing, seal, apply, hold}
+use Rattle.twin_run.specs.Operation.{Operation, meaning, sha, one_list}
+use Rattle.twin_run.specs.Told.{IsTold}
+use Rattle.twin_run.specs.Step as step
+use Rattle.twin_run.specs.Step.{Outcome, refused, lost, begin_on, append_to, metadata_length, done_sealing, seal, apply, hold}
 use Rattle.twin_run.specs.Lists.{list_at, lists_in, count_in}
 use Rattle.chain_core.specs.Reached.{item_at}
 use Rattle.twin_run.specs.Pool.{Slot, Slots}
 use Rattle.chain_core.specs.States.{sizes}
+use Rattle.chain_core.proofs.StateLemmas.{stands_there}
+use Rattle.tree_shape.specs.Mmr.{mmr}
+use Rattle.tree_shape.specs.Sha256Codec.{bytes_of}
 use Rattle.twin_run.specs.Commitments.{commitment_of, same_state, IsStateIn, AreStatesIn, AreBounds}
-use Rattle.twin_run.specs.StateOf.{IsSealedOf, if_held, held_in, IsStateOf, place_refusal, Meets}
+use Rattle.twin_run.specs.StateOf.{IsSealedOf, if_held, held_in, IsStateOf, Meets}
 use Rattle.twin_run.specs.declared.batch.Batch.{Batch}
 use Rattle.twin_run.specs.declared.batch.Batch.TheVariants.{Unsealed, Sealed, Gone}
 use Rattle.twin_run.specs.declared.batch.SealedBatch.{SealedBatch}
@@ -59,47 +61,15 @@ stands_same one s xs ys m n ms ns e f g = rw (e, f, g) refl
 
 module _ (s : State Operation) (w : batches.UnsealedBatch Operation) (base : List Operation) (list : base ≡ w.list) (place : Place Mmr Sha256Digest) (current : Commitment Mmr Sha256Digest) (now : current ≡ commitment_of s.ops)
     (boundary_in : IsStateIn base place.boundary) (tips_in : AreStatesIn base place.ancestors) (boundary_is : place.boundary.size ≡ effective_boundary s w) (tips_are : sizes place.ancestors ≡ tips_of (reach s w))
-    (start_is : place.floor ≡ floor_below meaning s w) (floor tip : ℕ) (tip_is : tip ≡ batches.size_of w + 1) where
-  -- the place tells whether the batch may be sealed here
-  place_decides : Decides (may_seal same_state s w) (Contains (states_of place) current)
-  place_decides =
-      let d = stands_decides s base place.boundary place.ancestors boundary_in tips_in in
-      subst (λ (t : Bool). Decides t (Contains (states_of place) current)) (stands_same same_state s base w.list place.boundary.size (effective_boundary s w) (sizes place.ancestors) (tips_of (reach s w)) list boundary_is tips_are)
-      (subst (λ (c : Commitment Mmr Sha256Digest). Decides (stands_on same_state s base place.boundary.size (sizes place.ancestors)) (Contains (states_of place) c)) (sym now) d)
-
-  stale : (t : Bool) → may_seal same_state s w ≡ t → (Contains (states_of place) current → ⊥) → may_seal same_state s w ≡ false
-  stale true e none = absurd (none (place_decides.0 e))
-  stale false e none = e
-
-  room : tip ≤ 2 ^ 62 → nat_lt max_leaves (batches.size_of w + 1) ≡ false
-  room few = lt_false max_leaves (batches.size_of w + 1) (omega (arith, tip_is, few))
-
-  at : tip - 1 ≡ batches.size_of w
-  at = omega (arith, tip_is)
-
-  pub sealed_at : MaySeal (states_of place) current tip place.floor floor → None ≡ seal_refusal same_state s w floor
-  sealed_at m =
-      let may : may_seal same_state s w ≡ true = place_decides.1 m.stands in
-      let below : nat_lt floor (floor_below meaning s w) ≡ false = lt_false floor (floor_below meaning s w) (omega (arith, m.rises, start_is)) in
-      let within : nat_lt (batches.size_of w) floor ≡ false = lt_false (batches.size_of w) floor (omega (arith, m.within, at)) in
-      rw (may, room m.few, below, within) refl
-
-  pub refused_at : (e : Error Mmr) → MayNotSeal (states_of place) current tip place.floor floor e → Some (place_refusal e) ≡ seal_refusal same_state s w floor
-  refused_at chain_error.StaleBatch n = rw (stale (may_seal same_state s w) refl n) refl
-  refused_at (Merkle (tree_error.LocationOverflow l)) n =
-      let may : may_seal same_state s w ≡ true = place_decides.1 n.0 in
-      let full : nat_lt max_leaves (batches.size_of w + 1) ≡ true = lt_true max_leaves (batches.size_of w + 1) (omega (arith, tip_is, n.1)) in
-      rw (may, full, n.2, tip_is) refl
-  refused_at (chain_error.FloorRegressed f g) n =
-      let may : may_seal same_state s w ≡ true = place_decides.1 n.0 in
-      let below : nat_lt floor (floor_below meaning s w) ≡ true = lt_true floor (floor_below meaning s w) (omega (arith, n.2, start_is)) in
-      rw (may, room n.1, below, n.3, n.4, start_is) refl
-  refused_at (chain_error.FloorBeyondSize f c) n =
-      let may : may_seal same_state s w ≡ true = place_decides.1 n.0 in
-      let below : nat_lt floor (floor_below meaning s w) ≡ false = lt_false floor (floor_below meaning s w) (omega (arith, n.2, start_is)) in
-      let past : nat_lt (batches.size_of w) floor ≡ true = lt_true (batches.size_of w) floor (omega (arith, n.3, at)) in
-      rw (may, room n.1, below, past, n.4, n.5, at) refl
-  refused_at e n = absurd n
+    (start_is : place.floor ≡ floor_below meaning s w) (floor size : ℕ) (size_is : size ≡ batches.size_of w) where
+  -- its place refuses a seal exactly where the state does
+  pub place_refuses : place_refusal bytes_of place current size floor ≡ seal_refusal same_state meaning s w floor
+  place_refuses =
+      let stands : is_at bytes_of current (place.boundary ∷ place.ancestors) ≡ may_seal same_state s w =
+      ap (λ (c : Commitment Mmr Sha256Digest). is_at bytes_of c (place.boundary ∷ place.ancestors)) now
+      ∙ stands_there mmr sha meaning s base place.boundary place.ancestors boundary_in tips_in
+      ∙ stands_same same_state s base w.list place.boundary.size (effective_boundary s w) (sizes place.ancestors) (tips_of (reach s w)) list boundary_is tips_are in
+      rw (stands, size_is, start_is) refl
 
 -- ---- batches that the caller holds
 
@@ -114,15 +84,19 @@ held_some (Sealed j) k e =
     lt_is n e = grind (arith, nat_tests)
 held_some Gone k e = absurd (none-some k e)
 
-module _ (one : SameTest Operation) (s : State Operation) (b : ℕ) where
+-- where size and root tell the lists of a state, they tell why a seal is refused
+pub seal_told : (s : State Operation) → IsTold s → (b : ℕ) (w : batches.UnsealedBatch Operation) → batch_at s b ≡ batches.Unsealed w → (floor : ℕ) → seal_refusal same_state meaning s w floor ≡ step.seal_refusal s w floor
+seal_told s told b w is floor = rw (told.seals b w is) refl
+
+module _ (s : State Operation) (b : ℕ) where
   module _ (c : batches.SealedBatch Operation) (held : is_held c ≡ true) where
     pub begin_held : begin_on s b (batches.Sealed c) ≡ (answer.Batch (length s.batches), begun s (Some b) c.list)
     begin_held = rw held refl
 
-    pub apply_stale : may_apply one s c ≡ false → apply one s b (batches.Sealed c) ≡ refused s StaleBatch
+    pub apply_stale : may_apply one_list s c ≡ false → apply s b (batches.Sealed c) ≡ refused s StaleBatch
     apply_stale stale = rw (held, stale) refl
 
-    pub apply_done : may_apply one s c ≡ true → apply one s b (batches.Sealed c) ≡ (answer.Applied, applied s c)
+    pub apply_done : may_apply one_list s c ≡ true → apply s b (batches.Sealed c) ≡ (answer.Applied, applied s c)
     apply_done stands = rw (held, stands) refl
 
     pub hold_done : hold s b (batches.Sealed c) ≡ (answer.Done, with_batch s b (batches.Sealed (batches.with_hold c)))
@@ -138,10 +112,10 @@ module _ (one : SameTest Operation) (s : State Operation) (b : ℕ) where
     append_done limit v short few = rw (lt_false limit (length v) short, le_false max_leaves (batches.size_of w) few) refl
 
     module _ (limit : ℕ) (metadata : Option (List ℕ)) (floor : ℕ) where
-      pub seal_lost : metadata_length metadata ≤ limit → (refusal : Refusal) → seal_refusal one s w floor ≡ Some refusal → seal one limit s b metadata floor (batches.Unsealed w) ≡ lost s b refusal
+      pub seal_lost : metadata_length metadata ≤ limit → (refusal : Refusal) → step.seal_refusal s w floor ≡ Some refusal → seal limit s b metadata floor (batches.Unsealed w) ≡ lost s b refusal
       seal_lost short refusal why = rw (lt_false limit (metadata_length metadata) short, why) refl
 
-      pub seal_done : metadata_length metadata ≤ limit → seal_refusal one s w floor ≡ None → seal one limit s b metadata floor (batches.Unsealed w) ≡ done_sealing s b (sealed_here s w (Commit metadata floor) floor)
+      pub seal_done : metadata_length metadata ≤ limit → step.seal_refusal s w floor ≡ None → seal limit s b metadata floor (batches.Unsealed w) ≡ done_sealing s b (sealed_here s w (Commit metadata floor) floor)
       seal_done short why = rw (lt_false limit (metadata_length metadata) short, why) refl
 
 -- ---- what the pool keeps
@@ -201,8 +175,21 @@ module _ (m : Machine) (s : State Operation) (k : IsStateOf m s) (b : ℕ) where
     item_tips : t.batch.tips ≡ sizes x.bounds.ancestors
     item_tips = let e = held_item in (t.is.item e.0 e.1).tips ∙ ap (λ (y : SealedBatch). sizes y.bounds.ancestors) e.2
 
-    pub item_applies : (one : SameTest Operation) → stands_on one s (list_at (lists_in m.history) x.list) x.bounds.db.size (sizes x.bounds.ancestors) ≡ may_apply one s t.batch
-    item_applies one = rw (item_list, item_boundary, item_tips) refl
+    -- its list becomes the log's
+    pub item_applied : IsStateOf (record m { head = x.list }) (applied s t.batch)
+    item_applied = record {
+      log = record { history = k.log.history; head = item_there };
+      start = k.start;
+      ops = item_list;
+      batches = k.batches;
+      few = k.few;
+    }
+
+    -- where size and root tell the lists of the state, it may be applied where they say so
+    pub item_applies : IsTold s → stands_on same_state s (list_at (lists_in m.history) x.list) x.bounds.db.size (sizes x.bounds.ancestors) ≡ may_apply one_list s t.batch
+    item_applies told =
+        stands_same same_state s (list_at (lists_in m.history) x.list) t.batch.list x.bounds.db.size t.batch.boundary (sizes x.bounds.ancestors) t.batch.tips (sym item_list) (sym item_boundary) (sym item_tips)
+        ∙ told.applies b t.batch t.machine
 
 -- a batch that is put in its own place
 pub set_same : (bs : List Batch) (b : ℕ) (x : Batch) → get_or bs b Gone ≡ x → set bs b x ≡ bs

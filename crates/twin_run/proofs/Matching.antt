@@ -10,7 +10,7 @@ use Rattle.std.proofs.lemmas.Option.{none-some, same_Some, slice_get_read, get_o
 use Rattle.chain_core.specs.Slots as slots
 use Rattle.chain_core.specs.Slots.{holds_of, IsAlive}
 use Rattle.chain_core.specs.declared.pool.HeldBatch.{HeldBatch}
-use Rattle.log_model.specs.Batches as batches
+use Rattle.log_model.specs.StateBatches as batches
 use Rattle.log_model.specs.Reach.{names, is_child}
 use Rattle.twin_run.specs.Operation.{Operation}
 use Rattle.twin_run.specs.Lists.{list_at, lists_in, count_in, Extends}

@@ -1,7 +1,7 @@
 -- Names that are told apart differ.
 use Rattle.std.proofs.Common.{◌≡◌, ◌≢◌, ℕ, Bool, true, false, ◌||◌, List, refl, sym, ◌∙◌}
 use Rattle.std.specs.Cmp.Lexicographic.{bytes_decides}
-use Rattle.twin_run.specs.Names.{same_name, are_names_same}
+use Rattle.twin_run.specs.ConfigNames.{same_name, are_names_same}
 
 told_apart : (a b : List ℕ) → same_name a b ≡ false → (a ≡ b → ⊥)
 told_apart a b e is = absurd (let never : false ≡ true = sym e ∙ (bytes_decides a b).1 is in cc)

@@ -10,7 +10,7 @@ use Rattle.chain_core.specs.declared.commitment.Commitment.{Commitment}
 use Rattle.chain_core.specs.declared.pool.HeldBatch.{HeldBatch}
 use Rattle.tree_shape.specs.declared.mmr.Mmr.{Mmr}
 use Rattle.tree_shape.specs.declared.sha256.Sha256Digest.{Sha256Digest}
-use Rattle.log_model.specs.Batches as batches
+use Rattle.log_model.specs.StateBatches as batches
 use Rattle.log_model.specs.Machine.{State, batch_at}
 use Rattle.log_model.specs.Operations.{floor_of}
 use Rattle.log_model.specs.Reach as model

@@ -1,15 +1,16 @@
 -- Each step keeps a state good.
-use Rattle.std.proofs.Common.{◌≡◌, ℕ, zero, suc, ◌+◌, ◌-◌, ◌<◌, ◌≤◌, false, List, [], ◌∷◌, length, get_or, Option, Some, None, refl, arith}
+use Rattle.std.proofs.Common.{◌≡◌, ℕ, zero, suc, ◌+◌, ◌-◌, ◌<◌, ◌≤◌, false, List, [], ◌∷◌, length, drop, get_or, Option, Some, None, refl, ◌∙◌, ap, subst, arith}
 use Rattle.std.specs.Prelude.{nat_lt, nat_le, slice_set, IfSome, Contains, Result, Ok, Err}
 use Rattle.std.specs.List.{flat_map}
 use Rattle.std.proofs.lemmas.Bool.Decides.{nat_tests}
+use Rattle.std.proofs.lemmas.List.{drop_more}
 use Rattle.std.proofs.lemmas.List.Elements.{Contains-append_left, Contains-append_right}
-use Rattle.log_model.specs.Batches.{Batch, UnsealedBatch, SealedBatch, Unsealed, Sealed, Gone, size_of, appended, is_held}
+use Rattle.log_model.specs.StateBatches.{Batch, UnsealedBatch, SealedBatch, Unsealed, Sealed, Gone, size_of, appended, is_held}
 use Rattle.log_model.specs.Good.{AnyList, IsGood}
 use Rattle.log_model.specs.Machine.{State, max_leaves, batch_at, with_batch, begun, fresh, applied, committed, synced, pruned, snapshot_taken, sealed_list, lists_here}
 use Rattle.log_model.specs.Operations.{floor_of}
 use Rattle.log_model.specs.Reach.{may_apply, sealed_here}
-use Rattle.log_model.specs.Sealing.{prune_refusal}
+use Rattle.log_model.specs.Refusals.{prune_refusal}
 use Rattle.log_model.proofs.GoodLemmas.{good_lost, good_with_append, good_with_holds, good_begun, good_begun_after, good_snapshot_taken}
 use Rattle.log_model.proofs.LogLemmas.{good_committed, good_synced, good_pruned}
 use Rattle.log_model.proofs.StoredLemmas.{good_fresh}
@@ -21,7 +22,8 @@ use Rattle.command_text.specs.declared.command.Command.{Command}
 use Rattle.command_text.specs.declared.command.Command.TheVariants as command
 use Rattle.log_model.specs.declared.refusal.Refusal.{Refusal}
 use Rattle.twin_run.specs.Step.{Outcome, step, begin, begin_on, append_to, seal_refusal, metadata_length, sealed_or_lost, seal, apply, hold, release, answered, unless, batch_get, batch_get_many, prune, prune_unless, plain_commit}
-use Rattle.twin_run.specs.Trace.{state_after, lists_passed, fresh_state}
+use Rattle.twin_run.specs.Told.{IsTold, StatesAreTold}
+use Rattle.twin_run.specs.Trace.{state_after, lists_passed, fresh_state, HasNoClash}
 use Rattle.twin_run.specs.GoodRuns.{IsGoodState, HasLists, StepsStayGood, RunsAreGood}
 use Rattle.twin_run.proofs.RunLaws.{either}
 
@@ -64,20 +66,20 @@ module _ (among : List Operation → Type 0) (limit : ℕ) (s : State Operation)
   abbrev StaysKnown : Outcome → Type 0
   StaysKnown o = HasLists among o.1 → Stays o
 
-  ended_good : (b : ℕ) (metadata : Option (List ℕ)) (floor : ℕ) (u : UnsealedBatch Operation) (why : Option Refusal) → seal_refusal one_list s u floor ≡ why → batch_at s b ≡ Unsealed u → metadata_length metadata ≤ limit
+  ended_good : (b : ℕ) (metadata : Option (List ℕ)) (floor : ℕ) (u : UnsealedBatch Operation) (why : Option Refusal) → seal_refusal s u floor ≡ why → batch_at s b ≡ Unsealed u → metadata_length metadata ≤ limit
       → StaysKnown (sealed_or_lost s b u metadata floor why)
   ended_good b metadata floor u (Some refusal) e is short known = stays (with_batch s b Gone) g.some (good_lost meaning among (Allowed limit) plain_commit s b u g.good is)
   ended_good b metadata floor u None e is short known =
       let c : SealedBatch Operation = sealed_here s u (Commit metadata floor) floor in
       stays (with_batch s b (Sealed c)) g.some (good_sealed_here meaning same_operation operation_decide among (Allowed limit) plain_commit s b u (Commit metadata floor) floor (known c.list (has_sealed s b u c is)) g.good is refl (allowed_metadata metadata short) e)
 
-  pub seal_good : (b : ℕ) (metadata : Option (List ℕ)) (floor : ℕ) (x : Batch Operation) → batch_at s b ≡ x → StaysKnown (seal one_list limit s b metadata floor x)
+  pub seal_good : (b : ℕ) (metadata : Option (List ℕ)) (floor : ℕ) (x : Batch Operation) → batch_at s b ≡ x → StaysKnown (seal limit s b metadata floor x)
   seal_good b metadata floor (Unsealed u) is = either StaysKnown (nat_lt limit (metadata_length metadata)) _ _ (λ e known. g)
-      (λ e. ended_good b metadata floor u (seal_refusal one_list s u floor) refl is (not_lt limit (metadata_length metadata) e))
+      (λ e. ended_good b metadata floor u (seal_refusal s u floor) refl is (not_lt limit (metadata_length metadata) e))
   seal_good b metadata floor (Sealed c) is = λ known. g
   seal_good b metadata floor Gone is = λ known. g
 
-  pub apply_good : (b : ℕ) (x : Batch Operation) → batch_at s b ≡ x → Stays (apply one_list s b x)
+  pub apply_good : (b : ℕ) (x : Batch Operation) → batch_at s b ≡ x → Stays (apply s b x)
   apply_good b (Sealed c) is = either Stays (is_held c) _ _ (λ h. either Stays (may_apply one_list s c) _ _ (λ e.
       stays (applied s c) g.some (good_applied_here meaning same_operation operation_decide among (Allowed limit) plain_commit s b c g.some g.good is e)) (λ e. g)) (λ h. g)
   apply_good b (Unsealed u) is = g
@@ -115,12 +117,12 @@ module _ (among : List Operation → Type 0) (limit : ℕ) (s : State Operation)
   unless_good None a = g
   unless_good (Some r) a = g
 
-  pub batch_get_good : (b l : ℕ) (x : Batch Operation) → Stays (batch_get one_list s b l x)
+  pub batch_get_good : (b l : ℕ) (x : Batch Operation) → Stays (batch_get s b l x)
   batch_get_good b l (Unsealed u) = answered_good _ _
   batch_get_good b l (Sealed c) = either Stays (is_held c) _ _ (λ h. answered_good _ _) (λ h. g)
   batch_get_good b l Gone = g
 
-  pub batch_get_many_good : (b : ℕ) (ls : List ℕ) (x : Batch Operation) → Stays (batch_get_many one_list s b ls x)
+  pub batch_get_many_good : (b : ℕ) (ls : List ℕ) (x : Batch Operation) → Stays (batch_get_many s b ls x)
   batch_get_many_good b ls (Unsealed u) = answered_good _ _
   batch_get_many_good b ls (Sealed c) = either Stays (is_held c) _ _ (λ h. answered_good _ _) (λ h. g)
   batch_get_many_good b ls Gone = g
@@ -144,8 +146,8 @@ module _ (among : List Operation → Type 0) (limit : ℕ) (s : State Operation)
   prune_good log_blob witness_blob l = prune_good_where log_blob witness_blob l (prune_refusal meaning s l) refl
 
 -- a step after which each list is one of these keeps a good state
-pub stay_good_among : (among : List Operation → Type 0) (limit : ℕ) (s : State Operation) (c : Command) → HasLists among (step one_list limit s c).1 → IsGoodState among limit s
-    → IsGoodState among limit (step one_list limit s c).1
+stay_good_among : (among : List Operation → Type 0) (limit : ℕ) (s : State Operation) (c : Command) → HasLists among (step limit s c).1 → IsGoodState among limit s
+    → IsGoodState among limit (step limit s c).1
 stay_good_among among limit s (command.New parent) known g = begin_good among limit s g parent
 stay_good_among among limit s (command.Append b v) known g = append_good among limit s g b v (batch_at s b) refl
 stay_good_among among limit s (command.Seal b metadata floor) known g = seal_good among limit s g b metadata floor (batch_at s b) refl known
@@ -182,18 +184,18 @@ stay_good limit = record {
 -- ---- and so does a run
 
 -- the lists of a state are among those that a run passes from it on
-pub here_passed : (limit : ℕ) (s : State Operation) (cs : List Command) → HasLists (Contains (lists_passed one_list limit s cs)) s
+here_passed : (limit : ℕ) (s : State Operation) (cs : List Command) → HasLists (Contains (lists_passed limit s cs)) s
 here_passed limit s [] list has = has
-here_passed limit s (c ∷ cs) list has = Contains-append_left (lists_here s) (lists_passed one_list limit (step one_list limit s c).1 cs) list has
+here_passed limit s (c ∷ cs) list has = Contains-append_left (lists_here s) (lists_passed limit (step limit s c).1 cs) list has
 
 -- those that it passes from the next state on are among them
-pub later_passed : (limit : ℕ) (s : State Operation) (c : Command) (cs : List Command) (list : List Operation)
-    → Contains (lists_passed one_list limit (step one_list limit s c).1 cs) list → Contains (lists_passed one_list limit s (c ∷ cs)) list
-later_passed limit s c cs list has = Contains-append_right (lists_here s) (lists_passed one_list limit (step one_list limit s c).1 cs) list has
+later_passed : (limit : ℕ) (s : State Operation) (c : Command) (cs : List Command) (list : List Operation)
+    → Contains (lists_passed limit (step limit s c).1 cs) list → Contains (lists_passed limit s (c ∷ cs)) list
+later_passed limit s c cs list has = Contains-append_right (lists_here s) (lists_passed limit (step limit s c).1 cs) list has
 
-run_good : (limit : ℕ) (s : State Operation) (cs : List Command) → IsGoodState AnyList limit s → IsGoodState AnyList limit (state_after one_list limit s cs)
+run_good : (limit : ℕ) (s : State Operation) (cs : List Command) → IsGoodState AnyList limit s → IsGoodState AnyList limit (state_after limit s cs)
 run_good limit s [] g = g
-run_good limit s (c ∷ cs) g = run_good limit (step one_list limit s c).1 cs (stay_good_among AnyList limit s c (λ list has. tt) g)
+run_good limit s (c ∷ cs) g = run_good limit (step limit s c).1 cs (stay_good_among AnyList limit s c (λ list has. tt) g)
 
 -- the state in which a fresh volume is opened is good among any lists that hold its own
 fresh_good_among : (among : List Operation → Type 0) (limit : ℕ) → among (plain_commit ∷ []) → IsGoodState among limit fresh_state
@@ -202,8 +204,38 @@ fresh_good_among among limit known = record {
   some = omega arith;
 }
 
-pub fresh_good : (limit : ℕ) (cs : List Command) → IsGoodState (Contains (lists_passed one_list limit fresh_state cs)) limit fresh_state
-fresh_good limit cs = fresh_good_among (Contains (lists_passed one_list limit fresh_state cs)) limit (here_passed limit fresh_state cs (plain_commit ∷ []) (0, omega arith, refl))
-
 pub are_good : RunsAreGood
 are_good limit cs = run_good limit fresh_state cs (fresh_good_among AnyList limit tt)
+
+-- ---- a run on its way
+
+-- a state that a run of all these commands reaches, with some of them left: it is good among the lists that the run passes, and from it on the run
+-- passes no others
+pub record IsOnWay (limit : ℕ) (all : List Command) (s : State Operation) (left : List Command) : Type 0 where
+  pub good : IsGoodState (Contains (lists_passed limit fresh_state all)) limit s
+  pub known : (list : List Operation) → Contains (lists_passed limit s left) list → Contains (lists_passed limit fresh_state all) list
+
+pub way_begins : (limit : ℕ) (all : List Command) → IsOnWay limit all fresh_state all
+way_begins limit all = record {
+  good = fresh_good_among (Contains (lists_passed limit fresh_state all)) limit (here_passed limit fresh_state all (plain_commit ∷ []) (0, omega arith, refl));
+  known = λ list has. has;
+}
+
+way_goes : (limit : ℕ) (all : List Command) (s : State Operation) (c : Command) (left : List Command) → IsOnWay limit all s (c ∷ left) → IsOnWay limit all (step limit s c).1 left
+way_goes limit all s c left way =
+    let next : State Operation = (step limit s c).1 in
+    let later : (list : List Operation) → Contains (lists_passed limit next left) list → Contains (lists_passed limit fresh_state all) list = λ list has. way.known list (later_passed limit s c left list has) in
+    record {
+      good = stay_good_among (Contains (lists_passed limit fresh_state all)) limit s c (λ list has. later list (here_passed limit next left list has)) way.good;
+      known = later;
+    }
+
+-- the next of the commands
+pub way_next : (limit : ℕ) (all : List Command) (s : State Operation) (i : ℕ) (c : Command) → i < length all → get_or all i c ≡ c → IsOnWay limit all s (drop i all) → IsOnWay limit all (step limit s c).1 (drop (i + 1) all)
+way_next limit all s i c lt is way =
+    way_goes limit all s c (drop (i + 1) all) (subst (IsOnWay limit all s) (drop_more all i c lt ∙ ap (λ (x : Command). x ∷ drop (i + 1) all) is) way)
+
+-- where nothing clashes, size and root tell the lists of the state
+pub way_told : (limit : ℕ) (all : List Command) (s : State Operation) (left : List Command) → StatesAreTold limit → HasNoClash limit all → IsOnWay limit all s left → IsTold s
+unfolding HasNoClash
+way_told limit all s left law clear way = law (lists_passed limit fresh_state all) s clear way.good

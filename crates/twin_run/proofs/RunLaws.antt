@@ -1,27 +1,22 @@
 -- The laws of whole runs.
 use Rattle.std.proofs.Common.{◌≡◌, ℕ, zero, suc, ◌+◌, ◌<◌, ◌≤◌, Bool, true, false, cond, List, [], ◌∷◌, ◌++◌, length, take, get_or, Option, Some, None, refl, sym, ap, subst, arith}
-use Rattle.std.specs.Prelude.{◌==◌, nat_eq, nat_lt, nat_le, slice_get, unwrap_or}
-use Rattle.std.specs.Cmp.{first_so}
-use Rattle.std.specs.Cmp.Lexicographic.{pointwise}
+use Rattle.std.specs.Prelude.{nat_lt, nat_le, slice_get, unwrap_or}
 use Rattle.std.specs.List.Sorted.{IsNonDecreasingBy}
-use Rattle.std.proofs.lemmas.Bool.Decides.{Decides-eqb}
 use Rattle.std.proofs.lemmas.Option.{same_Some}
-use Rattle.log_model.specs.Batches.{Batch, UnsealedBatch, Unsealed, Sealed, Gone, size_of, is_held}
-use Rattle.log_model.specs.Machine.{State, SameTest, max_leaves, batch_at, with_batch}
+use Rattle.log_model.specs.StateBatches.{Batch, UnsealedBatch, Unsealed, Sealed, Gone, size_of, is_held}
+use Rattle.log_model.specs.Machine.{State, max_leaves, batch_at, with_batch}
 use Rattle.log_model.specs.Reach.{may_seal, may_apply, floor_below}
 use Rattle.log_model.proofs.ReachLemmas.{lists_decide, not_longer}
 use Rattle.twin_run.specs.Operation.{Operation, meaning, operation_decide, one_list, same_operation}
-use Rattle.tree_shape.specs.Sha256Codec.{bytes_of}
 use Rattle.command_text.specs.declared.command.Command.{Command}
 use Rattle.command_text.specs.declared.command.Command.TheVariants as command
 use Rattle.command_text.specs.declared.command.Answer.TheVariants as answer
 use Rattle.log_model.specs.declared.refusal.Refusal.{Refusal}
 use Rattle.command_text.specs.declared.command.Reply.{Reply}
-use Rattle.log_model.specs.Sealing.{floor_refusal}
+use Rattle.log_model.specs.Refusals.{floor_refusal}
 use Rattle.twin_run.specs.Step.{Outcome, root_of_list, step, reply, begin, begin_on, append_to, seal_refusal, metadata_length, sealed_or_lost, seal, apply, hold, release}
-use Rattle.twin_run.specs.Commitments.{same_state}
 use Rattle.twin_run.specs.Trace.{trace, replies_from, state_after, fresh_state}
-use Rattle.twin_run.specs.Laws.{TellsLengths, SizesNeverFall, TestsTellLengths, TellsList, RepliesTellLists, RunsContinue, loses_batch, RefusalsKeep}
+use Rattle.twin_run.specs.Laws.{SizesNeverFall, TellsList, RepliesTellLists, RunsContinue, loses_batch, RefusalsKeep}
 
 -- what holds of both choices holds of the one that a test makes
 pub either : (P : Outcome → Type 0) (b : Bool) (x y : Outcome) → (b ≡ true → P x) → (b ≡ false → P y) → P (cond b x y)
@@ -33,6 +28,10 @@ either_why P true x y p q = p refl
 either_why P false x y p q = q refl
 
 -- ---- sizes
+
+-- lists that are one have one length
+list_lengths : (first second : List Operation) → one_list first second ≡ true → length first ≡ length second
+list_lengths first second e = ap length ((lists_decide same_operation operation_decide first second).0 e)
 
 abbrev Grows : State Operation → Outcome → Type 0
 Grows s o = length s.ops ≤ length o.1.ops
@@ -46,15 +45,15 @@ ended_grows : (s : State Operation) (b : ℕ) (u : UnsealedBatch Operation) (met
 ended_grows s b u metadata floor (Some refusal) = omega arith
 ended_grows s b u metadata floor None = omega arith
 
-seal_grows : (one : SameTest Operation) (limit : ℕ) (s : State Operation) (b : ℕ) (metadata : Option (List ℕ)) (floor : ℕ) (x : Batch Operation) → Grows s (seal one limit s b metadata floor x)
-seal_grows one limit s b metadata floor (Unsealed u) = either (Grows s) (nat_lt limit (metadata_length metadata)) _ _ (λ e. omega arith) (λ e. ended_grows s b u metadata floor (seal_refusal one s u floor))
-seal_grows one limit s b metadata floor (Sealed c) = omega arith
-seal_grows one limit s b metadata floor Gone = omega arith
+seal_grows : (limit : ℕ) (s : State Operation) (b : ℕ) (metadata : Option (List ℕ)) (floor : ℕ) (x : Batch Operation) → Grows s (seal limit s b metadata floor x)
+seal_grows limit s b metadata floor (Unsealed u) = either (Grows s) (nat_lt limit (metadata_length metadata)) _ _ (λ e. omega arith) (λ e. ended_grows s b u metadata floor (seal_refusal s u floor))
+seal_grows limit s b metadata floor (Sealed c) = omega arith
+seal_grows limit s b metadata floor Gone = omega arith
 
-apply_grows : (one : SameTest Operation) → TellsLengths one → (s : State Operation) (b : ℕ) (x : Batch Operation) → Grows s (apply one s b x)
-apply_grows one tells s b (Sealed c) = either (Grows s) (is_held c) _ _ (λ h. either (Grows s) (may_apply one s c) _ _ (λ e. not_longer one tells s c.list c.boundary c.tips e) (λ e. omega arith)) (λ h. omega arith)
-apply_grows one tells s b (Unsealed u) = omega arith
-apply_grows one tells s b Gone = omega arith
+apply_grows : (s : State Operation) (b : ℕ) (x : Batch Operation) → Grows s (apply s b x)
+apply_grows s b (Sealed c) = either (Grows s) (is_held c) _ _ (λ h. either (Grows s) (may_apply one_list s c) _ _ (λ e. not_longer one_list list_lengths s c.list c.boundary c.tips e) (λ e. omega arith)) (λ h. omega arith)
+apply_grows s b (Unsealed u) = omega arith
+apply_grows s b Gone = omega arith
 
 hold_grows : (s : State Operation) (b : ℕ) (x : Batch Operation) → Grows s (hold s b x)
 hold_grows s b (Sealed c) = either (Grows s) (is_held c) _ _ (λ h. omega arith) (λ h. omega arith)
@@ -75,47 +74,36 @@ begin_grows : (s : State Operation) (parent : Option ℕ) → Grows s (begin s p
 begin_grows s None = omega arith
 begin_grows s (Some p) = begin_grows_on s p (batch_at s p)
 
-step_grows : (one : SameTest Operation) → TellsLengths one → (limit : ℕ) (s : State Operation) (c : Command) → Grows s (step one limit s c)
-step_grows one tells limit s (command.New parent) = begin_grows s parent
-step_grows one tells limit s (command.Append b v) = append_grows limit s b v (batch_at s b)
-step_grows one tells limit s (command.Seal b metadata floor) = seal_grows one limit s b metadata floor (batch_at s b)
-step_grows one tells limit s (command.Apply b) = apply_grows one tells s b (batch_at s b)
-step_grows one tells limit s (command.Hold b) = hold_grows s b (batch_at s b)
-step_grows one tells limit s (command.Release b) = release_grows s b (batch_at s b)
-step_grows one tells limit s command.Snapshot = omega arith
-step_grows one tells limit s command.Size = omega arith
-step_grows one tells limit s command.Metadata = omega arith
+step_grows : (limit : ℕ) (s : State Operation) (c : Command) → Grows s (step limit s c)
+step_grows limit s (command.New parent) = begin_grows s parent
+step_grows limit s (command.Append b v) = append_grows limit s b v (batch_at s b)
+step_grows limit s (command.Seal b metadata floor) = seal_grows limit s b metadata floor (batch_at s b)
+step_grows limit s (command.Apply b) = apply_grows s b (batch_at s b)
+step_grows limit s (command.Hold b) = hold_grows s b (batch_at s b)
+step_grows limit s (command.Release b) = release_grows s b (batch_at s b)
+step_grows limit s command.Snapshot = omega arith
+step_grows limit s command.Size = omega arith
+step_grows limit s command.Metadata = omega arith
 
 -- no later reply tells a smaller size
-later_larger : (one : SameTest Operation) → TellsLengths one → (limit : ℕ) (s : State Operation) (cs : List Command) (j : ℕ) (d : Reply) → j < length (replies_from one limit s cs) → length s.ops ≤ (get_or (replies_from one limit s cs) j d).size
-later_larger one tells limit s [] j d lt = absurd (omega arith)
-later_larger one tells limit s (c ∷ cs) zero d lt = step_grows one tells limit s c
-later_larger one tells limit s (c ∷ cs) (suc j) d lt = let now = step_grows one tells limit s c in let rest = later_larger one tells limit (step one limit s c).1 cs j d (omega arith) in omega (arith, now, rest)
+later_larger : (limit : ℕ) (s : State Operation) (cs : List Command) (j : ℕ) (d : Reply) → j < length (replies_from limit s cs) → length s.ops ≤ (get_or (replies_from limit s cs) j d).size
+later_larger limit s [] j d lt = absurd (omega arith)
+later_larger limit s (c ∷ cs) zero d lt = step_grows limit s c
+later_larger limit s (c ∷ cs) (suc j) d lt = let now = step_grows limit s c in let rest = later_larger limit (step limit s c).1 cs j d (omega arith) in omega (arith, now, rest)
 
-never_fall_from : (one : SameTest Operation) → TellsLengths one → (limit : ℕ) (s : State Operation) (cs : List Command) → IsNonDecreasingBy (λ (r : Reply). r.size) (replies_from one limit s cs)
-never_fall_from one tells limit s [] i j d le lt = absurd (omega arith)
-never_fall_from one tells limit s (c ∷ cs) zero zero d le lt = omega arith
-never_fall_from one tells limit s (c ∷ cs) zero (suc j) d le lt = later_larger one tells limit (step one limit s c).1 cs j d (omega arith)
-never_fall_from one tells limit s (c ∷ cs) (suc i) zero d le lt = absurd (omega arith)
-never_fall_from one tells limit s (c ∷ cs) (suc i) (suc j) d le lt = never_fall_from one tells limit (step one limit s c).1 cs i j d (omega arith) (omega arith)
+never_fall_from : (limit : ℕ) (s : State Operation) (cs : List Command) → IsNonDecreasingBy (λ (r : Reply). r.size) (replies_from limit s cs)
+never_fall_from limit s [] i j d le lt = absurd (omega arith)
+never_fall_from limit s (c ∷ cs) zero zero d le lt = omega arith
+never_fall_from limit s (c ∷ cs) zero (suc j) d le lt = later_larger limit (step limit s c).1 cs j d (omega arith)
+never_fall_from limit s (c ∷ cs) (suc i) zero d le lt = absurd (omega arith)
+never_fall_from limit s (c ∷ cs) (suc i) (suc j) d le lt = never_fall_from limit (step limit s c).1 cs i j d (omega arith) (omega arith)
 
 pub never_fall : SizesNeverFall
 unfolding trace
-never_fall one tells limit cs zero zero d le lt = omega arith
-never_fall one tells limit cs zero (suc j) d le lt = later_larger one tells limit fresh_state cs j d (omega arith)
-never_fall one tells limit cs (suc i) zero d le lt = absurd (omega arith)
-never_fall one tells limit cs (suc i) (suc j) d le lt = never_fall_from one tells limit fresh_state cs i j d (omega arith) (omega arith)
-
--- lists with one size have one length, and so does a list with itself
-state_lengths : TellsLengths same_state
-state_lengths first second e =
-    (Decides-eqb (length first) (length second)).0 (first_so (length first == length second) (pointwise nat_eq (bytes_of (root_of_list first)) (bytes_of (root_of_list second))) e)
-
-list_lengths : TellsLengths one_list
-list_lengths first second e = ap length ((lists_decide same_operation operation_decide first second).0 e)
-
-pub tests_tell : TestsTellLengths
-tests_tell = (state_lengths, list_lengths)
+never_fall limit cs zero zero d le lt = omega arith
+never_fall limit cs zero (suc j) d le lt = later_larger limit fresh_state cs j d (omega arith)
+never_fall limit cs (suc i) zero d le lt = absurd (omega arith)
+never_fall limit cs (suc i) (suc j) d le lt = never_fall_from limit fresh_state cs i j d (omega arith) (omega arith)
 
 -- ---- what replies tell
 
@@ -125,25 +113,25 @@ some_is a b e = ap (λ o. unwrap_or o a) e
 this_tells : (o : Outcome) (r : Reply) → Some (reply o) ≡ Some r → TellsList r o.1.ops
 this_tells o r e = subst (λ (x : Reply). TellsList x o.1.ops) (some_is (reply o) r e) (record { size = refl; full = refl; compact = refl })
 
-tell_from : (one : SameTest Operation) (limit : ℕ) (s : State Operation) (cs : List Command) (i : ℕ) (r : Reply) → slice_get (replies_from one limit s cs) i ≡ Some r → TellsList r (state_after one limit s (take (suc i) cs)).ops
-tell_from one limit s [] i r e = absurd (cc)
-tell_from one limit s (c ∷ cs) zero r e = this_tells (step one limit s c) r e
-tell_from one limit s (c ∷ cs) (suc i) r e = tell_from one limit (step one limit s c).1 cs i r e
+tell_from : (limit : ℕ) (s : State Operation) (cs : List Command) (i : ℕ) (r : Reply) → slice_get (replies_from limit s cs) i ≡ Some r → TellsList r (state_after limit s (take (suc i) cs)).ops
+tell_from limit s [] i r e = absurd (cc)
+tell_from limit s (c ∷ cs) zero r e = this_tells (step limit s c) r e
+tell_from limit s (c ∷ cs) (suc i) r e = tell_from limit (step limit s c).1 cs i r e
 
 pub tell_lists : RepliesTellLists
 unfolding trace
-tell_lists one limit cs zero r e = this_tells (answer.Opened 1 0, fresh_state) r e
-tell_lists one limit cs (suc i) r e = tell_from one limit fresh_state cs i r e
+tell_lists limit cs zero r e = this_tells (answer.Opened 1 0, fresh_state) r e
+tell_lists limit cs (suc i) r e = tell_from limit fresh_state cs i r e
 
 -- ---- runs that continue
 
-continue_from : (one : SameTest Operation) (limit : ℕ) (s : State Operation) (cs ds : List Command) → replies_from one limit s (cs ++ ds) ≡ replies_from one limit s cs ++ replies_from one limit (state_after one limit s cs) ds
-continue_from one limit s [] ds = refl
-continue_from one limit s (c ∷ cs) ds = ap (λ (rs : List Reply). reply (step one limit s c) ∷ rs) (continue_from one limit (step one limit s c).1 cs ds)
+continue_from : (limit : ℕ) (s : State Operation) (cs ds : List Command) → replies_from limit s (cs ++ ds) ≡ replies_from limit s cs ++ replies_from limit (state_after limit s cs) ds
+continue_from limit s [] ds = refl
+continue_from limit s (c ∷ cs) ds = ap (λ (rs : List Reply). reply (step limit s c) ∷ rs) (continue_from limit (step limit s c).1 cs ds)
 
 pub continues : RunsContinue
 unfolding trace
-continues one limit cs ds = ap (λ (rs : List Reply). reply (answer.Opened 1 0, fresh_state) ∷ rs) (continue_from one limit fresh_state cs ds)
+continues limit cs ds = ap (λ (rs : List Reply). reply (answer.Opened 1 0, fresh_state) ∷ rs) (continue_from limit fresh_state cs ds)
 
 -- ---- refusals
 
@@ -156,10 +144,10 @@ append_stays limit s b v (Unsealed u) = either (Stays s) (nat_lt limit (length v
 append_stays limit s b v (Sealed d) = λ r is. refl
 append_stays limit s b v Gone = λ r is. refl
 
-apply_stays : (one : SameTest Operation) (s : State Operation) (b : ℕ) (x : Batch Operation) → Stays s (apply one s b x)
-apply_stays one s b (Sealed d) = either (Stays s) (is_held d) _ _ (λ h. either (Stays s) (may_apply one s d) _ _ (λ e r is. absurd (cc)) (λ e r is. refl)) (λ h r is. refl)
-apply_stays one s b (Unsealed u) = λ r is. refl
-apply_stays one s b Gone = λ r is. refl
+apply_stays : (s : State Operation) (b : ℕ) (x : Batch Operation) → Stays s (apply s b x)
+apply_stays s b (Sealed d) = either (Stays s) (is_held d) _ _ (λ h. either (Stays s) (may_apply one_list s d) _ _ (λ e r is. absurd (cc)) (λ e r is. refl)) (λ h r is. refl)
+apply_stays s b (Unsealed u) = λ r is. refl
+apply_stays s b Gone = λ r is. refl
 
 hold_stays : (s : State Operation) (b : ℕ) (x : Batch Operation) → Stays s (hold s b x)
 hold_stays s b (Sealed d) = either (Stays s) (is_held d) _ _ (λ h r is. absurd (cc)) (λ h r is. refl)
@@ -195,8 +183,8 @@ floor_loses : (below floor location : ℕ) → Loses (floor_refusal below floor 
 floor_loses below floor location = either_why Loses (nat_lt floor below) _ _ (λ e x is. told_loses _ x is refl)
     (λ e. either_why Loses (nat_lt location floor) _ _ (λ f x is. told_loses _ x is refl) (λ f x is. absurd (cc)))
 
-seal_loses : (one : SameTest Operation) (s : State Operation) (u : UnsealedBatch Operation) (floor : ℕ) → Loses (seal_refusal one s u floor)
-seal_loses one s u floor = either_why Loses (may_seal one s u) _ _
+seal_loses : (s : State Operation) (u : UnsealedBatch Operation) (floor : ℕ) → Loses (seal_refusal s u floor)
+seal_loses s u floor = either_why Loses (may_seal one_list s u) _ _
     (λ e. either_why Loses (nat_lt max_leaves (size_of u + 1)) _ _ (λ f x is. told_loses _ x is refl) (λ f. floor_loses (floor_below meaning s u) floor (size_of u)))
     (λ e x is. told_loses _ x is refl)
 
@@ -212,19 +200,19 @@ ended_loses : (s : State Operation) (b : ℕ) (metadata : Option (List ℕ)) (fl
 ended_loses s b metadata floor u (Some refusal) loses = λ r is. rw (sym (same_why refusal r is), loses refusal refl) refl
 ended_loses s b metadata floor u None loses = λ r is. absurd (cc)
 
-seal_loses_or_stays : (one : SameTest Operation) (limit : ℕ) (s : State Operation) (b : ℕ) (metadata : Option (List ℕ)) (floor : ℕ) (x : Batch Operation) → LosesOrStays s b (seal one limit s b metadata floor x)
-seal_loses_or_stays one limit s b metadata floor (Unsealed u) = either (LosesOrStays s b) (nat_lt limit (metadata_length metadata)) _ _
-    (λ e r is. stays_why s (with_batch s b Gone) _ r is refl) (λ e. ended_loses s b metadata floor u (seal_refusal one s u floor) (seal_loses one s u floor))
-seal_loses_or_stays one limit s b metadata floor (Sealed c) = λ r is. stays_why s (with_batch s b Gone) _ r is refl
-seal_loses_or_stays one limit s b metadata floor Gone = λ r is. stays_why s (with_batch s b Gone) _ r is refl
+seal_loses_or_stays : (limit : ℕ) (s : State Operation) (b : ℕ) (metadata : Option (List ℕ)) (floor : ℕ) (x : Batch Operation) → LosesOrStays s b (seal limit s b metadata floor x)
+seal_loses_or_stays limit s b metadata floor (Unsealed u) = either (LosesOrStays s b) (nat_lt limit (metadata_length metadata)) _ _
+    (λ e r is. stays_why s (with_batch s b Gone) _ r is refl) (λ e. ended_loses s b metadata floor u (seal_refusal s u floor) (seal_loses s u floor))
+seal_loses_or_stays limit s b metadata floor (Sealed c) = λ r is. stays_why s (with_batch s b Gone) _ r is refl
+seal_loses_or_stays limit s b metadata floor Gone = λ r is. stays_why s (with_batch s b Gone) _ r is refl
 
 pub keep : RefusalsKeep
-keep one limit s (command.New parent) r is = begin_stays s parent r is
-keep one limit s (command.Append b v) r is = append_stays limit s b v (batch_at s b) r is
-keep one limit s (command.Seal b metadata floor) r is = seal_loses_or_stays one limit s b metadata floor (batch_at s b) r is
-keep one limit s (command.Apply b) r is = apply_stays one s b (batch_at s b) r is
-keep one limit s (command.Hold b) r is = hold_stays s b (batch_at s b) r is
-keep one limit s (command.Release b) r is = release_stays s b (batch_at s b) r is
-keep one limit s command.Snapshot r is = absurd (cc)
-keep one limit s command.Size r is = absurd (cc)
-keep one limit s command.Metadata r is = absurd (cc)
+keep limit s (command.New parent) r is = begin_stays s parent r is
+keep limit s (command.Append b v) r is = append_stays limit s b v (batch_at s b) r is
+keep limit s (command.Seal b metadata floor) r is = seal_loses_or_stays limit s b metadata floor (batch_at s b) r is
+keep limit s (command.Apply b) r is = apply_stays s b (batch_at s b) r is
+keep limit s (command.Hold b) r is = hold_stays s b (batch_at s b) r is
+keep limit s (command.Release b) r is = release_stays s b (batch_at s b) r is
+keep limit s command.Snapshot r is = absurd (cc)
+keep limit s command.Size r is = absurd (cc)
+keep limit s command.Metadata r is = absurd (cc)

@@ -13,7 +13,7 @@ use Rattle.chain_core.specs.declared.place.Place.{Place}
 use Rattle.chain_core.specs.declared.pool.HeldBatch.{HeldBatch}
 use Rattle.tree_shape.specs.declared.mmr.Mmr.{Mmr}
 use Rattle.tree_shape.specs.declared.sha256.Sha256Digest.{Sha256Digest}
-use Rattle.log_model.specs.Batches as batches
+use Rattle.log_model.specs.StateBatches as batches
 use Rattle.log_model.specs.Machine.{State, SameTest, batch_at, max_leaves}
 use Rattle.log_model.specs.Operations.{floor_of}
 use Rattle.log_model.specs.Reach.{may_seal, sealed_here}
@@ -22,7 +22,7 @@ use Rattle.log_model.specs.declared.refusal.Refusal.{Refusal}
 use Rattle.tree_shape.specs.Mmr.{mmr}
 use Rattle.twin_run.specs.Operation.{Operation, meaning, sha}
 use Rattle.twin_run.specs.Commitments.{commitment_of, IsStateIn, AreStatesIn, AreBounds}
-use Rattle.twin_run.specs.Step.{seal_refusal}
+use Rattle.log_model.specs.Refusals.{seal_refusal}
 use Rattle.twin_run.specs.Lists.{list_at, lists_in, count_in, Extends}
 use Rattle.chain_core.specs.Slots.{link_released}
 use Rattle.twin_run.specs.Pool.{Slots}
@@ -49,7 +49,7 @@ seal_few-if false b x z y e = absurd (none-some z (sym e))
 not_above : (m n : ℕ) → nat_lt m n ≡ false → n ≤ m
 not_above m n e = grind (arith, nat_tests)
 
-pub seal_few : (one : SameTest Operation) (s : State Operation) (w : batches.UnsealedBatch Operation) (floor : ℕ) → seal_refusal one s w floor ≡ None → batches.size_of w + 1 ≤ max_leaves
+pub seal_few : (one : SameTest Operation) (s : State Operation) (w : batches.UnsealedBatch Operation) (floor : ℕ) → seal_refusal one meaning s w floor ≡ None → batches.size_of w + 1 ≤ max_leaves
 seal_few one s w floor e = not_above max_leaves (batches.size_of w + 1) (seal_few-if (may_seal one s w) (nat_lt max_leaves (batches.size_of w + 1)) _ _ _ e)
 
 -- ---- a seal

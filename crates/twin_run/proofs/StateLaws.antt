@@ -1,4 +1,4 @@
--- Where nothing clashes, sizes and roots tell the lists of a run.
+-- Where nothing clashes, size and root tell the lists of a good state.
 use Rattle.std.proofs.Common.{◌≡◌, ℕ, zero, suc, ◌+◌, ◌^◌, ◌<◌, ◌≤◌, true, List, [], ◌∷◌, length, take, Option, Some, None, refl, ◌∙◌, ap, subst, arith}
 use Rattle.std.specs.Prelude.{unwrap_or, IfSome, Contains}
 use Rattle.std.specs.List.{AllByRecursion}
@@ -9,7 +9,7 @@ use Rattle.tree_shape.specs.Mmr.{mmr}
 use Rattle.tree_shape.specs.Sha256Codec.{bytes_of}
 use Rattle.tree_shape.specs.declared.sha256.Sha256Digest.{Sha256Digest}
 use Rattle.log_model.specs.Hashed.{NoClash}
-use Rattle.log_model.specs.Batches.{Batch, Unsealed, Sealed, Gone}
+use Rattle.log_model.specs.StateBatches.{UnsealedBatch, SealedBatch, Unsealed, Sealed}
 use Rattle.log_model.specs.Machine.{State, batch_at}
 use Rattle.log_model.specs.Reach.{effective_boundary, tips_of, reach, stands_on, may_seal, may_apply}
 use Rattle.log_model.proofs.ReachLemmas.{AllAgree, lists_decide, marks_here, stands_agree}
@@ -17,17 +17,11 @@ use Rattle.log_model.specs.Good.{FloorFits, FloorsRise, ValuesAre, IsGoodList, I
 use Rattle.op_codec.specs.Keyless.{parts, variable_admits}
 use Rattle.op_codec.specs.declared.keyless.Operation.TheVariants.{Append, Commit}
 use Rattle.chain_core.specs.Commitments.{is_same-exact, is_same_equivalence}
-use Rattle.command_text.specs.declared.command.Command.{Command}
-use Rattle.command_text.specs.declared.command.Command.TheVariants as command
-use Rattle.command_text.specs.declared.command.Answer.TheVariants as answer
-use Rattle.command_text.specs.declared.command.Reply.{Reply}
 use Rattle.twin_run.specs.Operation.{Operation, meaning, operation_decide, sha, one_list, same_operation}
-use Rattle.twin_run.specs.Step.{Outcome, root_of_list, plain_commit, step, reply, seal, apply}
+use Rattle.twin_run.specs.Step.{root_of_list, plain_commit}
 use Rattle.twin_run.specs.Commitments.{commitment_of, same_state}
-use Rattle.twin_run.specs.Trace.{trace, replies_from, lists_passed, fresh_state, HasNoClash}
 use Rattle.twin_run.specs.GoodRuns.{IsGoodState}
-use Rattle.twin_run.specs.Laws.{StatesTellLists}
-use Rattle.twin_run.proofs.RunGood.{stay_good_among, here_passed, later_passed, fresh_good}
+use Rattle.twin_run.specs.Told.{StatesAreTold}
 
 abbrev Allowed : ℕ → List ℕ → Type 0
 Allowed limit v = length v ≤ limit
@@ -53,7 +47,7 @@ all_take P zero ops all = tt
 all_take P (suc n) [] all = tt
 all_take P (suc n) (op ∷ ops) all = (all.0, all_take P n ops all.1)
 
--- ---- sizes and roots tell two lists of the run
+-- ---- size and root tell two lists of the run
 
 -- what the law of clashes says of the run's operations
 abbrev pub RootsTellLists : ℕ → Type 0
@@ -116,51 +110,17 @@ module _ (limit : ℕ) (small : limit < 2 ^ 64) (law : RootsTellLists limit) (li
         → stands_on same_state s list boundary tips ≡ stands_on one_list s list boundary tips
     stand_same list boundary tips good mark marks = stands_agree same_state one_list s list boundary tips (mark_agrees list boundary good mark) (marks_agree list tips good marks)
 
-    -- ---- and each command does the same by both
-
-    seal_same : (b : ℕ) (metadata : Option (List ℕ)) (floor : ℕ) (x : Batch Operation) → batch_at s b ≡ x → seal same_state limit s b metadata floor x ≡ seal one_list limit s b metadata floor x
-    seal_same b metadata floor (Unsealed u) is =
+    seals_same : (b : ℕ) (u : UnsealedBatch Operation) → batch_at s b ≡ Unsealed u → may_seal same_state s u ≡ may_seal one_list s u
+    seals_same b u is =
         let good : IsGoodBatch meaning Among (Allowed limit) plain_commit (Unsealed u) = subst (IsGoodBatch meaning Among (Allowed limit) plain_commit) is (g.good.batches b) in
         let marks = marks_here meaning Among (Allowed limit) plain_commit s g.good b u is in
-        let e : may_seal same_state s u ≡ may_seal one_list s u = stand_same u.list (effective_boundary s u) (tips_of (reach s u)) good.0 marks.0 marks.1 in
-        rw e refl
-    seal_same b metadata floor (Sealed c) is = refl
-    seal_same b metadata floor Gone is = refl
+        stand_same u.list (effective_boundary s u) (tips_of (reach s u)) good.0 marks.0 marks.1
 
-    apply_same : (b : ℕ) (x : Batch Operation) → batch_at s b ≡ x → apply same_state s b x ≡ apply one_list s b x
-    apply_same b (Sealed c) is =
+    applies_same : (b : ℕ) (c : SealedBatch Operation) → batch_at s b ≡ Sealed c → may_apply same_state s c ≡ may_apply one_list s c
+    applies_same b c is =
         let good : IsGoodBatch meaning Among (Allowed limit) plain_commit (Sealed c) = subst (IsGoodBatch meaning Among (Allowed limit) plain_commit) is (g.good.batches b) in
-        let e : may_apply same_state s c ≡ may_apply one_list s c = stand_same c.list c.boundary c.tips good.0 good.2 good.3 in
-        rw e refl
-    apply_same b (Unsealed u) is = refl
-    apply_same b Gone is = refl
+        stand_same c.list c.boundary c.tips good.0 good.2 good.3
 
-    step_same : (c : Command) → step same_state limit s c ≡ step one_list limit s c
-    step_same (command.New parent) = refl
-    step_same (command.Append b v) = refl
-    step_same (command.Seal b metadata floor) = seal_same b metadata floor (batch_at s b) refl
-    step_same (command.Apply b) = apply_same b (batch_at s b) refl
-    step_same (command.Hold b) = refl
-    step_same (command.Release b) = refl
-    step_same command.Snapshot = refl
-    step_same command.Size = refl
-    step_same command.Metadata = refl
-
-  -- ---- and so does a run
-
-  replies_same : (s : State Operation) (cs : List Command) → IsGoodState Among limit s → ((list : List Operation) → Contains (lists_passed one_list limit s cs) list → Among list)
-      → replies_from same_state limit s cs ≡ replies_from one_list limit s cs
-  replies_same s [] g known = refl
-  replies_same s (c ∷ cs) g known =
-      let next : State Operation = (step one_list limit s c).1 in
-      let later : (list : List Operation) → Contains (lists_passed one_list limit next cs) list → Among list = λ list has. known list (later_passed limit s c cs list has) in
-      let good : IsGoodState Among limit next = stay_good_among Among limit s c (λ list has. later list (here_passed limit next cs list has)) g in
-      ap (λ (o : Outcome). reply o ∷ replies_from same_state limit o.1 cs) (step_same s g c)
-      ∙ ap (λ (rs : List Reply). reply (step one_list limit s c) ∷ rs) (replies_same next cs good later)
-
--- where nothing clashes, sizes and roots tell the lists of a run
-pub states_tell : (limit : ℕ) → limit < 2 ^ 64 → RootsTellLists limit → StatesTellLists limit
-unfolding trace HasNoClash
-states_tell limit small law cs none =
-    let lists : List (List Operation) = lists_passed one_list limit fresh_state cs in
-    ap (λ (rs : List Reply). reply (answer.Opened 1 0, fresh_state) ∷ rs) (replies_same limit small law lists none fresh_state cs (fresh_good limit cs) (λ list has. has))
+-- where nothing clashes, size and root tell the lists of a good state
+pub are_told : (limit : ℕ) → limit < 2 ^ 64 → RootsTellLists limit → StatesAreTold limit
+are_told limit small law lists s none g = record { seals = seals_same limit small law lists none s g; applies = applies_same limit small law lists none s g }

@@ -5,7 +5,7 @@ use Rattle.chain_core.specs.Slots.{IsAlive}
 use Rattle.chain_core.specs.declared.commitment.Commitment.{Commitment}
 use Rattle.tree_shape.specs.declared.mmr.Mmr.{Mmr}
 use Rattle.tree_shape.specs.declared.sha256.Sha256Digest.{Sha256Digest}
-use Rattle.log_model.specs.Batches as batches
+use Rattle.log_model.specs.StateBatches as batches
 use Rattle.log_model.specs.Machine.{State, batch_at}
 use Rattle.log_model.specs.Operations.{floor_of}
 use Rattle.twin_run.specs.Operation.{Operation, meaning}
@@ -14,7 +14,9 @@ use Rattle.chain_core.specs.declared.place.Place.{Place}
 use Rattle.twin_run.specs.Commitments.{commitment_of, IsStateIn}
 use Rattle.twin_run.specs.Lists.{list_at, lists_in}
 use Rattle.twin_run.specs.Pool.{bounds_of}
-use Rattle.twin_run.specs.StateOf.{IsStateOf, IsKept, IsUnsealedOf, IsUnsealedIn, IsUnsealedHere, IsPlace}
+use Rattle.command_text.specs.declared.command.Answer.{Answer}
+use Rattle.twin_run.specs.Step.{Outcome}
+use Rattle.twin_run.specs.StateOf.{IsStateOf, IsKept, Follows, FollowsTold, IsUnsealedOf, IsUnsealedIn, IsUnsealedHere, IsPlace}
 use Rattle.twin_run.specs.declared.batch.Batch.TheVariants.{Unsealed, Gone}
 use Rattle.twin_run.specs.declared.batch.UnsealedBatch.{UnsealedBatch}
 use Rattle.twin_run.specs.declared.machine.Machine.{Machine}
@@ -66,3 +68,9 @@ unsealed_in m s k b u at =
 
 pub unsealed_here : (m : Machine) → IsKept m → (b : ℕ) (u : UnsealedBatch) → get_or m.batches.items b Gone ≡ Unsealed u → IsUnsealedHere m u
 unsealed_here m k b u at = let w = unsealed_in m k.0 k.1 b u at in (k.0, w.0, w.1)
+
+-- ---- steps
+
+-- what follows each state follows those of which size and root tell the lists
+pub follows_told : (step : State Operation → Outcome) (old new : Machine) (a : Answer) → IsKept old → Follows step old new a → FollowsTold step old new a
+follows_told step old new a kept follows = record { kept = ((step kept.0).1, (follows kept.0 kept.1).1); told = λ s told k. follows s k }

@@ -1,6 +1,6 @@
 -- What a configuration holds, and which ones are refused.
 use Rattle.std.specs.Prelude.{◌≢◌, ℕ, Bool, ◌==◌, ◌||◌, nat_lt, List, Option, Some, None, codes, if◌then◌else◌}
-use Rattle.twin_run.specs.Names.{are_names_same}
+use Rattle.twin_run.specs.ConfigNames.{are_names_same}
 use Rattle.twin_run.specs.declared.config.ConfigError.{ConfigError}
 use Rattle.twin_run.specs.declared.config.ConfigError.TheVariants.{ZeroBlob, ZeroBatch, SameName, ValueLimit}
 

@@ -3,7 +3,7 @@ use Rattle.std.specs.Prelude.{ℕ, ◌≤◌, List, Option, length, Contains}
 use Rattle.log_model.specs.Good as good
 use Rattle.log_model.specs.Good.{AnyList}
 use Rattle.log_model.specs.Machine.{State, batch_at, lists_here}
-use Rattle.twin_run.specs.Operation.{Operation, meaning, one_list}
+use Rattle.twin_run.specs.Operation.{Operation, meaning}
 use Rattle.command_text.specs.declared.command.Command.{Command}
 use Rattle.twin_run.specs.Step.{Outcome, plain_commit, begin, append_to, seal, apply, hold, release, snapshot, get, get_many, batch_get, batch_get_many, size, metadata, prove, prove_commit, commit, sync, start_sync, prune}
 use Rattle.twin_run.specs.Trace.{state_after, fresh_state}
@@ -20,19 +20,19 @@ HasLists among s = (list : List Operation) → Contains (lists_here s) list → 
 abbrev pub StaysGood : ℕ → (State Operation → Outcome) → Type 0
 StaysGood limit f = (s : State Operation) → IsGoodState AnyList limit s → IsGoodState AnyList limit (f s).1
 
--- So does each kind of step, where lists are told by their operations.
+-- So does each kind of step.
 pub record EachStaysGood (limit : ℕ) : Type 0 where
   pub new : (parent : Option ℕ) → StaysGood limit (λ s. begin s parent)
   pub append : (b : ℕ) (v : List ℕ) → StaysGood limit (λ s. append_to limit s b v (batch_at s b))
-  pub seal : (b : ℕ) (m : Option (List ℕ)) (floor : ℕ) → StaysGood limit (λ s. seal one_list limit s b m floor (batch_at s b))
-  pub apply : (b : ℕ) → StaysGood limit (λ s. apply one_list s b (batch_at s b))
+  pub seal : (b : ℕ) (m : Option (List ℕ)) (floor : ℕ) → StaysGood limit (λ s. seal limit s b m floor (batch_at s b))
+  pub apply : (b : ℕ) → StaysGood limit (λ s. apply s b (batch_at s b))
   pub hold : (b : ℕ) → StaysGood limit (λ s. hold s b (batch_at s b))
   pub release : (b : ℕ) → StaysGood limit (λ s. release s b (batch_at s b))
   pub snapshot : StaysGood limit snapshot
   pub get : (l : ℕ) → StaysGood limit (λ s. get s l)
   pub get_many : (ls : List ℕ) → StaysGood limit (λ s. get_many s ls)
-  pub batch_get : (b l : ℕ) → StaysGood limit (λ s. batch_get one_list s b l (batch_at s b))
-  pub batch_get_many : (b : ℕ) (ls : List ℕ) → StaysGood limit (λ s. batch_get_many one_list s b ls (batch_at s b))
+  pub batch_get : (b l : ℕ) → StaysGood limit (λ s. batch_get s b l (batch_at s b))
+  pub batch_get_many : (b : ℕ) (ls : List ℕ) → StaysGood limit (λ s. batch_get_many s b ls (batch_at s b))
   pub size : StaysGood limit size
   pub metadata : StaysGood limit metadata
   pub proof : (n a count : ℕ) → StaysGood limit (λ s. prove s n a count)
@@ -45,6 +45,6 @@ pub record EachStaysGood (limit : ℕ) : Type 0 where
 abbrev pub StepsStayGood : Type 0
 StepsStayGood = (limit : ℕ) → EachStaysGood limit
 
--- So each state of a run that tells lists by their operations is good.
+-- So each state of a run is good.
 abbrev pub RunsAreGood : Type 0
-RunsAreGood = (limit : ℕ) (cs : List Command) → IsGoodState AnyList limit (state_after one_list limit fresh_state cs)
+RunsAreGood = (limit : ℕ) (cs : List Command) → IsGoodState AnyList limit (state_after limit fresh_state cs)

@@ -1,9 +1,9 @@
 -- Laws of whole runs, and of a refusal.
 use Rattle.std.specs.Prelude.{◌≡◌, ℕ, Bool, true, false, List, ◌++◌, length, take, slice_get, Some, if◌then◌else◌}
 use Rattle.std.specs.List.Sorted.{IsNonDecreasingBy}
-use Rattle.log_model.specs.Batches.{Gone}
-use Rattle.log_model.specs.Machine.{State, SameTest, with_batch}
-use Rattle.twin_run.specs.Operation.{Operation, one_list}
+use Rattle.log_model.specs.StateBatches.{Gone}
+use Rattle.log_model.specs.Machine.{State, with_batch}
+use Rattle.twin_run.specs.Operation.{Operation}
 use Rattle.command_text.specs.declared.command.Command.{Command}
 use Rattle.command_text.specs.declared.command.Command.TheVariants as command
 use Rattle.command_text.specs.declared.command.Answer.TheVariants as answer
@@ -11,24 +11,15 @@ use Rattle.log_model.specs.declared.refusal.Refusal.{Refusal}
 use Rattle.log_model.specs.declared.refusal.Refusal.TheVariants as refusal
 use Rattle.command_text.specs.declared.command.Reply.{Reply}
 use Rattle.twin_run.specs.Step.{step, root_of_list}
-use Rattle.twin_run.specs.Commitments.{same_state}
-use Rattle.twin_run.specs.Trace.{trace, replies_from, state_after, fresh_state, HasNoClash}
+use Rattle.twin_run.specs.Trace.{trace, replies_from, state_after, fresh_state}
 
 -- The list after a run of these commands.
-abbrev pub list_after : SameTest Operation → ℕ → List Command → List Operation
-list_after same limit cs = (state_after same limit fresh_state cs).ops
-
--- Lists that a test takes for one have one length.
-abbrev pub TellsLengths : SameTest Operation → Type 0
-TellsLengths same = (first second : List Operation) → same first second ≡ true → length first ≡ length second
+abbrev pub list_after : ℕ → List Command → List Operation
+list_after limit cs = (state_after limit fresh_state cs).ops
 
 -- The sizes in the replies of a run never fall.
 abbrev pub SizesNeverFall : Type 0
-SizesNeverFall = (same : SameTest Operation) → TellsLengths same → (limit : ℕ) (cs : List Command) → IsNonDecreasingBy (λ (r : Reply). r.size) (trace same limit cs)
-
--- Both tests of the run tell lengths.
-abbrev pub TestsTellLengths : Type 0
-TestsTellLengths = TellsLengths same_state × TellsLengths one_list
+SizesNeverFall = (limit : ℕ) (cs : List Command) → IsNonDecreasingBy (λ (r : Reply). r.size) (trace limit cs)
 
 -- A reply tells the size and the root of a list.
 pub record TellsList (r : Reply) (list : List Operation) : Type 0 where
@@ -38,11 +29,14 @@ pub record TellsList (r : Reply) (list : List Operation) : Type 0 where
 
 -- Each reply of a run tells the list after the commands up to it, and nothing else of them.
 abbrev pub RepliesTellLists : Type 0
-RepliesTellLists = (same : SameTest Operation) (limit : ℕ) (cs : List Command) (i : ℕ) (r : Reply) → slice_get (trace same limit cs) i ≡ Some r → TellsList r (list_after same limit (take i cs))
+RepliesTellLists = (limit : ℕ) (cs : List Command) (i : ℕ) (r : Reply) → slice_get (trace limit cs) i ≡ Some r
+    → TellsList r (list_after limit (take i cs))
 
 -- A run of two lists of commands is the run of the first, continued by the second.
 abbrev pub RunsContinue : Type 0
-RunsContinue = (same : SameTest Operation) (limit : ℕ) (cs ds : List Command) → trace same limit (cs ++ ds) ≡ trace same limit cs ++ replies_from same limit (state_after same limit fresh_state cs) ds
+RunsContinue =
+    (limit : ℕ) (cs ds : List Command) → trace limit (cs ++ ds) ≡ trace limit cs
+    ++ replies_from limit (state_after limit fresh_state cs) ds
 
 -- A seal that is refused for this reason loses its batch.
 abbrev pub loses_batch : Refusal → Bool
@@ -59,8 +53,5 @@ after_refusal s _ r = s
 
 -- A refused command changes nothing; a seal that is refused as stale, for its location or for its floor loses its batch.
 abbrev pub RefusalsKeep : Type 0
-RefusalsKeep = (same : SameTest Operation) (limit : ℕ) (s : State Operation) (c : Command) (r : Refusal) → (step same limit s c).0 ≡ answer.Refused r → (step same limit s c).1 ≡ after_refusal s c r
-
--- Where nothing clashes that is hashed for the lists of a run, it answers the same by sizes and roots as by operations.
-abbrev pub StatesTellLists : ℕ → Type 0
-StatesTellLists limit = (cs : List Command) → HasNoClash limit cs → trace same_state limit cs ≡ trace one_list limit cs
+RefusalsKeep = (limit : ℕ) (s : State Operation) (c : Command) (r : Refusal) → (step limit s c).0 ≡ answer.Refused r
+    → (step limit s c).1 ≡ after_refusal s c r

@@ -1,14 +1,15 @@
-pub mod Names
+pub mod ConfigNames
 pub mod Config
 pub mod Operation
 pub mod Step
 pub mod Commitments
 pub mod Trace
+pub mod GoodRuns
+pub mod Told
 pub mod Lists
 pub mod Pool
 pub mod StateOf
 pub mod Outcome
 pub mod Report
 pub mod Laws
-pub mod GoodRuns
 pub mod Rows

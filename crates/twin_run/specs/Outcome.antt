@@ -14,8 +14,7 @@ use Rattle.line_text.specs.Lines.{lines_of}
 use Rattle.command_text.specs.Grammar.{InputSays}
 use Rattle.command_text.specs.Bad.{IsFirstBad}
 use Rattle.command_text.specs.Text.{text_of}
-use Rattle.twin_run.specs.Commitments.{same_state}
-use Rattle.twin_run.specs.Trace.{trace, IsBegun}
+use Rattle.twin_run.specs.Trace.{trace, HasNoClash, IsBegun}
 
 -- the input was read to its end, and isn't too long
 pub record IsWhole (old new : Option (List ℕ)) : Type 0 where
@@ -36,21 +35,25 @@ pub record IsInput (old new : Option (List ℕ)) (commands : List Command) : Typ
   pub whole : IsWhole old new
   pub said : IfSome old (λ bytes. InputSays bytes commands)
 
--- the replies to these commands, under the program's configuration, by sizes and roots
+-- the replies to these commands, under the program's configuration
 abbrev pub replies_to : List Command → List Reply
-replies_to commands = trace same_state standard_config.value_limit commands
+replies_to commands = trace standard_config.value_limit commands
 
--- the input says commands, and the text of all replies to them was written
+-- nothing clashes that is hashed for the lists of a run of these commands
+abbrev pub IsClear : List Command → Type 0
+IsClear commands = HasNoClash standard_config.value_limit commands
+
+-- the input says commands, and where nothing clashes the text of all replies to them was written
 pub record IsAnswered (left left' written written' : Option (List ℕ)) : Type 0 where
   pub commands : List Command
   pub input : IsInput left left' commands
-  pub wrote : Appends written written' (text_of (replies_to commands))
+  pub wrote : IsClear commands → Appends written written' (text_of (replies_to commands))
 
--- the input says commands, and of the text of all replies to them a front was written
+-- the input says commands, and where nothing clashes a front of the text of all replies to them was written
 pub record IsCutOff (left left' written written' : Option (List ℕ)) : Type 0 where
   pub commands : List Command
   pub input : IsInput left left' commands
-  pub wrote : WritesFront written written' (text_of (replies_to commands))
+  pub wrote : IsClear commands → WritesFront written written' (text_of (replies_to commands))
 
 -- the text of the first of these replies, which are not all, was written, or a front of it where the sink failed
 pub record WritesSoFar (old new : Option (List ℕ)) (faults faults' : ℕ) (replies : List Reply) : Type 0 where
@@ -58,11 +61,11 @@ pub record WritesSoFar (old new : Option (List ℕ)) (faults faults' : ℕ) (rep
   pub begun : IsBegun so_far replies
   pub wrote : Appends old new (text_of so_far) ⊎ (Rose faults faults' × WritesFront old new (text_of so_far))
 
--- the input says commands, and the text of the first replies to them was written, or a front of it where the sink failed
+-- the input says commands, and where nothing clashes the text of the first replies to them was written, or a front of it where the sink failed
 pub record IsStopped (left left' written written' : Option (List ℕ)) (faults faults' : ℕ) : Type 0 where
   pub commands : List Command
   pub input : IsInput left left' commands
-  pub wrote : WritesSoFar written written' faults faults' (replies_to commands)
+  pub wrote : IsClear commands → WritesSoFar written written' faults faults' (replies_to commands)
 
 -- the program ends before its run
 abbrev pub IsEarly : Status → Type 0
@@ -78,7 +81,8 @@ IsEarly Memory = ⊥
 
 -- why the input isn't read as commands; want of memory may come at any time
 abbrev pub IsReadStatus : Option (List ℕ) → Option (List ℕ) → ℕ → ℕ → Status → Type 0
-IsReadStatus left left' faults faults' (BadLine n) = IsWhole left left' × IfSome left (λ bytes. IsFirstBad (lines_of bytes) n)
+IsReadStatus left left' faults faults' (BadLine n) =
+    IsWhole left left' × IfSome left (λ bytes. IsFirstBad (lines_of bytes) n)
 IsReadStatus left left' faults faults' ReadFault = Rose faults faults'
 IsReadStatus left left' faults faults' TooLong = IfSome left (λ bytes. 16777216 < length bytes)
 IsReadStatus left left' faults faults' Memory = Unit {0}
@@ -89,16 +93,21 @@ IsReadStatus left left' faults faults' Volume = ⊥
 IsReadStatus left left' faults faults' NotFresh = ⊥
 
 -- what a run of these commands has left in a sink, and why it didn't end otherwise
-abbrev pub IsRunStatus : List Command → Option (List ℕ) → Option (List ℕ) → ℕ → ℕ → ℕ → ℕ → Status → Type 0
-IsRunStatus commands written written' faults faults' volume volume' Done = Appends written written' (text_of (replies_to commands))
-IsRunStatus commands written written' faults faults' volume volume' WriteFault = Rose faults faults' × WritesFront written written' (text_of (replies_to commands))
-IsRunStatus commands written written' faults faults' volume volume' Volume = Rose volume volume' × WritesSoFar written written' faults faults' (replies_to commands)
-IsRunStatus commands written written' faults faults' volume volume' NotFresh = WritesSoFar written written' faults faults' (replies_to commands)
-IsRunStatus commands written written' faults faults' volume volume' Memory = WritesSoFar written written' faults faults' (replies_to commands)
-IsRunStatus commands written written' faults faults' volume volume' BadWords = ⊥
-IsRunStatus commands written written' faults faults' volume volume' (BadLine n) = ⊥
-IsRunStatus commands written written' faults faults' volume volume' ReadFault = ⊥
-IsRunStatus commands written written' faults faults' volume volume' TooLong = ⊥
+module _ (commands : List Command) (written written' : Option (List ℕ)) (faults faults' volume volume' : ℕ) where
+  abbrev pub HasWrittenSoFar : Type 0
+  HasWrittenSoFar = IsClear commands → WritesSoFar written written' faults faults' (replies_to commands)
+
+  abbrev pub IsRunStatus : Status → Type 0
+  IsRunStatus Done = IsClear commands → Appends written written' (text_of (replies_to commands))
+  IsRunStatus WriteFault =
+      Rose faults faults' × (IsClear commands → WritesFront written written' (text_of (replies_to commands)))
+  IsRunStatus Volume = Rose volume volume' × HasWrittenSoFar
+  IsRunStatus NotFresh = HasWrittenSoFar
+  IsRunStatus Memory = HasWrittenSoFar
+  IsRunStatus BadWords = ⊥
+  IsRunStatus (BadLine n) = ⊥
+  IsRunStatus ReadFault = ⊥
+  IsRunStatus TooLong = ⊥
 
 -- how the program ends after a fault of its run
 abbrev pub fault_status : Fault → Status

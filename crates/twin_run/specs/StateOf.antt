@@ -1,7 +1,7 @@
 -- What the run keeps in memory, and what it means.
 use Rattle.std.specs.Prelude.{◌≡◌, ℕ, ◌+◌, ◌^◌, ◌<◌, ◌≤◌, nat_lt, List, length, take, slice_index_or, Option, Some, None, if◌then◌else◌}
 use Rattle.std.specs.List.{count_by}
-use Rattle.log_model.specs.Batches as batches
+use Rattle.log_model.specs.StateBatches as batches
 use Rattle.log_model.specs.Good.{AreAppends}
 use Rattle.log_model.specs.Machine.{State, max_leaves, batch_at}
 use Rattle.log_model.specs.Operations.{floor_of}
@@ -14,19 +14,15 @@ use Rattle.chain_core.specs.States.{sizes}
 use Rattle.chain_core.specs.declared.place.Place.{Place}
 use Rattle.chain_core.specs.declared.commitment.Commitment.{Commitment}
 use Rattle.chain_core.specs.declared.pool.HeldBatch.{HeldBatch}
-use Rattle.chain_core.specs.declared.error.Error.{Error}
-use Rattle.chain_core.specs.declared.error.Error.TheVariants as chain_error
-use Rattle.chain_core.specs.declared.error.Error.TheVariants.{Merkle}
 use Rattle.command_text.specs.declared.command.Answer.{Answer}
-use Rattle.log_model.specs.declared.refusal.Refusal.{Refusal}
-use Rattle.log_model.specs.declared.refusal.Refusal.TheVariants.{StaleBatch, LocationOverflow, FloorRegressed, FloorBeyondSize}
-use Rattle.tree_store.specs.declared.error.Error.TheVariants as tree_error
+use Rattle.command_text.specs.declared.command.Reply.{Reply}
 use Rattle.tree_shape.specs.declared.mmr.Mmr.{Mmr}
 use Rattle.tree_shape.specs.declared.sha256.Sha256Digest.{Sha256Digest}
 use Rattle.twin_run.specs.Commitments.{commitment_of, IsStateIn, AreStatesIn, AreBounds}
 use Rattle.twin_run.specs.Lists.{list_at, lists_in, count_in, IsHistory}
 use Rattle.twin_run.specs.Pool.{Slots, bounds_of}
-use Rattle.twin_run.specs.Step.{Outcome}
+use Rattle.twin_run.specs.Step.{Outcome, reply}
+use Rattle.twin_run.specs.Told.{IsTold}
 use Rattle.twin_run.specs.declared.batch.Batch.{Batch}
 use Rattle.twin_run.specs.declared.batch.UnsealedBatch.{UnsealedBatch}
 use Rattle.twin_run.specs.declared.batch.SealedBatch.{SealedBatch}
@@ -43,7 +39,9 @@ length_at lists i = length (list_at lists i)
 -- What a link names was drawn, and where it is alive it has this list.
 abbrev pub LinkList : List (List Operation) → Slots → List Operation → Option ℕ → Type 0
 LinkList lists pool list None = Unit {0}
-LinkList lists pool list (Some id) = (id < length pool) × ((e : HeldBatch SealedBatch) → slots.slot_at pool id ≡ Some e → list_at lists e.item.list ≡ list)
+LinkList lists pool list (Some id) =
+    (id < length pool)
+    × ((e : HeldBatch SealedBatch) → slots.slot_at pool id ≡ Some e → list_at lists e.item.list ≡ list)
 
 -- A batch that is alive is held, and its list is there; its states are in its list, and its parent's list, where that is alive, is the one on which it was made.
 pub record IsKeptItem (h : History) (pool : Slots) (e : HeldBatch SealedBatch) : Type 0 where
@@ -71,7 +69,8 @@ LinkIs bs b None (Some p) = ⊥
 LinkIs bs b (Some id) None = ⊥
 
 -- An unsealed batch in memory, and the list machine's: the list on which it stands is there and is its parent's, and it has appends, and not too many.
-pub record IsUnsealedOf (h : History) (bs : List Batch) (pool : Slots) (b : ℕ) (u : UnsealedBatch) (w : batches.UnsealedBatch Operation) : Type 0 where
+pub record IsUnsealedOf (h : History) (bs : List Batch) (pool : Slots) (b : ℕ) (u : UnsealedBatch)
+    (w : batches.UnsealedBatch Operation) : Type 0 where
   pub there : u.base < count_in h
   pub few : length u.own.items ≤ max_leaves
   pub appends : AreAppends meaning u.own.items
@@ -82,7 +81,8 @@ pub record IsUnsealedOf (h : History) (bs : List Batch) (pool : Slots) (b : ℕ)
   pub parent : LinkList (lists_in h) pool (list_at (lists_in h) u.base) u.parent
 
 -- What the pool keeps of a sealed batch, and the list machine's.
-pub record IsItemOf (lists : List (List Operation)) (bs : List Batch) (b : ℕ) (e : HeldBatch SealedBatch) (c : batches.SealedBatch Operation) : Type 0 where
+pub record IsItemOf (lists : List (List Operation)) (bs : List Batch) (b : ℕ) (e : HeldBatch SealedBatch)
+    (c : batches.SealedBatch Operation) : Type 0 where
   pub list : c.list ≡ list_at lists e.item.list
   pub base : c.base ≡ e.item.bounds.base.size
   pub boundary : c.boundary ≡ e.item.bounds.db.size
@@ -91,7 +91,8 @@ pub record IsItemOf (lists : List (List Operation)) (bs : List Batch) (b : ℕ) 
   pub link : LinkIs bs b e.parent c.parent
 
 -- A sealed batch for the caller, and the list machine's. Its unsealed children and the caller hold it in the pool. The list machine keeps the fields of one that is dead too.
-pub record IsSealedOf (h : History) (bs : List Batch) (pool : Slots) (all : List (batches.Batch Operation)) (b : ℕ) (k : Holding) (c : batches.SealedBatch Operation) : Type 0 where
+pub record IsSealedOf (h : History) (bs : List Batch) (pool : Slots) (all : List (batches.Batch Operation)) (b : ℕ)
+    (k : Holding) (c : batches.SealedBatch Operation) : Type 0 where
   pub holds : c.holds ≡ k.holds
   pub drawn : k.id < length pool
   pub below : link_bound c.parent ≤ b
@@ -99,7 +100,8 @@ pub record IsSealedOf (h : History) (bs : List Batch) (pool : Slots) (all : List
   pub item : (e : HeldBatch SealedBatch) → slots.slot_at pool k.id ≡ Some e → IsItemOf (lists_in h) bs b e c
 
 -- The batch of a number in memory, and the list machine's.
-abbrev pub IsEntryOf : History → List Batch → Slots → List (batches.Batch Operation) → ℕ → Batch → batches.Batch Operation → Type 0
+abbrev pub IsEntryOf : History → List Batch → Slots → List (batches.Batch Operation) → ℕ → Batch
+    → batches.Batch Operation → Type 0
 IsEntryOf h bs pool all b (Unsealed u) (batches.Unsealed w) = IsUnsealedOf h bs pool b u w
 IsEntryOf h bs pool all b (Unsealed u) (batches.Sealed c) = ⊥
 IsEntryOf h bs pool all b (Unsealed u) batches.Gone = ⊥
@@ -112,10 +114,13 @@ IsEntryOf h bs pool all b Gone batches.Gone = Unit {0}
 
 -- No two sealed batches stand in the pool under one number.
 abbrev pub AreApart : List Batch → Type 0
-AreApart bs = (p q : ℕ) (j k : Holding) → slice_index_or bs p Gone ≡ Sealed j → slice_index_or bs q Gone ≡ Sealed k → j.id ≡ k.id → p ≡ q
+AreApart bs =
+    (p q : ℕ) (j k : Holding) → slice_index_or bs p Gone ≡ Sealed j → slice_index_or bs q Gone ≡ Sealed k → j.id ≡ k.id
+    → p ≡ q
 
 -- The batches in memory and in the pool, and the list machine's.
-pub record AreBatchesOf (h : History) (bs : List Batch) (pool : Slots) (all : List (batches.Batch Operation)) : Type 0 where
+pub record AreBatchesOf (h : History) (bs : List Batch) (pool : Slots)
+    (all : List (batches.Batch Operation)) : Type 0 where
   pub count : length all ≡ length bs
   pub each : (b : ℕ) → IsEntryOf h bs pool all b (slice_index_or bs b Gone) (slice_index_or all b batches.Gone)
   pub apart : AreApart bs
@@ -159,9 +164,18 @@ pub record HasRoom (m : Machine) : Type 0 where
 abbrev pub Meets : Outcome → Machine → Answer → Type 0
 Meets o new a = (a ≡ o.0) × IsStateOf new o.1
 
+-- A reply tells an outcome, and the machine after it stands for the state that the outcome leaves.
+abbrev pub RepliesAs : Outcome → Machine → Reply → Type 0
+RepliesAs o new r = (r ≡ reply o) × IsStateOf new o.1
+
 -- For whatever state the machine stood, its answer and what it left are what the list machine makes of that state.
 abbrev pub Follows : (State Operation → Outcome) → Machine → Machine → Answer → Type 0
 Follows step old new a = (s : State Operation) → IsStateOf old s → Meets (step s) new a
+
+-- So for each state of which size and root tell the lists; and whatever they tell, the machine stands for a state again.
+pub record FollowsTold (step : State Operation → Outcome) (old new : Machine) (a : Answer) : Type 0 where
+  pub kept : IsKept new
+  pub told : (s : State Operation) → IsTold s → IsStateOf old s → Meets (step s) new a
 
 -- The sealed batch of a number, where the caller holds it.
 abbrev pub if_held : Batch → Option Holding
@@ -180,7 +194,8 @@ abbrev pub floor_in : History → ℕ → Slots → Option ℕ → ℕ
 floor_in h head pool link = parent_floor bounds_of pool link (floor_of meaning (list_at (lists_in h) head))
 
 -- An unsealed batch in memory is a state's, under the same number.
-pub record IsUnsealedIn (m : Machine) (u : UnsealedBatch) (s : State Operation) (w : batches.UnsealedBatch Operation) : Type 0 where
+pub record IsUnsealedIn (m : Machine) (u : UnsealedBatch) (s : State Operation)
+    (w : batches.UnsealedBatch Operation) : Type 0 where
   pub state : IsStateOf m s
   pub number : ℕ
   pub memory : slice_index_or m.batches.items number Gone ≡ Unsealed u
@@ -189,20 +204,16 @@ pub record IsUnsealedIn (m : Machine) (u : UnsealedBatch) (s : State Operation) 
 abbrev pub IsUnsealedHere : Machine → UnsealedBatch → Type 0
 IsUnsealedHere m u = (s : State Operation) × (w : batches.UnsealedBatch Operation) × IsUnsealedIn m u s w
 
--- The refusal of a seal that an error of a batch's place is.
-abbrev pub place_refusal : Error Mmr → Refusal
-place_refusal (Merkle (tree_error.LocationOverflow size)) = LocationOverflow size
-place_refusal (chain_error.FloorRegressed floor below) = FloorRegressed floor below
-place_refusal (chain_error.FloorBeyondSize floor location) = FloorBeyondSize floor location
-place_refusal _ = StaleBatch
-
 -- Where an unsealed batch may be sealed: the boundary that holds for it and the tips in its reach, which are states of fronts of the list on which it stands, and the floor that it builds on.
 pub record IsPlace (m : Machine) (u : UnsealedBatch) (place : Place Mmr Sha256Digest) : Type 0 where
   pub boundary_in : IsStateIn (list_at (lists_in m.history) u.base) place.boundary
   pub tips_in : AreStatesIn (list_at (lists_in m.history) u.base) place.ancestors
-  pub boundary_is : (s : State Operation) (w : batches.UnsealedBatch Operation) → IsUnsealedIn m u s w → place.boundary.size ≡ effective_boundary s w
-  pub tips_are : (s : State Operation) (w : batches.UnsealedBatch Operation) → IsUnsealedIn m u s w → sizes place.ancestors ≡ tips_of (reach s w)
-  pub floor_is : (s : State Operation) (w : batches.UnsealedBatch Operation) → IsUnsealedIn m u s w → place.floor ≡ floor_below meaning s w
+  pub boundary_is : (s : State Operation) (w : batches.UnsealedBatch Operation) → IsUnsealedIn m u s w
+      → place.boundary.size ≡ effective_boundary s w
+  pub tips_are : (s : State Operation) (w : batches.UnsealedBatch Operation) → IsUnsealedIn m u s w
+      → sizes place.ancestors ≡ tips_of (reach s w)
+  pub floor_is : (s : State Operation) (w : batches.UnsealedBatch Operation) → IsUnsealedIn m u s w
+      → place.floor ≡ floor_below meaning s w
 
 -- Batch b is unsealed, and this is its place; there is room for its commit.
 pub record IsPlaced (m : Machine) (b : ℕ) (place : Place Mmr Sha256Digest) : Type 0 where

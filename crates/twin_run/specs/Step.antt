@@ -1,16 +1,16 @@
--- The list machine's step: what each command answers, and the state that it leaves. Whether the present list is a place of a batch is told by a test of lists.
+-- The list machine's step: what each command answers, and the state that it leaves. Lists are compared by their operations.
 use Rattle.std.specs.Prelude.{ℕ, ◌+◌, ◌-◌, nat_lt, nat_le, List, length, map, drop, Option, Some, None, Result, Ok, Err, if◌then◌else◌}
 use Rattle.tree_shape.specs.declared.sha256.Sha256Digest.{Sha256Digest}
 use Rattle.tree_shape.specs.Mmr.{mmr}
 use Rattle.tree_shape.specs.declared.mmr.Mmr.{Mmr}
 use Rattle.log_model.specs.Operations.{floor_of, last_value, root_of}
-use Rattle.log_model.specs.Batches.{Batch, UnsealedBatch, SealedBatch, Unsealed, Sealed, Gone, size_of, appended, is_held, with_hold, without_hold}
-use Rattle.log_model.specs.Machine.{State, SameTest, max_leaves, batch_at, with_batch, begun, snapshot_taken, applied, committed, synced, pruned}
+use Rattle.log_model.specs.StateBatches.{Batch, UnsealedBatch, SealedBatch, Unsealed, Sealed, Gone, size_of, appended, is_held, with_hold, without_hold}
+use Rattle.log_model.specs.Machine.{State, max_leaves, batch_at, with_batch, begun, snapshot_taken, applied, committed, synced, pruned}
 use Rattle.log_model.specs.Proofs.{proof_answer, proof_end, proof_refusal, commit_proof_refusal}
 use Rattle.log_model.specs.Reach.{may_apply, sealed_here}
 use Rattle.log_model.specs.Reads.{read_answer, many_answer, sealed_reading, unsealed_reading, batch_answer, batch_many_answer}
-use Rattle.log_model.specs.Sealing as sealing
-use Rattle.twin_run.specs.Operation.{Operation, meaning, sha}
+use Rattle.log_model.specs.Refusals as sealing
+use Rattle.twin_run.specs.Operation.{Operation, meaning, sha, one_list}
 use Rattle.op_codec.specs.declared.keyless.Operation.TheVariants.{Append, Commit}
 use Rattle.command_text.specs.declared.command.Command.{Command}
 use Rattle.command_text.specs.declared.command.Command.TheVariants as command
@@ -64,8 +64,8 @@ append_to limit s b v (Sealed c) = refused s (NoBatch b)
 append_to limit s b v Gone = refused s (NoBatch b)
 
 -- Why a seal of this floor loses an unsealed batch, if it does.
-abbrev pub seal_refusal : SameTest Operation → State Operation → UnsealedBatch Operation → ℕ → Option Refusal
-seal_refusal same s u floor = sealing.seal_refusal same meaning s u floor
+abbrev pub seal_refusal : State Operation → UnsealedBatch Operation → ℕ → Option Refusal
+seal_refusal s u floor = sealing.seal_refusal one_list meaning s u floor
 
 -- The length of metadata, 0 where there is none.
 abbrev pub metadata_length : Option (List ℕ) → ℕ
@@ -77,27 +77,28 @@ abbrev pub done_sealing : State Operation → ℕ → SealedBatch Operation → 
 done_sealing s b c = (answer.Sealed (length c.list) (root_of_list c.list), with_batch s b (Sealed c))
 
 -- The batch is ended by a commit with this metadata and this floor, or lost.
-abbrev pub sealed_or_lost : State Operation → ℕ → UnsealedBatch Operation → Option (List ℕ) → ℕ → Option Refusal → Outcome
+abbrev pub sealed_or_lost : State Operation → ℕ → UnsealedBatch Operation → Option (List ℕ) → ℕ → Option Refusal
+    → Outcome
 sealed_or_lost s b u metadata floor (Some refusal) = lost s b refusal
 sealed_or_lost s b u metadata floor None = done_sealing s b (sealed_here s u (Commit metadata floor) floor)
 
 -- A commit ends batch b, where nothing refuses it. Metadata that is too long leaves the batch; each other refusal loses it.
-abbrev pub seal : SameTest Operation → ℕ → State Operation → ℕ → Option (List ℕ) → ℕ → Batch Operation → Outcome
-seal same limit s b metadata floor (Unsealed u) =
+abbrev pub seal : ℕ → State Operation → ℕ → Option (List ℕ) → ℕ → Batch Operation → Outcome
+seal limit s b metadata floor (Unsealed u) =
     if nat_lt limit (metadata_length metadata) then refused s (ValueTooLong (metadata_length metadata))
-    else sealed_or_lost s b u metadata floor (seal_refusal same s u floor)
-seal same limit s b metadata floor (Sealed c) = refused s (NoBatch b)
-seal same limit s b metadata floor Gone = refused s (NoBatch b)
+    else sealed_or_lost s b u metadata floor (seal_refusal s u floor)
+seal limit s b metadata floor (Sealed c) = refused s (NoBatch b)
+seal limit s b metadata floor Gone = refused s (NoBatch b)
 
 -- The list becomes that of batch b, which is held, where it may be applied.
-abbrev pub apply : SameTest Operation → State Operation → ℕ → Batch Operation → Outcome
-apply same s b (Sealed c) =
+abbrev pub apply : State Operation → ℕ → Batch Operation → Outcome
+apply s b (Sealed c) =
     if is_held c then
-    (if may_apply same s c then (answer.Applied, applied s c)
+    (if may_apply one_list s c then (answer.Applied, applied s c)
     else refused s StaleBatch)
     else refused s (NoBatch b)
-apply same s b (Unsealed u) = refused s (NoBatch b)
-apply same s b Gone = refused s (NoBatch b)
+apply s b (Unsealed u) = refused s (NoBatch b)
+apply s b Gone = refused s (NoBatch b)
 
 -- Batch b, which is held, is held once more.
 abbrev pub hold : State Operation → ℕ → Batch Operation → Outcome
@@ -135,19 +136,20 @@ abbrev pub get_many : State Operation → List ℕ → Outcome
 get_many s ls = answered s answer.Values (many_answer meaning s.ops s.start ItemPruned ls)
 
 -- The same in the list of batch b, which is unsealed or held.
-abbrev pub batch_get : SameTest Operation → State Operation → ℕ → ℕ → Batch Operation → Outcome
-batch_get same s b l (Unsealed u) = answered s answer.Value (batch_answer meaning (unsealed_reading same meaning s u) l)
-batch_get same s b l (Sealed c) =
-    if is_held c then answered s answer.Value (batch_answer meaning (sealed_reading same s c) l)
+abbrev pub batch_get : State Operation → ℕ → ℕ → Batch Operation → Outcome
+batch_get s b l (Unsealed u) = answered s answer.Value (batch_answer meaning (unsealed_reading one_list meaning s u) l)
+batch_get s b l (Sealed c) =
+    if is_held c then answered s answer.Value (batch_answer meaning (sealed_reading one_list s c) l)
     else refused s (NoBatch b)
-batch_get same s b l Gone = refused s (NoBatch b)
+batch_get s b l Gone = refused s (NoBatch b)
 
-abbrev pub batch_get_many : SameTest Operation → State Operation → ℕ → List ℕ → Batch Operation → Outcome
-batch_get_many same s b ls (Unsealed u) = answered s answer.Values (batch_many_answer meaning (unsealed_reading same meaning s u) ls)
-batch_get_many same s b ls (Sealed c) =
-    if is_held c then answered s answer.Values (batch_many_answer meaning (sealed_reading same s c) ls)
+abbrev pub batch_get_many : State Operation → ℕ → List ℕ → Batch Operation → Outcome
+batch_get_many s b ls (Unsealed u) =
+    answered s answer.Values (batch_many_answer meaning (unsealed_reading one_list meaning s u) ls)
+batch_get_many s b ls (Sealed c) =
+    if is_held c then answered s answer.Values (batch_many_answer meaning (sealed_reading one_list s c) ls)
     else refused s (NoBatch b)
-batch_get_many same s b ls Gone = refused s (NoBatch b)
+batch_get_many s b ls Gone = refused s (NoBatch b)
 
 -- The size, the first location that is kept and the floor; and the last commit's metadata.
 abbrev pub size : State Operation → Outcome
@@ -168,11 +170,13 @@ proof_here s n a e = record {
 
 -- The proof of at most so many operations from a on in the first n.
 abbrev pub prove : State Operation → ℕ → ℕ → ℕ → Outcome
-prove s n a count = unless s (proof_refusal meaning s.ops s.start n a) (answer.Proof (proof_here s n a (proof_end n a count)))
+prove s n a count =
+    unless s (proof_refusal meaning s.ops s.start n a) (answer.Proof (proof_here s n a (proof_end n a count)))
 
 -- The proof of the commit that ends the first n, where its witness is kept.
 abbrev pub prove_commit : State Operation → ℕ → Outcome
-prove_commit s n = unless s (commit_proof_refusal s.ops (drop s.wstart s.sizes) n) (answer.Proof (proof_here s n (n - 1) n))
+prove_commit s n =
+    unless s (commit_proof_refusal s.ops (drop s.wstart s.sizes) n) (answer.Proof (proof_here s n (n - 1) n))
 
 -- ---- durability
 
@@ -187,7 +191,8 @@ start_sync s = (answer.SyncStarted, synced s)
 
 -- What lies below a location is given up, by blobs of so many operations and witnesses, where nothing refuses it.
 abbrev pub prune_unless : ℕ → ℕ → State Operation → ℕ → Option Refusal → Outcome
-prune_unless log_blob witness_blob s l None = (answer.Pruned (pruned log_blob witness_blob s l).start, pruned log_blob witness_blob s l)
+prune_unless log_blob witness_blob s l None =
+    (answer.Pruned (pruned log_blob witness_blob s l).start, pruned log_blob witness_blob s l)
 prune_unless log_blob witness_blob s l (Some r) = refused s r
 
 abbrev pub prune : ℕ → ℕ → State Operation → ℕ → Outcome
@@ -200,17 +205,22 @@ abbrev pub snapshot : State Operation → Outcome
 snapshot s = (answer.Batch (length s.batches), snapshot_taken s (floor_of meaning s.ops))
 
 -- What a command answers, and the state that it leaves, where values have at most this length.
-abbrev pub step : SameTest Operation → ℕ → State Operation → Command → Outcome
-step same limit s (command.New parent) = begin s parent
-step same limit s (command.Append b v) = append_to limit s b v (batch_at s b)
-step same limit s (command.Seal b metadata floor) = seal same limit s b metadata floor (batch_at s b)
-step same limit s (command.Apply b) = apply same s b (batch_at s b)
-step same limit s (command.Hold b) = hold s b (batch_at s b)
-step same limit s (command.Release b) = release s b (batch_at s b)
-step same limit s command.Snapshot = snapshot s
-step same limit s command.Size = size s
-step same limit s command.Metadata = metadata s
+abbrev pub step : ℕ → State Operation → Command → Outcome
+step limit s (command.New parent) = begin s parent
+step limit s (command.Append b v) = append_to limit s b v (batch_at s b)
+step limit s (command.Seal b metadata floor) = seal limit s b metadata floor (batch_at s b)
+step limit s (command.Apply b) = apply s b (batch_at s b)
+step limit s (command.Hold b) = hold s b (batch_at s b)
+step limit s (command.Release b) = release s b (batch_at s b)
+step limit s command.Snapshot = snapshot s
+step limit s command.Size = size s
+step limit s command.Metadata = metadata s
 
 -- The reply: the answer, with the size and the root of the list after the step.
 abbrev pub reply : Outcome → Reply
-reply o = record { answer = o.0; size = length o.1.ops; full_root = root_of_list o.1.ops; compact_root = root_of_list o.1.ops }
+reply o = record {
+  answer = o.0;
+  size = length o.1.ops;
+  full_root = root_of_list o.1.ops;
+  compact_root = root_of_list o.1.ops;
+}

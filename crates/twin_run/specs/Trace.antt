@@ -4,41 +4,41 @@ use Rattle.std.specs.FinMap as map
 use Rattle.volume_base.specs.Log.{Log, end_of}
 use Rattle.volume_base.specs.Volume.{Map}
 use Rattle.twin_run.specs.Config.{Config}
-use Rattle.log_model.specs.Machine.{State, SameTest, fresh, synced, lists_here}
+use Rattle.log_model.specs.Machine.{State, fresh, synced, lists_here}
 use Rattle.log_model.specs.Hashed.{NoClash}
 use Rattle.tree_shape.specs.Mmr.{mmr}
-use Rattle.twin_run.specs.Operation.{Operation, meaning, sha, one_list}
+use Rattle.twin_run.specs.Operation.{Operation, meaning, sha}
 use Rattle.command_text.specs.declared.command.Command.{Command}
 use Rattle.command_text.specs.declared.command.Answer.TheVariants as answer
 use Rattle.command_text.specs.declared.command.Reply.{Reply}
 use Rattle.twin_run.specs.Step.{step, reply, plain_commit}
 
 -- The replies to these commands, from a state on.
-abbrev pub replies_from : SameTest Operation → ℕ → State Operation → List Command → List Reply
-replies_from same limit s [] = []
-replies_from same limit s (c ∷ cs) = reply (step same limit s c) ∷ replies_from same limit (step same limit s c).1 cs
+abbrev pub replies_from : ℕ → State Operation → List Command → List Reply
+replies_from limit s [] = []
+replies_from limit s (c ∷ cs) = reply (step limit s c) ∷ replies_from limit (step limit s c).1 cs
 
 -- The state after these commands.
-abbrev pub state_after : SameTest Operation → ℕ → State Operation → List Command → State Operation
-state_after same limit s [] = s
-state_after same limit s (c ∷ cs) = state_after same limit (step same limit s c).1 cs
+abbrev pub state_after : ℕ → State Operation → List Command → State Operation
+state_after limit s [] = s
+state_after limit s (c ∷ cs) = state_after limit (step limit s c).1 cs
 
 -- The lists of the log and of the sealed batches, in each state that these commands pass.
-abbrev pub lists_passed : SameTest Operation → ℕ → State Operation → List Command → List (List Operation)
-lists_passed same limit s [] = lists_here s
-lists_passed same limit s (c ∷ cs) = lists_here s ++ lists_passed same limit (step same limit s c).1 cs
+abbrev pub lists_passed : ℕ → State Operation → List Command → List (List Operation)
+lists_passed limit s [] = lists_here s
+lists_passed limit s (c ∷ cs) = lists_here s ++ lists_passed limit (step limit s c).1 cs
 
 -- The state in which a fresh volume is opened: its first commit is made, and is durable.
 abbrev pub fresh_state : State Operation
 fresh_state = synced (fresh plain_commit)
 
 -- The replies of a run on a fresh volume: one to the opening, and one to each command.
-unfoldable pub trace : SameTest Operation → ℕ → List Command → List Reply
-trace same limit cs = reply (answer.Opened 1 0, fresh_state) ∷ replies_from same limit fresh_state cs
+unfoldable pub trace : ℕ → List Command → List Reply
+trace limit cs = reply (answer.Opened 1 0, fresh_state) ∷ replies_from limit fresh_state cs
 
 -- Nothing clashes that is hashed for the lists of a run on a fresh volume.
 unfoldable pub HasNoClash : ℕ → List Command → Type 0
-HasNoClash limit cs = NoClash mmr sha meaning (lists_passed one_list limit fresh_state cs)
+HasNoClash limit cs = NoClash mmr sha meaning (lists_passed limit fresh_state cs)
 
 -- The first replies of a run, and not all of them.
 pub record IsBegun (some all : List Reply) : Type 0 where

@@ -1,5 +1,5 @@
 ghost use Rattle.std.specs.Prelude.{◌≡◌};
-ghost use Rattle.twin_run.specs.Names.{are_names_same};
+ghost use Rattle.twin_run.specs.ConfigNames.{are_names_same};
 ghost use Rattle.twin_run.specs.declared.config.ConfigError.TheVariants.{Memory};
 
 use std::alloc::{AllocError, Global};
@@ -54,11 +54,15 @@ impl Model for TwinConfig {
 
     ghost Value = { Config };
 
-    ghost view = { λ c. config_of (string_bytes c.log) (string_bytes c.nodes) (string_bytes c.metadata) (string_bytes c.witness) (non_zero_u64_get c.log_blob) (non_zero_u64_get c.node_blob) (non_zero_u64_get c.witness_blob) (non_zero_u64_get c.apply_batch) c.value_limit };
+    ghost view = { λ c. config_of (string_bytes c.log) (string_bytes c.nodes) (string_bytes c.metadata)
+        (string_bytes c.witness) (non_zero_u64_get c.log_blob) (non_zero_u64_get c.node_blob)
+        (non_zero_u64_get c.witness_blob) (non_zero_u64_get c.apply_batch) c.value_limit };
 
-    ghost use Rattle.twin_run.specs.Names.{are_names_same};
+    ghost use Rattle.twin_run.specs.ConfigNames.{are_names_same};
 
-    ghost invariant = { λ c. (c.value_limit ≤ 16777216) × (are_names_same (string_bytes c.log) (string_bytes c.nodes) (string_bytes c.metadata) (string_bytes c.witness) ≡ false) };
+    ghost invariant = { λ c. (c.value_limit ≤ 16777216) ×
+        (are_names_same (string_bytes c.log) (string_bytes c.nodes) (string_bytes c.metadata) (string_bytes c.witness) ≡
+        false) };
 }
 
 impl TwinConfig {
@@ -79,8 +83,13 @@ impl TwinConfig {
         apply_batch: u64,
         value_limit: u64,
     ) -> Result<TwinConfig, ConfigError>
-        ensures same { IfOk result (λ c. c ≡ config_of log.now nodes.now metadata.now witness.now log_blob node_blob witness_blob apply_batch value_limit) }
-        ensures answer { MatchOption (config_refusal (config_of log.now nodes.now metadata.now witness.now log_blob node_blob witness_blob apply_batch value_limit)) (IsOkUnless result ConfigError.Memory) (λ e. result ≡ Err e) }
+        ensures same { IfOk result (λ c. c ≡
+            config_of log.now nodes.now metadata.now witness.now log_blob node_blob witness_blob apply_batch
+            value_limit) }
+        ensures answer { MatchOption
+            (config_refusal (config_of log.now nodes.now metadata.now witness.now log_blob node_blob witness_blob
+            apply_batch value_limit))
+            (IsOkUnless result ConfigError.Memory) (λ e. result ≡ Err e) }
     {
         let blobs = (
             NonZeroU64::new(log_blob),

@@ -67,7 +67,8 @@ fn leaves_of(
 ) -> Result<Vec<Sha256Digest>, CodecError>
     requires within { AreBelow (length segments.now) ids.now }
     requires few { length (joined segments.now ids.now) ≤ 2 ^ 62 }
-    ensures leaves { IfOk result (λ leaves. leaves.items ≡ leaves_from mmr sha meaning 0 (joined segments.now ids.now)) }
+    ensures leaves { IfOk result (λ leaves. leaves.items ≡
+        leaves_from mmr sha meaning 0 (joined segments.now ids.now)) }
     ensures memory { IsOkUnless result CodecError.Memory }
 {
     let mut leaves = Vec::new(alloc);
@@ -188,7 +189,8 @@ impl History {
         requires ends { EndsWithCommit meaning own.items }
         requires few { length (list_at (lists_in self.old) before) + length own.items ≤ 2 ^ 62 }
         ensures there { IfOk result (λ i. i < count_in self.new) }
-        ensures list { IfOk result (λ i. list_at (lists_in self.new) i ≡ list_at (lists_in self.old) before ++ own.items) }
+        ensures list { IfOk result (λ i. list_at (lists_in self.new) i ≡ list_at (lists_in self.old) before ++
+            own.items) }
         ensures kept { OnOk result (IsHistory self.new) }
         ensures extends { OnOk result (Extends self.old self.new) }
         ensures memory { IsOkUnless result CodecError.Memory }

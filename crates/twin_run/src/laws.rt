@@ -1,6 +1,7 @@
 //! Laws of the definitions that the run is stated by.
 ghost use Rattle.twin_run.specs.GoodRuns.{StepsStayGood, RunsAreGood};
-ghost use Rattle.twin_run.specs.Laws.{SizesNeverFall, TestsTellLengths, RepliesTellLists, RunsContinue, RefusalsKeep, StatesTellLists};
+ghost use Rattle.twin_run.specs.Laws.{SizesNeverFall, RepliesTellLists, RunsContinue, RefusalsKeep};
+ghost use Rattle.twin_run.specs.Told.{StatesAreTold};
 
 use crate::operation::Operation;
 use codec_base::LengthCfg;
@@ -10,11 +11,6 @@ use tree_shape::{Mmr, Sha256Hasher};
 /// The sizes in the replies of a run never fall.
 pub fn sizes_never_fall()
     ensures { SizesNeverFall }
-{}
-
-/// Both tests of lists tell lengths.
-pub fn tests_tell_lengths()
-    ensures { TestsTellLengths }
 {}
 
 /// Each reply of a run tells the list after the commands up to it, and nothing else of them.
@@ -32,19 +28,19 @@ pub fn refusals_keep()
     ensures { RefusalsKeep }
 {}
 
-/// Each kind of step makes a good state of a good state, where lists are compared operation by operation.
+/// Each kind of step makes a good state of a good state.
 pub fn steps_stay_good()
     ensures { StepsStayGood }
 {}
 
-/// Each state of a run that compares operations is good.
+/// Each state of a run is good.
 pub fn runs_are_good()
     ensures { RunsAreGood }
 {}
 
-/// Where nothing clashes that is hashed for the lists of a run, it answers the same by sizes and roots as by operations.
-pub fn states_tell_lists(limit: u64)
-    ensures { StatesTellLists limit }
+/// Where nothing clashes that is hashed for the lists of a good state, size and root tell where its batches may be sealed and applied.
+pub fn states_are_told(limit: u64)
+    ensures { StatesAreTold limit }
 {
     no_clash_law::<Mmr, Sha256Hasher, Operation>(&LengthCfg { max: limit });
 }

@@ -18,7 +18,7 @@ pub use config::{ConfigError, TwinConfig, VALUE_LIMIT};
 pub use ending::{Fault, Status, Stopped};
 pub use laws::{
     refusals_keep, replies_tell_lists, runs_are_good, runs_continue, sizes_never_fall,
-    states_tell_lists, steps_stay_good, tests_tell_lengths,
+    states_are_told, steps_stay_good,
 };
 pub use main_call::twins_main;
 pub use operation::Operation;

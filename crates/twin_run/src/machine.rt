@@ -1,17 +1,19 @@
 ghost use Rattle.std.specs.Prelude.{◌≡◌, ◌<◌, ◌+◌, ◌-◌, ◌^◌, ℕ, length, slice_index_or, Option, IfOk, IfSome, OnOk, IsOkUnless};
 ghost use Rattle.std.specs.Option.{ForSome};
-ghost use Rattle.log_model.specs.Batches as batches;
-ghost use Rattle.log_model.specs.Batches.{without_hold};
+ghost use Rattle.log_model.specs.StateBatches as batches;
+ghost use Rattle.log_model.specs.StateBatches.{without_hold};
 ghost use Rattle.log_model.specs.Machine.{State, batch_at, begun, with_batch};
 ghost use Rattle.log_model.specs.Reach.{stands_on, sealed_here};
+ghost use Rattle.log_model.specs.Refusals.{seal_refusal};
 ghost use Rattle.chain_core.specs.States.{sizes};
 ghost use Rattle.chain_core.specs.Slots.{IsAlive};
-ghost use Rattle.twin_run.specs.Operation.{Operation};
+ghost use Rattle.twin_run.specs.Operation.{Operation, meaning};
 ghost use Rattle.twin_run.specs.Commitments.{commitment_of, same_state, AreBounds};
-ghost use Rattle.twin_run.specs.Step.{begin, append_to, seal_refusal, metadata_length, done_sealing, seal, apply, hold, release, step, reply};
+ghost use Rattle.twin_run.specs.Step.{begin, append_to, metadata_length, done_sealing, seal, apply, hold, release, snapshot, step, reply};
+ghost use Rattle.twin_run.specs.Told.{IsTold};
 ghost use Rattle.twin_run.specs.Trace.{fresh_state};
 ghost use Rattle.twin_run.specs.Lists.{list_at, lists_in, count_in};
-ghost use Rattle.twin_run.specs.StateOf.{held_in, LinkIs, LinkList, HasLog, IsLogOf, IsStateOf, IsKept, HasRoom, IsUnsealedIn, IsUnsealedHere, IsPlace, IsPlaced, place_refusal, Meets, Follows};
+ghost use Rattle.twin_run.specs.StateOf.{held_in, LinkIs, LinkList, HasLog, IsLogOf, IsStateOf, IsKept, HasRoom, IsUnsealedIn, IsUnsealedHere, IsPlace, IsPlaced, Meets, RepliesAs, Follows, FollowsTold};
 ghost use Rattle.op_codec.specs.declared.keyless.Operation.TheVariants.{Commit};
 ghost use Rattle.twin_run.specs.declared.batch.Batch.TheVariants.{Unsealed, Sealed, Gone};
 ghost use Rattle.twin_run.specs.declared.batch.UnsealedBatch.{UnsealedBatch};
@@ -19,7 +21,7 @@ ghost use Rattle.twin_run.specs.declared.batch.UnsealedBatch.{UnsealedBatch};
 use crate::batch::{Batch, Holding, SealedBatch, UnsealedBatch};
 use crate::history::History;
 use crate::pool;
-use chain_core::{BatchId, Bounds, Commitment, Error, Place, Pool};
+use chain_core::{BatchId, Bounds, Commitment, Place, Pool};
 use codec_base::{Bytes, CodecError, Duplicate};
 use command_text::{Answer, Command, Refusal, Reply};
 use op_codec::keyless;
@@ -47,24 +49,6 @@ fn metadata_length(metadata: &Option<Bytes>) -> u64
     match metadata {
         Some(bytes) => bytes.len(),
         None => 0,
-    }
-}
-
-/// The refusal of a seal that this error of its place is.
-fn refusal_of(error: &Error<Mmr>) -> Refusal
-    ensures { result ≡ place_refusal error.now }
-{
-    match error {
-        Error::Merkle(tree_store::Error::LocationOverflow(size)) => {
-            Refusal::LocationOverflow(size.as_u64())
-        }
-        Error::FloorRegressed(floor, below) => {
-            Refusal::FloorRegressed(floor.as_u64(), below.as_u64())
-        }
-        Error::FloorBeyondSize(floor, location) => {
-            Refusal::FloorBeyondSize(floor.as_u64(), location.as_u64())
-        }
-        _ => Refusal::StaleBatch,
     }
 }
 
@@ -112,9 +96,12 @@ impl Machine {
         requires room { HasRoom self.old }
         requires there { base < count_in self.old.history }
         requires alive { ForSome parent (IsAlive self.old.pool) }
-        requires list { LinkList (lists_in self.old.history) self.old.pool (list_at (lists_in self.old.history) base) parent }
+        requires list { LinkList (lists_in self.old.history) self.old.pool
+            (list_at (lists_in self.old.history) base) parent }
         ensures number { IfOk result (λ b. b ≡ length self.old.batches.items) }
-        ensures begun { OnOk result ((s : State Operation) (p : Option ℕ) → IsStateOf self.old s → LinkIs self.old.batches.items (length self.old.batches.items) parent p → IsStateOf self.new (begun s p (list_at (lists_in self.old.history) base))) }
+        ensures begun { OnOk result ((s : State Operation) (p : Option ℕ) → IsStateOf self.old s →
+            LinkIs self.old.batches.items (length self.old.batches.items) parent p →
+            IsStateOf self.new (begun s p (list_at (lists_in self.old.history) base))) }
         ensures limit { self.new.limit ≡ self.old.limit }
         ensures taken { self.new.taken ≡ self.old.taken }
         ensures memory { IsOkUnless result CodecError.Memory }
@@ -152,7 +139,8 @@ impl Machine {
     /// Adds a value to an unsealed batch.
     fn append(&mut self, b: u64, value: &Bytes) -> Result<Answer, CodecError>
         requires { IsKept self.old }
-        ensures ok { IfOk result (λ a. Follows (λ s. append_to self.old.limit s b value.now (batch_at s b)) self.old self.new a) }
+        ensures ok { IfOk result
+            (λ a. Follows (λ s. append_to self.old.limit s b value.now (batch_at s b)) self.old self.new a) }
         ensures limit { self.new.limit ≡ self.old.limit }
         ensures taken { self.new.taken ≡ self.old.taken }
         ensures memory { IsOkUnless result CodecError.Memory }
@@ -190,7 +178,10 @@ impl Machine {
     fn may_apply(&self, batch: &SealedBatch) -> bool
         requires log { HasLog self.now }
         requires bounds { AreBounds (list_at (lists_in self.now.history) batch.now.list) batch.now.bounds }
-        ensures { (s : State Operation) → IsLogOf self.now s → result ≡ stands_on same_state s (list_at (lists_in self.now.history) batch.now.list) batch.now.bounds.db.size (sizes batch.now.bounds.ancestors) }
+        ensures { (s : State Operation) → IsLogOf self.now s →
+            result ≡ stands_on same_state s
+            (list_at (lists_in self.now.history) batch.now.list) batch.now.bounds.db.size
+            (sizes batch.now.bounds.ancestors) }
     {
         batch.bounds.validate_apply_to(self.current()).is_ok()
     }
@@ -218,13 +209,13 @@ impl Machine {
     ) -> Option<Refusal>
         requires batch { IsUnsealedHere self.now batch.now }
         requires place { IsPlace self.now batch.now place.now }
-        ensures { (s : State Operation) (w : batches.UnsealedBatch Operation) → IsUnsealedIn self.now batch.now s w → result ≡ seal_refusal same_state s w floor }
+        ensures { (s : State Operation) (w : batches.UnsealedBatch Operation) → IsUnsealedIn self.now batch.now s w →
+            result ≡ seal_refusal same_state meaning s w floor }
     {
-        let base = self.history.size(batch.base);
-        let own = batch.own.len() as u64 + 1;
-        match place.check(&self.current(), base, own, Location::new(floor)) {
+        let size = self.history.size(batch.base) + batch.own.len() as u64;
+        match place.check(&self.current(), size, Location::new(floor)) {
             Ok(_) => None,
-            Err(error) => Some(refusal_of(&error)),
+            Err(error) => error.refusal(),
         }
     }
 
@@ -240,7 +231,9 @@ impl Machine {
         requires room { HasRoom self.old }
         requires there { b < length self.old.batches.items }
         requires place { IsPlaced self.old b place }
-        ensures ok { IfOk result (λ a. (s : State Operation) (w : batches.UnsealedBatch Operation) → IsStateOf self.old s → batch_at s b ≡ batches.Unsealed w → Meets (done_sealing s b (sealed_here s w (Commit metadata.now floor) floor)) self.new a) }
+        ensures ok { IfOk result (λ a. (s : State Operation) (w : batches.UnsealedBatch Operation) →
+            IsStateOf self.old s → batch_at s b ≡ batches.Unsealed w →
+            Meets (done_sealing s b (sealed_here s w (Commit metadata.now floor) floor)) self.new a) }
         ensures limit { self.new.limit ≡ self.old.limit }
         ensures taken { self.new.taken ≡ self.old.taken }
         ensures memory { IsOkUnless result CodecError.Memory }
@@ -275,7 +268,8 @@ impl Machine {
     fn lose(&mut self, b: u64, parent: Option<BatchId>)
         requires kept { IsKept self.old }
         requires there { b < length self.old.batches.items }
-        requires batch { (u : UnsealedBatch) × (slice_index_or self.old.batches.items b Gone ≡ Unsealed u) × (u.parent ≡ parent) }
+        requires batch { (u : UnsealedBatch) × (slice_index_or self.old.batches.items b Gone ≡ Unsealed u) ×
+            (u.parent ≡ parent) }
         ensures lost { (s : State Operation) → IsStateOf self.old s → IsStateOf self.new (with_batch s b batches.Gone) }
         ensures limit { self.new.limit ≡ self.old.limit }
         ensures taken { self.new.taken ≡ self.old.taken }
@@ -288,7 +282,8 @@ impl Machine {
     fn seal(&mut self, b: u64, metadata: &Option<Bytes>, floor: u64) -> Result<Answer, CodecError>
         requires kept { IsKept self.old }
         requires room { HasRoom self.old }
-        ensures ok { IfOk result (λ a. Follows (λ s. seal same_state self.old.limit s b metadata.now floor (batch_at s b)) self.old self.new a) }
+        ensures ok { IfOk result
+            (λ a. FollowsTold (λ s. seal self.old.limit s b metadata.now floor (batch_at s b)) self.old self.new a) }
         ensures limit { self.new.limit ≡ self.old.limit }
         ensures taken { self.new.taken ≡ self.old.taken }
         ensures memory { IsOkUnless result CodecError.Memory }
@@ -315,7 +310,7 @@ impl Machine {
     /// Makes the list that of a sealed batch.
     fn apply(&mut self, b: u64) -> Answer
         requires { IsKept self.old }
-        ensures ok { Follows (λ s. apply same_state s b (batch_at s b)) self.old self.new result }
+        ensures ok { FollowsTold (λ s. apply s b (batch_at s b)) self.old self.new result }
         ensures limit { self.new.limit ≡ self.old.limit }
         ensures taken { self.new.taken ≡ self.old.taken }
     {
@@ -354,7 +349,8 @@ impl Machine {
         requires there { b < length self.old.batches.items }
         requires batch { slice_index_or self.old.batches.items b Gone ≡ Sealed held }
         requires held { 0 < held.holds }
-        ensures less { (s : State Operation) (c : batches.SealedBatch Operation) → IsStateOf self.old s → batch_at s b ≡ batches.Sealed c → IsStateOf self.new (with_batch s b (batches.Sealed (without_hold c))) }
+        ensures less { (s : State Operation) (c : batches.SealedBatch Operation) → IsStateOf self.old s →
+            batch_at s b ≡ batches.Sealed c → IsStateOf self.new (with_batch s b (batches.Sealed (without_hold c))) }
         ensures limit { self.new.limit ≡ self.old.limit }
         ensures taken { self.new.taken ≡ self.old.taken }
     {
@@ -396,7 +392,7 @@ impl Machine {
     fn snapshot(&mut self) -> Result<Answer, CodecError>
         requires kept { IsKept self.old }
         requires room { HasRoom self.old }
-        ensures ok { IfOk result (λ a. Follows (λ s. step same_state self.old.limit s Command.Snapshot) self.old self.new a) }
+        ensures ok { IfOk result (λ a. Follows snapshot self.old self.new a) }
         ensures limit { self.new.limit ≡ self.old.limit }
         ensures taken { self.new.taken ≡ self.old.taken }
         ensures memory { IsOkUnless result CodecError.Memory }
@@ -417,7 +413,7 @@ impl Machine {
     fn answer(&mut self, command: &Command) -> Result<Answer, CodecError>
         requires kept { IsKept self.old }
         requires room { HasRoom self.old }
-        ensures ok { IfOk result (λ a. Follows (λ s. step same_state self.old.limit s command.now) self.old self.new a) }
+        ensures ok { IfOk result (λ a. FollowsTold (λ s. step self.old.limit s command.now) self.old self.new a) }
         ensures limit { self.new.limit ≡ self.old.limit }
         ensures taken { self.new.taken ≡ self.old.taken }
         ensures memory { IsOkUnless result CodecError.Memory }
@@ -468,7 +464,9 @@ impl Machine {
     pub fn step(&mut self, command: &Command) -> Result<Reply, CodecError>
         requires kept { IsKept self.old }
         requires taken { self.old.taken < 2 ^ 64 - 1 }
-        ensures ok { IfOk result (λ r. (s : State Operation) → IsStateOf self.old s → (r ≡ reply (step same_state self.old.limit s command.now)) × IsStateOf self.new (step same_state self.old.limit s command.now).1) }
+        ensures kept { OnOk result (IsKept self.new) }
+        ensures ok { IfOk result (λ r. (s : State Operation) → IsTold s → IsStateOf self.old s →
+            RepliesAs (step self.old.limit s command.now) self.new r) }
         ensures limit { self.new.limit ≡ self.old.limit }
         ensures taken { self.new.taken ≡ self.old.taken + 1 }
         ensures memory { IsOkUnless result CodecError.Memory }

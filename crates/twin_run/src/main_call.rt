@@ -4,16 +4,14 @@ ghost use Rattle.codec_base.specs.Causes.{HasCause, Rose};
 ghost use Rattle.stream_base.specs.Writing.{Writes};
 ghost use Rattle.volume_base.specs.Volume.{SameContents, PastStays};
 ghost use Rattle.twin_run.specs.Config.{standard_config};
-ghost use Rattle.twin_run.specs.Laws.{StatesTellLists};
 ghost use Rattle.line_text.specs.Lines.{lines_of};
 ghost use Rattle.command_text.specs.Bad.{IsFirstBad};
 ghost use Rattle.command_text.specs.Text.{text_of};
 ghost use Rattle.twin_run.specs.Trace.{IsFresh};
 ghost use Rattle.twin_run.specs.Outcome.{IsValid, IsWhole, IsInput, IsAnswered, IsCutOff, IsStopped, IsEarly, IsReadStatus, IsRunStatus, fault_status};
 
-use crate::config::{TwinConfig, VALUE_LIMIT};
+use crate::config::TwinConfig;
 use crate::ending::{Fault, Status};
-use crate::laws::states_tell_lists;
 use crate::run::run_twins;
 use command_text::{Command, LineError, Replies, parse_commands, write_replies};
 use std::alloc::Global;
@@ -26,7 +24,8 @@ const INPUT_LIMIT: u64 = 16777216;
 /// Reads the input to its end, and as commands; or says how the program ends.
 fn read_commands<I: Source>(alloc: Global, input: &mut I) -> Result<Vec<Command>, Status>
     ensures input { IfOk result (λ commands. IsInput (I.left input.old) (I.left input.new) commands.items) }
-    ensures early { IfErr result (IsReadStatus (I.left input.old) (I.left input.new) (I.faults input.old) (I.faults input.new)) }
+    ensures early { IfErr result
+        (IsReadStatus (I.left input.old) (I.left input.new) (I.faults input.old) (I.faults input.new)) }
 {
     let bytes = match read_all(alloc, input, INPUT_LIMIT) {
         Ok(bytes) => bytes,
@@ -71,16 +70,24 @@ fn run_and_write<O: Sink, V: Volume>(
     output: &mut O,
     volume: &mut V,
 ) -> Status
-    ensures run { IsRunStatus commands.now (O.written output.old) (O.written output.new) (O.faults output.old) (O.faults output.new) (V.state volume.old).faults (V.state volume.new).faults result }
+    ensures run { IsRunStatus commands.now (O.written output.old) (O.written output.new) (O.faults output.old)
+        (O.faults output.new) (V.state volume.old).faults (V.state volume.new).faults result }
     ensures flushed { result ≡ Status.Done → O.flushed output.new }
-    ensures passed_on { O.flushed output.new ⊎ (Rose (O.faults output.old) (O.faults output.new) ⊎ (output.new ≡ output.old)) }
-    ensures fresh { ((result ≡ Status.Done) ⊎ (result ≡ Status.WriteFault)) → V.tells → IsFresh standard_config (V.state volume.old).log (V.state volume.old).map }
-    ensures not_fresh { result ≡ Status.NotFresh → V.tells → IsFresh standard_config (V.state volume.old).log (V.state volume.old).map → ⊥ }
-    ensures unopened { ((result ≡ Status.Volume) ⊎ (result ≡ Status.NotFresh)) → Appends (O.written output.old) (O.written output.new) [] }
+    ensures passed_on { O.flushed output.new ⊎
+        (Rose (O.faults output.old) (O.faults output.new) ⊎ (output.new ≡ output.old)) }
+    ensures fresh { ((result ≡ Status.Done) ⊎ (result ≡ Status.WriteFault)) → V.tells →
+        IsFresh standard_config (V.state volume.old).log (V.state volume.old).map }
+    ensures not_fresh { result ≡ Status.NotFresh → V.tells →
+        IsFresh standard_config (V.state volume.old).log (V.state volume.old).map → ⊥ }
+    ensures unopened { ((result ≡ Status.Volume) ⊎ (result ≡ Status.NotFresh)) →
+        Appends (O.written output.old) (O.written output.new) [] }
     // Something is written only over a fresh volume that has counted no failure, and so it is where the run was whole.
-    ensures answered { (Appends (O.written output.old) (O.written output.new) [] → ⊥) → V.tells → IsFresh standard_config (V.state volume.old).log (V.state volume.old).map }
-    ensures kept { (Appends (O.written output.old) (O.written output.new) [] → ⊥) → (V.state volume.new).faults ≡ (V.state volume.old).faults }
-    ensures no_fault { ((result ≡ Status.Done) ⊎ (result ≡ Status.WriteFault)) → (V.state volume.new).faults ≡ (V.state volume.old).faults }
+    ensures answered { (Appends (O.written output.old) (O.written output.new) [] → ⊥) → V.tells →
+        IsFresh standard_config (V.state volume.old).log (V.state volume.old).map }
+    ensures kept { (Appends (O.written output.old) (O.written output.new) [] → ⊥) →
+        (V.state volume.new).faults ≡ (V.state volume.old).faults }
+    ensures no_fault { ((result ≡ Status.Done) ⊎ (result ≡ Status.WriteFault)) →
+        (V.state volume.new).faults ≡ (V.state volume.old).faults }
 
     // The volume stays as it was, whatever is answered.
     ensures clock { (V.state volume.new).clock ≡ (V.state volume.old).clock }
@@ -89,7 +96,9 @@ fn run_and_write<O: Sink, V: Volume>(
     ensures reads { (V.state volume.new).reads ≡ (V.state volume.old).reads }
 
     // Over a fresh volume with nothing set to fail the run ends by no fault but want of memory.
-    ensures complete { (V.state volume.old).steady → (V.state volume.old).faults < 2 ^ 64 - 1 → V.tells → IsFresh standard_config (V.state volume.old).log (V.state volume.old).map → ((result ≡ Status.Volume) ⊎ (result ≡ Status.NotFresh)) → ⊥ }
+    ensures complete { (V.state volume.old).steady → (V.state volume.old).faults < 2 ^ 64 - 1 → V.tells →
+        IsFresh standard_config (V.state volume.old).log (V.state volume.old).map →
+        ((result ≡ Status.Volume) ⊎ (result ≡ Status.NotFresh)) → ⊥ }
 {
     let Ok(config) = TwinConfig::standard(alloc) else {
         return Status::Memory;
@@ -120,35 +129,46 @@ pub fn twins_main<I: Source, O: Sink, V: Volume>(
     ensures early { IsEarly result → (output.new ≡ output.old) × (volume.new ≡ volume.old) }
 
     // Before the run.
-    ensures bad_line { (n : ℕ) → result ≡ Status.BadLine n → IsWhole (I.left input.old) (I.left input.new) × IfSome (I.left input.old) (λ bytes. IsFirstBad (lines_of bytes) n) }
+    ensures bad_line { (n : ℕ) → result ≡ Status.BadLine n → IsWhole (I.left input.old) (I.left input.new) ×
+        IfSome (I.left input.old) (λ bytes. IsFirstBad (lines_of bytes) n) }
     ensures read_fault { result ≡ Status.ReadFault → Rose (I.faults input.old) (I.faults input.new) }
     ensures too_long { result ≡ Status.TooLong → IfSome (I.left input.old) (λ bytes. 16777216 < length bytes) }
 
     // After a whole run.
-    ensures done { result ≡ Status.Done → IsAnswered (I.left input.old) (I.left input.new) (O.written output.old) (O.written output.new) }
+    ensures done { result ≡ Status.Done → IsAnswered (I.left input.old) (I.left input.new) (O.written output.old)
+        (O.written output.new) }
     ensures flushed { result ≡ Status.Done → O.flushed output.new }
     ensures write_fault { result ≡ Status.WriteFault → Rose (O.faults output.old) (O.faults output.new) }
-    ensures cut_off { result ≡ Status.WriteFault → IsCutOff (I.left input.old) (I.left input.new) (O.written output.old) (O.written output.new) }
-    ensures fresh { ((result ≡ Status.Done) ⊎ (result ≡ Status.WriteFault)) → V.tells → IsFresh standard_config (V.state volume.old).log (V.state volume.old).map }
-
-    // These replies tell lists by their sizes and roots. Where nothing clashes that is hashed for the lists of a run, they are the same by operations.
-    ensures lists { StatesTellLists standard_config.value_limit }
+    ensures cut_off { result ≡ Status.WriteFault →
+        IsCutOff (I.left input.old) (I.left input.new) (O.written output.old) (O.written output.new) }
+    ensures fresh { ((result ≡ Status.Done) ⊎ (result ≡ Status.WriteFault)) → V.tells →
+        IsFresh standard_config (V.state volume.old).log (V.state volume.old).map }
 
     // After a run that a fault ended.
     ensures volume { result ≡ Status.Volume → Rose (V.state volume.old).faults (V.state volume.new).faults }
-    ensures not_fresh { result ≡ Status.NotFresh → V.tells → IsFresh standard_config (V.state volume.old).log (V.state volume.old).map → ⊥ }
-    ensures unopened { ((result ≡ Status.Volume) ⊎ (result ≡ Status.NotFresh)) → Appends (O.written output.old) (O.written output.new) [] }
+    ensures not_fresh { result ≡ Status.NotFresh → V.tells →
+        IsFresh standard_config (V.state volume.old).log (V.state volume.old).map → ⊥ }
+    ensures unopened { ((result ≡ Status.Volume) ⊎ (result ≡ Status.NotFresh)) →
+        Appends (O.written output.old) (O.written output.new) [] }
     // Something is written only over a fresh volume that has counted no failure, and so it is where the run was whole.
-    ensures answered { (Appends (O.written output.old) (O.written output.new) [] → ⊥) → V.tells → IsFresh standard_config (V.state volume.old).log (V.state volume.old).map }
-    ensures kept { (Appends (O.written output.old) (O.written output.new) [] → ⊥) → (V.state volume.new).faults ≡ (V.state volume.old).faults }
-    ensures no_fault { ((result ≡ Status.Done) ⊎ (result ≡ Status.WriteFault)) → (V.state volume.new).faults ≡ (V.state volume.old).faults }
-    ensures stopped { ((result ≡ Status.Volume) ⊎ (result ≡ Status.NotFresh)) → IsStopped (I.left input.old) (I.left input.new) (O.written output.old) (O.written output.new) (O.faults output.old) (O.faults output.new) }
+    ensures answered { (Appends (O.written output.old) (O.written output.new) [] → ⊥) → V.tells →
+        IsFresh standard_config (V.state volume.old).log (V.state volume.old).map }
+    ensures kept { (Appends (O.written output.old) (O.written output.new) [] → ⊥) →
+        (V.state volume.new).faults ≡ (V.state volume.old).faults }
+    ensures no_fault { ((result ≡ Status.Done) ⊎ (result ≡ Status.WriteFault)) →
+        (V.state volume.new).faults ≡ (V.state volume.old).faults }
+    ensures stopped { ((result ≡ Status.Volume) ⊎ (result ≡ Status.NotFresh)) →
+        IsStopped (I.left input.old) (I.left input.new) (O.written output.old) (O.written output.new)
+        (O.faults output.old) (O.faults output.new) }
 
     // Want of memory, in the run or before it.
-    ensures memory { result ≡ Status.Memory → ((output.new ≡ output.old) × (volume.new ≡ volume.old)) ⊎ IsStopped (I.left input.old) (I.left input.new) (O.written output.old) (O.written output.new) (O.faults output.old) (O.faults output.new) }
+    ensures memory { result ≡ Status.Memory → ((output.new ≡ output.old) × (volume.new ≡ volume.old)) ⊎
+        IsStopped (I.left input.old) (I.left input.new) (O.written output.old) (O.written output.new)
+        (O.faults output.old) (O.faults output.new) }
 
     // Whatever is answered, what was written is passed on, or the sink has failed.
-    ensures passed_on { O.flushed output.new ⊎ (Rose (O.faults output.old) (O.faults output.new) ⊎ (output.new ≡ output.old)) }
+    ensures passed_on { O.flushed output.new ⊎
+        (Rose (O.faults output.old) (O.faults output.new) ⊎ (output.new ≡ output.old)) }
 
     // The volume stays as it was, whatever is answered.
     ensures clock { (V.state volume.new).clock ≡ (V.state volume.old).clock }
@@ -157,12 +177,17 @@ pub fn twins_main<I: Source, O: Sink, V: Volume>(
     ensures reads { (V.state volume.new).reads ≡ (V.state volume.old).reads }
 
     // Over a fresh volume with nothing set to fail the run ends by no fault but want of memory.
-    ensures complete { (V.state volume.old).steady → (V.state volume.old).faults < 2 ^ 64 - 1 → V.tells → IsFresh standard_config (V.state volume.old).log (V.state volume.old).map → ((result ≡ Status.Volume) ⊎ (result ≡ Status.NotFresh)) → ⊥ }
+    ensures complete { (V.state volume.old).steady → (V.state volume.old).faults < 2 ^ 64 - 1 → V.tells →
+        IsFresh standard_config (V.state volume.old).log (V.state volume.old).map →
+        ((result ≡ Status.Volume) ⊎ (result ≡ Status.NotFresh)) → ⊥ }
 
     // What is valid is answered, where nothing outside has failed and there is memory.
-    ensures valid { IsValid words.now (I.left input.old) → V.tells → IsFresh standard_config (V.state volume.old).log (V.state volume.old).map → (Rose (I.faults input.old) (I.faults input.new) → ⊥) → (Rose (O.faults output.old) (O.faults output.new) → ⊥) → (Rose (V.state volume.old).faults (V.state volume.new).faults → ⊥) → (result ≡ Status.Done) ⊎ (result ≡ Status.Memory) }
+    ensures valid { IsValid words.now (I.left input.old) → V.tells →
+        IsFresh standard_config (V.state volume.old).log (V.state volume.old).map →
+        (Rose (I.faults input.old) (I.faults input.new) → ⊥) → (Rose (O.faults output.old) (O.faults output.new) → ⊥) →
+        (Rose (V.state volume.old).faults (V.state volume.new).faults → ⊥) → (result ≡ Status.Done) ⊎
+        (result ≡ Status.Memory) }
 {
-    states_tell_lists(VALUE_LIMIT);
     if !words.is_empty() {
         return Status::BadWords;
     }

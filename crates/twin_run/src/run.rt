@@ -3,13 +3,11 @@ ghost use Rattle.std.specs.FinMap as map;
 ghost use Rattle.codec_base.specs.Causes.{Rose};
 ghost use Rattle.volume_base.specs.Volume.{SameContents, PastStays, StaysSteady, Reads};
 ghost use Rattle.twin_run.specs.declared.ending.Fault.TheVariants.{Volume, NotFresh, Memory};
-ghost use Rattle.twin_run.specs.Operation.{meaning, one_list};
-ghost use Rattle.twin_run.specs.Commitments.{same_state};
 ghost use Rattle.twin_run.specs.Trace.{trace, HasNoClash, IsFreshLog, IsFresh, IsBegun};
 
 use crate::config::TwinConfig;
 use crate::ending::{Fault, Stopped};
-use crate::laws::states_tell_lists;
+use crate::laws::states_are_told;
 use crate::machine::Machine;
 use codec_base::{CodecError, ListOf};
 use command_text::{Answer, Command, Replies};
@@ -25,10 +23,11 @@ fn answer_all(
     replies: &mut Replies,
 ) -> Result<(), CodecError>
     requires { replies.old ≡ [] }
-    ensures ok { OnOk result (replies.new ≡ trace same_state limit commands.now) }
-    ensures err { OnErr result (IsBegun replies.new (trace same_state limit commands.now)) }
+    ensures ok { OnOk result (HasNoClash limit commands.now → replies.new ≡ trace limit commands.now) }
+    ensures err { OnErr result (HasNoClash limit commands.now → IsBegun replies.new (trace limit commands.now)) }
     ensures memory { IsOkUnless result CodecError.Memory }
 {
+    states_are_told(limit);
     let mut machine = Machine::new(alloc, limit)?;
     let opening = machine.reply(Answer::Opened { size: 1, start: 0 });
     replies.push(opening)?;
@@ -79,7 +78,8 @@ fn check_map<V: Volume>(volume: &mut V, name: &str) -> Result<(), Fault>
 /// Refuses a volume on which a log or the map of a configuration holds something.
 fn check_fresh<V: Volume>(config: &TwinConfig, volume: &mut V) -> Result<(), Fault>
     ensures fresh { OnOk result (V.tells → IsFresh config.now (V.state volume.old).log (V.state volume.old).map) }
-    ensures not_fresh { IsErrOf result Fault.NotFresh → V.tells → IsFresh config.now (V.state volume.old).log (V.state volume.old).map → ⊥ }
+    ensures not_fresh { IsErrOf result Fault.NotFresh → V.tells →
+        IsFresh config.now (V.state volume.old).log (V.state volume.old).map → ⊥ }
     ensures reads { Reads V.tells Fault.Volume (V.state volume.old) (V.state volume.new) result }
     ensures no_item { (V.state volume.new).reads ≡ (V.state volume.old).reads }
 {
@@ -96,13 +96,12 @@ pub fn run_twins<V: Volume>(
     volume: &mut V,
     commands: &[Command],
 ) -> Result<Replies, Stopped>
-    // One reply to the opening and one to each command, as the list machine answers; or the first of these.
-    ensures replies { IfOk result (λ replies. replies ≡ trace same_state config.now.value_limit commands.now) }
-    ensures so_far { IfErr result (λ s. IsBegun s.replies (trace same_state config.now.value_limit commands.now)) }
-
-    // So far lists are told by their sizes and roots. Where nothing clashes that is hashed for the lists of the run, this is the same as by their operations.
-    ensures lists { HasNoClash config.now.value_limit commands.now → IfOk result (λ replies. replies ≡ trace one_list config.now.value_limit commands.now) }
-    ensures lists_so_far { HasNoClash config.now.value_limit commands.now → IfErr result (λ s. IsBegun s.replies (trace one_list config.now.value_limit commands.now)) }
+    // One reply to the opening and one to each command, as the list machine answers; or the first of these. Lists are told by their sizes and roots,
+    // so this is where nothing clashes that is hashed for the lists of the run.
+    ensures replies { HasNoClash config.now.value_limit commands.now →
+        IfOk result (λ replies. replies ≡ trace config.now.value_limit commands.now) }
+    ensures so_far { HasNoClash config.now.value_limit commands.now →
+        IfErr result (λ s. IsBegun s.replies (trace config.now.value_limit commands.now)) }
 
     // The volume stays as it was, whatever is answered.
     ensures clock { (V.state volume.new).clock ≡ (V.state volume.old).clock }
@@ -112,22 +111,27 @@ pub fn run_twins<V: Volume>(
     ensures reads { (V.state volume.new).reads ≡ (V.state volume.old).reads }
 
     // When each fault comes.
-    ensures volume { IfErr result (λ s. s.fault ≡ Fault.Volume → Rose (V.state volume.old).faults (V.state volume.new).faults) }
+    ensures volume { IfErr result (λ s. s.fault ≡ Fault.Volume →
+        Rose (V.state volume.old).faults (V.state volume.new).faults) }
     // Where the volume isn't fresh or fails nothing is answered.
     ensures unopened { IfErr result (λ s. ((s.fault ≡ Fault.Volume) ⊎ (s.fault ≡ Fault.NotFresh)) → s.replies ≡ []) }
-    ensures answered { IfErr result (λ s. (s.replies ≡ [] → ⊥) → V.tells → IsFresh config.now (V.state volume.old).log (V.state volume.old).map) }
+    ensures answered { IfErr result (λ s. (s.replies ≡ [] → ⊥) → V.tells →
+        IsFresh config.now (V.state volume.old).log (V.state volume.old).map) }
     // Where something is answered the volume has counted no failure.
     ensures kept { OnOk result ((V.state volume.new).faults ≡ (V.state volume.old).faults) }
-    ensures kept_so_far { IfErr result (λ s. (s.replies ≡ [] → ⊥) → (V.state volume.new).faults ≡ (V.state volume.old).faults) }
+    ensures kept_so_far { IfErr result (λ s. (s.replies ≡ [] → ⊥) →
+        (V.state volume.new).faults ≡ (V.state volume.old).faults) }
     ensures fresh { OnOk result (V.tells → IsFresh config.now (V.state volume.old).log (V.state volume.old).map) }
-    ensures not_fresh { IfErr result (λ s. s.fault ≡ Fault.NotFresh → V.tells → IsFresh config.now (V.state volume.old).log (V.state volume.old).map → ⊥) }
+    ensures not_fresh { IfErr result (λ s. s.fault ≡ Fault.NotFresh → V.tells →
+        IsFresh config.now (V.state volume.old).log (V.state volume.old).map → ⊥) }
 
     // Over a fresh volume with nothing set to fail no other fault than want of memory comes.
-    ensures complete { (V.state volume.old).steady → (V.state volume.old).faults < 2 ^ 64 - 1 → V.tells → IsFresh config.now (V.state volume.old).log (V.state volume.old).map → IfErr result (λ s. s.fault ≡ Fault.Memory) }
+    ensures complete { (V.state volume.old).steady → (V.state volume.old).faults < 2 ^ 64 - 1 → V.tells →
+        IsFresh config.now (V.state volume.old).log (V.state volume.old).map →
+        IfErr result (λ s. s.fault ≡ Fault.Memory) }
     ensures faults { (V.state volume.old).faults ≤ (V.state volume.new).faults }
     ensures steady { (V.state volume.old).steady → StaysSteady (V.state volume.old) (V.state volume.new) }
 {
-    states_tell_lists(config.value_limit());
     if let Err(fault) = check_fresh(config, volume) {
         let replies = ListOf::new(alloc);
         return Err(Stopped { fault, replies });

@@ -1,5 +1,5 @@
 use Rattle.std.proofs.Common.{◌≡◌, ◌+◌, drop}
-use Rattle.log_model.specs.Sizes.{first_at_least}
+use Rattle.log_model.specs.AppliedSizes.{first_at_least}
 use Rattle.log_model.proofs.sizes.first_at_least.Given as goal
 
 abbrev pub invariant-loop-i : goal.invariant-loop-i

@@ -2,7 +2,7 @@ use Rattle.twin_run.proofs.Endings.{fault_of, not_whole, nothing_added, nothing_
 use Rattle.twin_run.proofs.main_call.run_and_write.Goals as goal
 
 pub returns-in_default-clause-run : goal.returns-in_default-clause-run
-returns-in_default-clause-run g c = wrote_nothing (g.O.Sink.written c.args.output.now) (g.O.Sink.faults c.args.output.now) c.args.commands.now
+returns-in_default-clause-run g c = λ clear. wrote_nothing (g.O.Sink.written c.args.output.now) (g.O.Sink.faults c.args.output.now) c.args.commands.now
 
 pub returns-clause-unopened : goal.returns-clause-unopened
 returns-clause-unopened g c is =

@@ -1,7 +1,7 @@
 use Rattle.std.proofs.Common.{◌≡◌, ◌+◌, ◌≤◌, ◌++◌, [], ◌∷◌, List, length, ◌∙◌, refl, sym, ap, subst, arith}
 use Rattle.std.proofs.lemmas.List.{length-append}
-use Rattle.log_model.specs.Batches.{size_of, appended}
-use Rattle.log_model.specs.Batches as batches
+use Rattle.log_model.specs.StateBatches.{size_of, appended}
+use Rattle.log_model.specs.StateBatches as batches
 use Rattle.log_model.specs.Good.{AreAppends}
 use Rattle.log_model.specs.Machine.{max_leaves, with_batch}
 use Rattle.op_codec.specs.declared.keyless.Operation.TheVariants.{Append}

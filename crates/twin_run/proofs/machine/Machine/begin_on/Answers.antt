@@ -1,6 +1,6 @@
 use Rattle.std.proofs.Common.{◌≡◌, ◌++◌, ◌∷◌, [], List, refl, sym, subst, arith}
-use Rattle.log_model.specs.Batches as batches
-use Rattle.log_model.specs.Batches.{begun_on}
+use Rattle.log_model.specs.StateBatches as batches
+use Rattle.log_model.specs.StateBatches.{begun_on}
 use Rattle.twin_run.specs.Lists.{list_at, lists_in}
 use Rattle.twin_run.specs.Operation.{Operation}
 use Rattle.twin_run.specs.Pool.{Slots}

@@ -3,7 +3,7 @@ use Rattle.std.proofs.lemmas.List.{set-set}
 use Rattle.chain_core.specs.declared.commitment.Commitment.{Commitment}
 use Rattle.tree_shape.specs.declared.mmr.Mmr.{Mmr}
 use Rattle.tree_shape.specs.declared.sha256.Sha256Digest.{Sha256Digest}
-use Rattle.log_model.specs.Batches as batches
+use Rattle.log_model.specs.StateBatches as batches
 use Rattle.log_model.specs.Reach.{sealed_here}
 use Rattle.op_codec.specs.declared.keyless.Operation.TheVariants.{Commit}
 use Rattle.command_text.specs.declared.command.Answer.TheVariants as answer

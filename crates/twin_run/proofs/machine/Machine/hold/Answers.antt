@@ -1,8 +1,8 @@
 use Rattle.std.proofs.Common.{◌<◌, ◌+◌, Some, set, sym, ◌∙◌, refl, ap, subst}
 use Rattle.std.proofs.lemmas.Option.{same_Some}
 use Rattle.chain_core.specs.Slots.{holds_of}
-use Rattle.log_model.specs.Batches as batches
-use Rattle.log_model.specs.Batches.{with_hold}
+use Rattle.log_model.specs.StateBatches as batches
+use Rattle.log_model.specs.StateBatches.{with_hold}
 use Rattle.log_model.specs.Machine.{with_batch}
 use Rattle.command_text.specs.declared.command.Answer.TheVariants as answer
 use Rattle.twin_run.specs.Commitments.{same_state}

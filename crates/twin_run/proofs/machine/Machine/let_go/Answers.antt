@@ -1,8 +1,8 @@
 use Rattle.std.proofs.Common.{◌<◌, ◌-◌, Some, set, sym, ◌∙◌, refl, subst}
 use Rattle.std.proofs.lemmas.Option.{same_Some}
 use Rattle.chain_core.specs.Slots.{holds_of}
-use Rattle.log_model.specs.Batches as batches
-use Rattle.log_model.specs.Batches.{without_hold}
+use Rattle.log_model.specs.StateBatches as batches
+use Rattle.log_model.specs.StateBatches.{without_hold}
 use Rattle.twin_run.specs.Operation.{Operation}
 use Rattle.twin_run.specs.Pool.{Slots}
 use Rattle.twin_run.specs.StateOf.{AreBatchesOf, AreFew}

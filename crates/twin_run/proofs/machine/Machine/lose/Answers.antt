@@ -1,7 +1,7 @@
 use Rattle.std.proofs.Common.{◌<◌, set, sym, subst, ap, ◌∙◌}
 use Rattle.std.specs.Option.{ForSome}
 use Rattle.chain_core.specs.Slots.{holds_of}
-use Rattle.log_model.specs.Batches as batches
+use Rattle.log_model.specs.StateBatches as batches
 use Rattle.chain_core.specs.Slots.{link_released}
 use Rattle.twin_run.specs.Pool.{Slots}
 use Rattle.twin_run.specs.StateOf.{AreBatchesOf, AreFew}

@@ -2,7 +2,7 @@ use Rattle.std.proofs.Common.{◌≡◌, ◌++◌, ◌∷◌, [], List, length, 
 use Rattle.chain_core.specs.declared.bounds.Bounds.{Bounds}
 use Rattle.tree_shape.specs.declared.mmr.Mmr.{Mmr}
 use Rattle.tree_shape.specs.declared.sha256.Sha256Digest.{Sha256Digest}
-use Rattle.log_model.specs.Batches as batches
+use Rattle.log_model.specs.StateBatches as batches
 use Rattle.log_model.specs.Operations.{floor_of}
 use Rattle.command_text.specs.declared.command.Answer.TheVariants as answer
 use Rattle.twin_run.specs.Operation.{Operation, meaning}

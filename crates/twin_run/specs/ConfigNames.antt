@@ -8,4 +8,5 @@ same_name a b = pointwise nat_eq a b
 -- two of the four names are one
 abbrev pub are_names_same : List ℕ → List ℕ → List ℕ → List ℕ → Bool
 are_names_same log nodes metadata witness =
-    same_name log nodes || same_name log metadata || same_name log witness || same_name nodes metadata || same_name nodes witness || same_name metadata witness
+    same_name log nodes || same_name log metadata || same_name log witness || same_name nodes metadata
+    || same_name nodes witness || same_name metadata witness

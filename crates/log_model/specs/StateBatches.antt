@@ -50,7 +50,16 @@ sealed u boundary tips commit floor = record {
 
 -- A sealed batch of a whole list, to which nothing was added. The caller holds it once.
 abbrev pub snapshot_of : {Op : Type 0} → List Op → ℕ → SealedBatch Op
-snapshot_of list floor = record { parent = None; list = list; base = length list; boundary = length list; tips = []; floor = floor; holds = 1 }
+snapshot_of list floor =
+    record {
+      parent = None;
+      list = list;
+      base = length list;
+      boundary = length list;
+      tips = [];
+      floor = floor;
+      holds = 1;
+    }
 
 -- Whether the caller holds it.
 abbrev pub is_held : {Op : Type 0} → SealedBatch Op → Bool
