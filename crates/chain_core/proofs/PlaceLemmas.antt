@@ -1,5 +1,5 @@
 -- Why a batch of a place isn't sealed.
-use Rattle.std.proofs.Common.{◌≡◌, ℕ, ◌+◌, ◌^◌, ◌<◌, ◌≤◌, Bool, true, false, List, Option, Some, None, refl, sym, arith}
+use Rattle.std.proofs.Common.{◌≡◌, ℕ, ◌+◌, ◌^◌, ◌<◌, ◌≤◌, Bool, true, false, List, Some, refl, sym, arith}
 use Rattle.std.specs.Prelude.{Contains, IsSome, nat_lt, Result, Err}
 use Rattle.std.specs.Bool.{Decides}
 use Rattle.std.specs.Cmp.{back_equiv}
@@ -7,7 +7,6 @@ use Rattle.std.specs.Ordering.{flip_args}
 use Rattle.std.proofs.lemmas.Bool.Decides.{nat_tests}
 use Rattle.log_model.specs.Machine.{max_leaves}
 use Rattle.log_model.specs.Refusals.{floor_refusal, commit_refusal}
-use Rattle.log_model.specs.declared.refusal.Refusal.{Refusal}
 use Rattle.log_model.specs.declared.refusal.Refusal.TheVariants.{StaleBatch, LocationOverflow}
 use Rattle.chain_core.specs.Commitments.{is_same, is_same_equivalence, is_same-exact}
 use Rattle.chain_core.specs.Sealing.{refusal_of, Refuses, is_at}

@@ -205,37 +205,38 @@ fresh_good_among among limit known = record {
 }
 
 pub are_good : RunsAreGood
-are_good limit cs = run_good limit fresh_state cs (fresh_good_among AnyList limit tt)
+are_good = record { fresh = λ limit. fresh_good_among AnyList limit tt; runs = run_good }
 
 -- ---- a run on its way
 
--- a state that a run of all these commands reaches, with some of them left: it is good among the lists that the run passes, and from it on the run
--- passes no others
-pub record IsOnWay (limit : ℕ) (all : List Command) (s : State Operation) (left : List Command) : Type 0 where
-  pub good : IsGoodState (Contains (lists_passed limit fresh_state all)) limit s
-  pub known : (list : List Operation) → Contains (lists_passed limit s left) list → Contains (lists_passed limit fresh_state all) list
+-- a state that a run of all these commands reaches from a first state, with some of them left: it is good among the lists that the run passes, and
+-- from it on the run passes no others
+pub record IsOnWay (limit : ℕ) (first : State Operation) (all : List Command) (s : State Operation) (left : List Command) : Type 0 where
+  pub good : IsGoodState (Contains (lists_passed limit first all)) limit s
+  pub known : (list : List Operation) → Contains (lists_passed limit s left) list → Contains (lists_passed limit first all) list
 
-pub way_begins : (limit : ℕ) (all : List Command) → IsOnWay limit all fresh_state all
+-- over a fresh volume it begins
+pub way_begins : (limit : ℕ) (all : List Command) → IsOnWay limit fresh_state all fresh_state all
 way_begins limit all = record {
   good = fresh_good_among (Contains (lists_passed limit fresh_state all)) limit (here_passed limit fresh_state all (plain_commit ∷ []) (0, omega arith, refl));
   known = λ list has. has;
 }
 
-way_goes : (limit : ℕ) (all : List Command) (s : State Operation) (c : Command) (left : List Command) → IsOnWay limit all s (c ∷ left) → IsOnWay limit all (step limit s c).1 left
-way_goes limit all s c left way =
-    let next : State Operation = (step limit s c).1 in
-    let later : (list : List Operation) → Contains (lists_passed limit next left) list → Contains (lists_passed limit fresh_state all) list = λ list has. way.known list (later_passed limit s c left list has) in
-    record {
-      good = stay_good_among (Contains (lists_passed limit fresh_state all)) limit s c (λ list has. later list (here_passed limit next left list has)) way.good;
-      known = later;
-    }
+module _ (limit : ℕ) (first : State Operation) (all : List Command) (s : State Operation) where
+  way_goes : (c : Command) (left : List Command) → IsOnWay limit first all s (c ∷ left) → IsOnWay limit first all (step limit s c).1 left
+  way_goes c left way =
+      let next : State Operation = (step limit s c).1 in
+      let later : (list : List Operation) → Contains (lists_passed limit next left) list → Contains (lists_passed limit first all) list = λ list has. way.known list (later_passed limit s c left list has) in
+      record {
+        good = stay_good_among (Contains (lists_passed limit first all)) limit s c (λ list has. later list (here_passed limit next left list has)) way.good;
+        known = later;
+      }
 
--- the next of the commands
-pub way_next : (limit : ℕ) (all : List Command) (s : State Operation) (i : ℕ) (c : Command) → i < length all → get_or all i c ≡ c → IsOnWay limit all s (drop i all) → IsOnWay limit all (step limit s c).1 (drop (i + 1) all)
-way_next limit all s i c lt is way =
-    way_goes limit all s c (drop (i + 1) all) (subst (IsOnWay limit all s) (drop_more all i c lt ∙ ap (λ (x : Command). x ∷ drop (i + 1) all) is) way)
+  -- the next of the commands
+  pub way_next : (i : ℕ) (c : Command) → i < length all → get_or all i c ≡ c → IsOnWay limit first all s (drop i all) → IsOnWay limit first all (step limit s c).1 (drop (i + 1) all)
+  way_next i c lt is way = way_goes c (drop (i + 1) all) (subst (IsOnWay limit first all s) (drop_more all i c lt ∙ ap (λ (x : Command). x ∷ drop (i + 1) all) is) way)
 
--- where nothing clashes, size and root tell the lists of the state
-pub way_told : (limit : ℕ) (all : List Command) (s : State Operation) (left : List Command) → StatesAreTold limit → HasNoClash limit all → IsOnWay limit all s left → IsTold s
-unfolding HasNoClash
-way_told limit all s left law clear way = law (lists_passed limit fresh_state all) s clear way.good
+  -- where nothing clashes, size and root tell the lists of the state
+  pub way_told : (left : List Command) → StatesAreTold limit → HasNoClash limit first all → IsOnWay limit first all s left → IsTold s
+  unfolding HasNoClash
+  way_told left law clear way = law (lists_passed limit first all) s clear way.good

@@ -14,8 +14,8 @@ use Rattle.command_text.specs.declared.command.Answer.TheVariants as answer
 use Rattle.log_model.specs.declared.refusal.Refusal.{Refusal}
 use Rattle.command_text.specs.declared.command.Reply.{Reply}
 use Rattle.log_model.specs.Refusals.{floor_refusal}
-use Rattle.twin_run.specs.Step.{Outcome, root_of_list, step, reply, begin, begin_on, append_to, seal_refusal, metadata_length, sealed_or_lost, seal, apply, hold, release}
-use Rattle.twin_run.specs.Trace.{trace, replies_from, state_after, fresh_state}
+use Rattle.twin_run.specs.Step.{Outcome, step, reply, begin, begin_on, append_to, seal_refusal, metadata_length, sealed_or_lost, seal, apply, hold, release}
+use Rattle.twin_run.specs.Trace.{trace, replies_from, state_after}
 use Rattle.twin_run.specs.Laws.{SizesNeverFall, TellsList, RepliesTellLists, RunsContinue, loses_batch, RefusalsKeep}
 
 -- what holds of both choices holds of the one that a test makes
@@ -100,10 +100,10 @@ never_fall_from limit s (c ∷ cs) (suc i) (suc j) d le lt = never_fall_from lim
 
 pub never_fall : SizesNeverFall
 unfolding trace
-never_fall limit cs zero zero d le lt = omega arith
-never_fall limit cs zero (suc j) d le lt = later_larger limit fresh_state cs j d (omega arith)
-never_fall limit cs (suc i) zero d le lt = absurd (omega arith)
-never_fall limit cs (suc i) (suc j) d le lt = never_fall_from limit fresh_state cs i j d (omega arith) (omega arith)
+never_fall limit s cs zero zero d le lt = omega arith
+never_fall limit s cs zero (suc j) d le lt = later_larger limit s cs j d (omega arith)
+never_fall limit s cs (suc i) zero d le lt = absurd (omega arith)
+never_fall limit s cs (suc i) (suc j) d le lt = never_fall_from limit s cs i j d (omega arith) (omega arith)
 
 -- ---- what replies tell
 
@@ -120,8 +120,8 @@ tell_from limit s (c ∷ cs) (suc i) r e = tell_from limit (step limit s c).1 cs
 
 pub tell_lists : RepliesTellLists
 unfolding trace
-tell_lists limit cs zero r e = this_tells (answer.Opened 1 0, fresh_state) r e
-tell_lists limit cs (suc i) r e = tell_from limit fresh_state cs i r e
+tell_lists limit s cs zero r e = this_tells (answer.Opened (length s.ops) s.start, s) r e
+tell_lists limit s cs (suc i) r e = tell_from limit s cs i r e
 
 -- ---- runs that continue
 
@@ -131,7 +131,7 @@ continue_from limit s (c ∷ cs) ds = ap (λ (rs : List Reply). reply (step limi
 
 pub continues : RunsContinue
 unfolding trace
-continues limit cs ds = ap (λ (rs : List Reply). reply (answer.Opened 1 0, fresh_state) ∷ rs) (continue_from limit fresh_state cs ds)
+continues limit s cs ds = ap (λ (rs : List Reply). reply (answer.Opened (length s.ops) s.start, s) ∷ rs) (continue_from limit s cs ds)
 
 -- ---- refusals
 

@@ -11,12 +11,12 @@ use Rattle.twin_run.specs.declared.ending.Fault.TheVariants.{Volume, NotFresh, M
 use Rattle.log_model.specs.Machine.{State}
 use Rattle.twin_run.specs.Operation.{Operation}
 use Rattle.twin_run.specs.Step.{step, reply}
-use Rattle.twin_run.specs.Trace.{trace, replies_from, fresh_state, IsBegun}
+use Rattle.twin_run.specs.Trace.{trace, replies_from, IsBegun}
 
 -- no replies are the first ones
-pub none_begun : (limit : ℕ) (commands : List Command) (replies : List Reply) → replies ≡ [] → IsBegun replies (trace limit commands)
+pub none_begun : (limit : ℕ) (s : State Operation) (commands : List Command) (replies : List Reply) → replies ≡ [] → IsBegun replies (trace limit s commands)
 unfolding trace
-none_begun limit commands replies e = rw e (record { front = refl; fewer = omega arith })
+none_begun limit s commands replies e = rw e (record { front = refl; fewer = omega arith })
 
 -- a count that stays below its last value didn't rise
 pub not_risen : (before now : ℕ) → now ≡ before → before < 2 ^ 64 - 1 → Rose before now → ⊥
@@ -52,9 +52,10 @@ module _ (limit : ℕ) (s : State Operation) (commands : List Command) (replies 
       more (c ∷ cs) h = omega arith
 
 -- the opening alone is told
-pub told_first : (limit : ℕ) (commands : List Command) (opening : Reply) (replies : List Reply) → replies ≡ opening ∷ [] → opening ≡ reply (answer.Opened 1 0, fresh_state) → replies ++ replies_from limit fresh_state commands ≡ trace limit commands
+pub told_first : (limit : ℕ) (s : State Operation) (commands : List Command) (opening : Reply) (replies : List Reply) → replies ≡ opening ∷ [] → opening ≡ reply (answer.Opened (length s.ops) s.start, s)
+    → replies ++ replies_from limit s commands ≡ trace limit s commands
 unfolding trace
-told_first limit commands opening replies e f = rw (e, f) refl
+told_first limit s commands opening replies e f = rw (e, f) refl
 
 pub on_err : {A E : Type 0} {P : Type 0} (r : Result A E) → P → OnErr r P
 on_err (Ok x) p = tt

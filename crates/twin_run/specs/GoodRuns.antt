@@ -45,6 +45,8 @@ pub record EachStaysGood (limit : ℕ) : Type 0 where
 abbrev pub StepsStayGood : Type 0
 StepsStayGood = (limit : ℕ) → EachStaysGood limit
 
--- So each state of a run is good.
-abbrev pub RunsAreGood : Type 0
-RunsAreGood = (limit : ℕ) (cs : List Command) → IsGoodState AnyList limit (state_after limit fresh_state cs)
+-- So the state in which a fresh volume is opened is good, and each state of a run from a good one on.
+pub record RunsAreGood : Type 0 where
+  pub fresh : (limit : ℕ) → IsGoodState AnyList limit fresh_state
+  pub runs : (limit : ℕ) (s : State Operation) (cs : List Command) → IsGoodState AnyList limit s
+      → IsGoodState AnyList limit (state_after limit s cs)

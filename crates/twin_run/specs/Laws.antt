@@ -11,15 +11,12 @@ use Rattle.log_model.specs.declared.refusal.Refusal.{Refusal}
 use Rattle.log_model.specs.declared.refusal.Refusal.TheVariants as refusal
 use Rattle.command_text.specs.declared.command.Reply.{Reply}
 use Rattle.twin_run.specs.Step.{step, root_of_list}
-use Rattle.twin_run.specs.Trace.{trace, replies_from, state_after, fresh_state}
-
--- The list after a run of these commands.
-abbrev pub list_after : ℕ → List Command → List Operation
-list_after limit cs = (state_after limit fresh_state cs).ops
+use Rattle.twin_run.specs.Trace.{trace, replies_from, state_after}
 
 -- The sizes in the replies of a run never fall.
 abbrev pub SizesNeverFall : Type 0
-SizesNeverFall = (limit : ℕ) (cs : List Command) → IsNonDecreasingBy (λ (r : Reply). r.size) (trace limit cs)
+SizesNeverFall =
+    (limit : ℕ) (s : State Operation) (cs : List Command) → IsNonDecreasingBy (λ (r : Reply). r.size) (trace limit s cs)
 
 -- A reply tells the size and the root of a list.
 pub record TellsList (r : Reply) (list : List Operation) : Type 0 where
@@ -29,14 +26,13 @@ pub record TellsList (r : Reply) (list : List Operation) : Type 0 where
 
 -- Each reply of a run tells the list after the commands up to it, and nothing else of them.
 abbrev pub RepliesTellLists : Type 0
-RepliesTellLists = (limit : ℕ) (cs : List Command) (i : ℕ) (r : Reply) → slice_get (trace limit cs) i ≡ Some r
-    → TellsList r (list_after limit (take i cs))
+RepliesTellLists = (limit : ℕ) (s : State Operation) (cs : List Command) (i : ℕ) (r : Reply)
+    → slice_get (trace limit s cs) i ≡ Some r → TellsList r (state_after limit s (take i cs)).ops
 
 -- A run of two lists of commands is the run of the first, continued by the second.
 abbrev pub RunsContinue : Type 0
-RunsContinue =
-    (limit : ℕ) (cs ds : List Command) → trace limit (cs ++ ds) ≡ trace limit cs
-    ++ replies_from limit (state_after limit fresh_state cs) ds
+RunsContinue = (limit : ℕ) (s : State Operation) (cs ds : List Command)
+    → trace limit s (cs ++ ds) ≡ trace limit s cs ++ replies_from limit (state_after limit s cs) ds
 
 -- A seal that is refused for this reason loses its batch.
 abbrev pub loses_batch : Refusal → Bool

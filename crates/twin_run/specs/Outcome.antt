@@ -14,7 +14,7 @@ use Rattle.line_text.specs.Lines.{lines_of}
 use Rattle.command_text.specs.Grammar.{InputSays}
 use Rattle.command_text.specs.Bad.{IsFirstBad}
 use Rattle.command_text.specs.Text.{text_of}
-use Rattle.twin_run.specs.Trace.{trace, HasNoClash, IsBegun}
+use Rattle.twin_run.specs.Trace.{trace, fresh_state, HasNoClash, IsBegun}
 
 -- the input was read to its end, and isn't too long
 pub record IsWhole (old new : Option (List ℕ)) : Type 0 where
@@ -35,13 +35,13 @@ pub record IsInput (old new : Option (List ℕ)) (commands : List Command) : Typ
   pub whole : IsWhole old new
   pub said : IfSome old (λ bytes. InputSays bytes commands)
 
--- the replies to these commands, under the program's configuration
+-- the replies of a run of these commands over a fresh volume, under the program's configuration
 abbrev pub replies_to : List Command → List Reply
-replies_to commands = trace standard_config.value_limit commands
+replies_to commands = trace standard_config.value_limit fresh_state commands
 
 -- nothing clashes that is hashed for the lists of a run of these commands
 abbrev pub IsClear : List Command → Type 0
-IsClear commands = HasNoClash standard_config.value_limit commands
+IsClear commands = HasNoClash standard_config.value_limit fresh_state commands
 
 -- the input says commands, and where nothing clashes the text of all replies to them was written
 pub record IsAnswered (left left' written written' : Option (List ℕ)) : Type 0 where

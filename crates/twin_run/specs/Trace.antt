@@ -32,13 +32,13 @@ lists_passed limit s (c ∷ cs) = lists_here s ++ lists_passed limit (step limit
 abbrev pub fresh_state : State Operation
 fresh_state = synced (fresh plain_commit)
 
--- The replies of a run on a fresh volume: one to the opening, and one to each command.
-unfoldable pub trace : ℕ → List Command → List Reply
-trace limit cs = reply (answer.Opened 1 0, fresh_state) ∷ replies_from limit fresh_state cs
+-- The replies of a run that opens in a state: one to the opening, and one to each command.
+unfoldable pub trace : ℕ → State Operation → List Command → List Reply
+trace limit s cs = reply (answer.Opened (length s.ops) s.start, s) ∷ replies_from limit s cs
 
--- Nothing clashes that is hashed for the lists of a run on a fresh volume.
-unfoldable pub HasNoClash : ℕ → List Command → Type 0
-HasNoClash limit cs = NoClash mmr sha meaning (lists_passed limit fresh_state cs)
+-- Nothing clashes that is hashed for the lists of a run that opens in a state: the log's, and those of the batches that it seals.
+unfoldable pub HasNoClash : ℕ → State Operation → List Command → Type 0
+HasNoClash limit s cs = NoClash mmr sha meaning (lists_passed limit s cs)
 
 -- The first replies of a run, and not all of them.
 pub record IsBegun (some all : List Reply) : Type 0 where

@@ -33,7 +33,7 @@ pub fn steps_stay_good()
     ensures { StepsStayGood }
 {}
 
-/// Each state of a run is good.
+/// The state in which a fresh volume is opened is good, and each state of a run from a good one on.
 pub fn runs_are_good()
     ensures { RunsAreGood }
 {}

@@ -3,7 +3,7 @@ ghost use Rattle.std.specs.FinMap as map;
 ghost use Rattle.codec_base.specs.Causes.{Rose};
 ghost use Rattle.volume_base.specs.Volume.{SameContents, PastStays, StaysSteady, Reads};
 ghost use Rattle.twin_run.specs.declared.ending.Fault.TheVariants.{Volume, NotFresh, Memory};
-ghost use Rattle.twin_run.specs.Trace.{trace, HasNoClash, IsFreshLog, IsFresh, IsBegun};
+ghost use Rattle.twin_run.specs.Trace.{trace, fresh_state, HasNoClash, IsFreshLog, IsFresh, IsBegun};
 
 use crate::config::TwinConfig;
 use crate::ending::{Fault, Stopped};
@@ -23,8 +23,10 @@ fn answer_all(
     replies: &mut Replies,
 ) -> Result<(), CodecError>
     requires { replies.old ≡ [] }
-    ensures ok { OnOk result (HasNoClash limit commands.now → replies.new ≡ trace limit commands.now) }
-    ensures err { OnErr result (HasNoClash limit commands.now → IsBegun replies.new (trace limit commands.now)) }
+    ensures ok { OnOk result (HasNoClash limit fresh_state commands.now →
+        replies.new ≡ trace limit fresh_state commands.now) }
+    ensures err { OnErr result (HasNoClash limit fresh_state commands.now →
+        IsBegun replies.new (trace limit fresh_state commands.now)) }
     ensures memory { IsOkUnless result CodecError.Memory }
 {
     states_are_told(limit);
@@ -98,10 +100,10 @@ pub fn run_twins<V: Volume>(
 ) -> Result<Replies, Stopped>
     // One reply to the opening and one to each command, as the list machine answers; or the first of these. Lists are told by their sizes and roots,
     // so this is where nothing clashes that is hashed for the lists of the run.
-    ensures replies { HasNoClash config.now.value_limit commands.now →
-        IfOk result (λ replies. replies ≡ trace config.now.value_limit commands.now) }
-    ensures so_far { HasNoClash config.now.value_limit commands.now →
-        IfErr result (λ s. IsBegun s.replies (trace config.now.value_limit commands.now)) }
+    ensures replies { HasNoClash config.now.value_limit fresh_state commands.now →
+        IfOk result (λ replies. replies ≡ trace config.now.value_limit fresh_state commands.now) }
+    ensures so_far { HasNoClash config.now.value_limit fresh_state commands.now →
+        IfErr result (λ s. IsBegun s.replies (trace config.now.value_limit fresh_state commands.now)) }
 
     // The volume stays as it was, whatever is answered.
     ensures clock { (V.state volume.new).clock ≡ (V.state volume.old).clock }

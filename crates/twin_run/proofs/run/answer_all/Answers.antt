@@ -14,7 +14,7 @@ loop-command-init c =
     let opened = c.in_ok-machine.ensures.opened in
     let first : c.push.new.self ≡ opening ∷ [] = c.in_ok-push.ensures.ok ∙ ap (λ (rs : List Reply). rs ++ (opening ∷ [])) c.requires in record {
       kept = (fresh_state, opened);
-      told = λ clear. (fresh_state, opened, way_begins c.args.limit c.args.commands.now, told_first c.args.limit c.args.commands.now opening c.push.new.self first (c.reply-opening.ensures fresh_state opened.ops));
+      told = λ clear. (fresh_state, opened, way_begins c.args.limit c.args.commands.now, told_first c.args.limit fresh_state c.args.commands.now opening c.push.new.self first (c.reply-opening.ensures fresh_state opened.ops));
       count = ap length first;
       limit = c.in_ok-machine.ensures.limit;
       taken = c.in_ok-machine.ensures.taken;
@@ -35,13 +35,13 @@ loop-command-preserved c =
       told = λ clear.
           let t = inv.told clear in
           let s = t.0 in
-          let told = way_told limit commands s (drop i commands) c.states_are_told.ensures clear t.2 in
+          let told = way_told limit fresh_state commands s (drop i commands) c.states_are_told.ensures clear t.2 in
           let one = subst (λ n. RepliesAs (step n s command) c.step.new.self r) inv.limit (c.in_ok-reply.ensures.ok s told t.1) in (
             (step limit s command).1,
             one.1,
-            way_next limit commands s i command c.loop-command-test.true (sym c.command-item.is) t.2,
-            subst (λ (rs : List Reply). rs ++ replies_from limit (step limit s command).1 (drop (i + 1) commands) ≡ trace limit commands) (sym more)
-                (told_more limit s commands c.loop-command.replies i (trace limit commands) command r c.loop-command-test.true (sym c.command-item.is) one.0 t.3),
+            way_next limit fresh_state commands s i command c.loop-command-test.true (sym c.command-item.is) t.2,
+            subst (λ (rs : List Reply). rs ++ replies_from limit (step limit s command).1 (drop (i + 1) commands) ≡ trace limit fresh_state commands) (sym more)
+                (told_more limit s commands c.loop-command.replies i (trace limit fresh_state commands) command r c.loop-command-test.true (sym c.command-item.is) one.0 t.3),
           );
       count = count;
       limit = c.step.ensures.limit ∙ inv.limit;
@@ -53,12 +53,12 @@ returns-in_err-reply-clause-err c =
     let commands = c.args.commands.now in
     on_err c.from_residual-in_err-reply.result (λ clear.
     let t = c.loop-command.invariant.told clear in
-    told_begun c.args.limit t.0 commands c.loop-command.replies c.loop-command.command-index (trace c.args.limit commands) c.loop-command-test.true t.3)
+    told_begun c.args.limit t.0 commands c.loop-command.replies c.loop-command.command-index (trace c.args.limit fresh_state commands) c.loop-command-test.true t.3)
 
 pub returns-in_err-push-2-clause-err : goal.returns-in_err-push-2-clause-err
 returns-in_err-push-2-clause-err c =
     let commands = c.args.commands.now in
     on_err c.from_residual-in_err-push-2.result (λ clear.
     let t = c.loop-command.invariant.told clear in
-    subst (λ (rs : List Reply). IsBegun rs (trace c.args.limit commands)) (sym c.in_err-push-2.ensures.err)
-    (told_begun c.args.limit t.0 commands c.loop-command.replies c.loop-command.command-index (trace c.args.limit commands) c.loop-command-test.true t.3))
+    subst (λ (rs : List Reply). IsBegun rs (trace c.args.limit fresh_state commands)) (sym c.in_err-push-2.ensures.err)
+    (told_begun c.args.limit t.0 commands c.loop-command.replies c.loop-command.command-index (trace c.args.limit fresh_state commands) c.loop-command-test.true t.3))

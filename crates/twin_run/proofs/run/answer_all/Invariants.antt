@@ -2,14 +2,14 @@ use Rattle.std.proofs.Common.{◌≡◌, ◌+◌, ◌++◌, drop, length}
 use Rattle.log_model.specs.Machine.{State}
 use Rattle.twin_run.specs.Operation.{Operation}
 use Rattle.twin_run.specs.StateOf.{IsKept, IsStateOf}
-use Rattle.twin_run.specs.Trace.{trace, replies_from, HasNoClash}
+use Rattle.twin_run.specs.Trace.{trace, replies_from, fresh_state, HasNoClash}
 use Rattle.twin_run.proofs.RunGood.{IsOnWay}
 use Rattle.twin_run.proofs.run.answer_all.Given as goal
 
 abbrev pub invariant-loop-command : goal.invariant-loop-command
 invariant-loop-command l = let left = drop l.command-index l.commands in record {
   kept : IsKept l.machine;
-  told : HasNoClash l.limit l.commands → (s : State Operation) × IsStateOf l.machine s × IsOnWay l.limit l.commands s left × (l.replies ++ replies_from l.limit s left ≡ trace l.limit l.commands);
+  told : HasNoClash l.limit fresh_state l.commands → (s : State Operation) × IsStateOf l.machine s × IsOnWay l.limit fresh_state l.commands s left × (l.replies ++ replies_from l.limit s left ≡ trace l.limit fresh_state l.commands);
   count : length l.replies ≡ l.command-index + 1;
   limit : l.machine.limit ≡ l.limit;
   taken : l.machine.taken ≡ l.command-index;

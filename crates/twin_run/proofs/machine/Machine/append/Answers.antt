@@ -10,7 +10,6 @@ use Rattle.log_model.specs.declared.refusal.Refusal.TheVariants.{LocationOverflo
 use Rattle.twin_run.specs.declared.batch.Batch.{Batch}
 use Rattle.twin_run.specs.declared.batch.Batch.TheVariants.{Unsealed}
 use Rattle.twin_run.specs.Operation.{meaning}
-use Rattle.twin_run.specs.Commitments.{same_state}
 use Rattle.twin_run.specs.Step.{refused, append_to}
 use Rattle.twin_run.specs.StateOf.{AreBatchesOf}
 use Rattle.twin_run.proofs.Matching.{read_at}
@@ -30,7 +29,7 @@ returns-then-size-ge-MAX_LEAVES-clause-ok c = λ s k.
     let w = unsealed_in m s k b u e in
     let o = w.3 in
     let size : c.size.result + c.len-in-Unsealed-2.result ≡ size_of w.0 = let base = o.base in let own = ap length o.pending in omega (arith, c.size.ensures.value, base, own) in
-    meets _ _ (refused s (LocationOverflow (size_of w.0 + 1))) _ (ap (append_to m.limit s b c.args.value.now) w.2 ∙ append_full same_state s b w.0 m.limit c.args.value.now (omega arith) (omega (arith, size)))
+    meets _ _ (refused s (LocationOverflow (size_of w.0 + 1))) _ (ap (append_to m.limit s b c.args.value.now) w.2 ∙ append_full s b w.0 m.limit c.args.value.now (omega arith) (omega (arith, size)))
     (ap (λ n. answer.Refused (LocationOverflow (n + 1))) size) (record {
       log = record { history = k.log.history; head = k.log.head };
       start = k.start;
@@ -53,7 +52,7 @@ returns-in_ok-push-in-Unsealed-clause-ok c = λ s k.
     let l = length-append u.own.items (Append c.args.value.now ∷ []) in
     let few : length c.push.new.self.items ≤ max_leaves = rw items (let own = ap length o.pending in omega (arith, l, size, own)) in
     let appends : AreAppends meaning c.push.new.self.items = rw items (appends_push u.own.items (Append c.args.value.now) o.appends refl) in
-    meets _ _ (answer.Done, with_batch s b (batches.Unsealed (appended w.0 (Append c.args.value.now)))) _ (ap (append_to m.limit s b c.args.value.now) w.2 ∙ append_done same_state s b w.0 m.limit c.args.value.now (omega arith) (omega (arith, size)))
+    meets _ _ (answer.Done, with_batch s b (batches.Unsealed (appended w.0 (Append c.args.value.now)))) _ (ap (append_to m.limit s b c.args.value.now) w.2 ∙ append_done s b w.0 m.limit c.args.value.now (omega arith) (omega (arith, size)))
     refl (record {
       log = record { history = k.log.history; head = k.log.head };
       start = k.start;

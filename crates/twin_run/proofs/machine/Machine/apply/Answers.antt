@@ -3,7 +3,7 @@ use Rattle.log_model.specs.Machine.{applied}
 use Rattle.command_text.specs.declared.command.Answer.TheVariants as answer
 use Rattle.log_model.specs.declared.refusal.Refusal.TheVariants.{StaleBatch}
 use Rattle.twin_run.specs.Step.{refused, apply}
-use Rattle.twin_run.proofs.Handlers.{held_there, item_there, item_bounds, item_applied, item_applies, apply_stale, apply_done, meets}
+use Rattle.twin_run.proofs.Handlers.{held_there, item_bounds, item_applied, item_applies, apply_stale, apply_done, meets}
 use Rattle.twin_run.proofs.machine.Machine.apply.Goals as goal
 
 pub may_apply-requires-clause-bounds : goal.may_apply-requires-clause-bounds

@@ -1,7 +1,6 @@
 use Rattle.std.proofs.Common.{length, Some, refl, sym, ◌∙◌, ap, subst}
 use Rattle.log_model.specs.Machine.{begun}
 use Rattle.command_text.specs.declared.command.Answer.TheVariants as answer
-use Rattle.twin_run.specs.Commitments.{same_state}
 use Rattle.twin_run.specs.Step.{begin, begin_on}
 use Rattle.twin_run.specs.StateOf.{LinkIs, IsStateOf}
 use Rattle.twin_run.proofs.Matching.{sealed_within}
@@ -23,6 +22,6 @@ returns-clause-ok c = λ s k.
     let t = held_there m s k p j (sym c.in-Some-held.ensures.held) in
     let link : LinkIs bs (length bs) (Some j.id) (Some p) = (sealed_within bs p j t.sealed, record { holding = j; sealed = t.sealed; id_is = refl }) in
     let is = c.in_ok-begin_on-2.ensures in
-    meets _ _ (answer.Batch (length s.batches), begun s (Some p) t.batch.list) _ (ap (begin s) c.in-Some.is ∙ ap (begin_on s p) t.machine ∙ begin_held same_state s p t.batch t.held)
+    meets _ _ (answer.Batch (length s.batches), begun s (Some p) t.batch.list) _ (ap (begin s) c.in-Some.is ∙ ap (begin_on s p) t.machine ∙ begin_held s p t.batch t.held)
     (ap answer.Batch (is.number ∙ sym k.batches.count))
     (subst (λ list. IsStateOf c.begin_on-2.new.self (begun s (Some p) list)) (sym (item_list m s k p j t c.item.result.now c.item.ensures)) (is.begun s (Some p) k link))

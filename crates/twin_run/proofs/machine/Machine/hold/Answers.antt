@@ -5,7 +5,6 @@ use Rattle.log_model.specs.StateBatches as batches
 use Rattle.log_model.specs.StateBatches.{with_hold}
 use Rattle.log_model.specs.Machine.{with_batch}
 use Rattle.command_text.specs.declared.command.Answer.TheVariants as answer
-use Rattle.twin_run.specs.Commitments.{same_state}
 use Rattle.twin_run.specs.Pool.{Slots}
 use Rattle.twin_run.specs.Step.{hold}
 use Rattle.twin_run.specs.StateOf.{AreBatchesOf, AreFew}
@@ -22,7 +21,7 @@ returns-clause-ok c = λ s k.
     let j = c.in-Some.held in
     let t = held_there m s k b j (sym c.in-Some.ensures.held) in
     let d = with_hold t.batch in
-    meets _ _ (answer.Done, with_batch s b (batches.Sealed d)) _ (ap (hold s b) t.machine ∙ hold_done same_state s b t.batch t.held)
+    meets _ _ (answer.Done, with_batch s b (batches.Sealed d)) _ (ap (hold s b) t.machine ∙ hold_done s b t.batch t.held)
     refl (record {
       log = record { history = k.log.history; head = k.log.head };
       start = k.start;
