@@ -6,6 +6,7 @@ use chain_core::{
     merkleizable, validate_batch_applicable, validate_merkleize_floor,
 };
 use codec_base::ListOf;
+use command_text::Refusal;
 use std::alloc::Global;
 use std::test::Fail;
 use tree_shape::{Hasher, Location, Mmr, Sha256Digest, Sha256Hasher};
@@ -153,9 +154,9 @@ fn carried(alloc: Global, size: u64, floor: u64) -> Link
     }
 }
 
-/// At which sizes a batch of two operations behind size 5 may be sealed, with this floor.
+/// At which sizes a batch of six operations and its commit may be sealed, with this floor.
 fn sealed_at(place: &Place<Mmr, Sha256Digest>, size: u64, floor: u64) -> Result<u64, Error<Mmr>> {
-    place.check(&state(size, 0), 5, 2, Location::new(floor))
+    place.check(&state(size, 0), 6, Location::new(floor))
 }
 
 #[test]
@@ -174,6 +175,8 @@ fn a_batch_is_sealed_in_the_place_that_its_living_ancestors_give(
     assert_eq!(rt; sealed_at(&place, 5, 1), Err(regressed));
     let beyond = Error::FloorBeyondSize(Location::new(7), Location::new(6));
     assert_eq!(rt; sealed_at(&place, 5, 7), Err(beyond));
+    assert_eq!(rt; beyond.refusal(), Some(Refusal::FloorBeyondSize(7, 6)));
+    assert_eq!(rt; Error::<Mmr>::StaleRead.refusal(), None);
     Ok(())
 }
 
