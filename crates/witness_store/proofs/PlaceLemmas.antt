@@ -10,7 +10,7 @@ use Rattle.std.proofs.lemmas.List.{length-map, length-drop, drop-map}
 use Rattle.codec_base.specs.Codec.{Reading, IsLawful}
 use Rattle.codec_base.specs.Reads.{one_value}
 use Rattle.journal_base.specs.Items.{Items}
-use Rattle.log_model.specs.Sizes.{first_at_least}
+use Rattle.log_model.specs.AppliedSizes.{first_at_least}
 use Rattle.volume_base.specs.Log.{end_of}
 use Rattle.witness_store.specs.declared.search.Found.{Found}
 use Rattle.witness_store.specs.declared.witness.Witness.{Witness}

@@ -4,7 +4,7 @@ use Rattle.std.specs.List.{AllByRecursion}
 use Rattle.volume_base.specs.Volume.{State}
 use Rattle.journal_base.specs.Items.{Items, Spells, items_of}
 use Rattle.journal_base.specs.View.{View}
-use Rattle.log_model.specs.Sizes.{first_at_least}
+use Rattle.log_model.specs.AppliedSizes.{first_at_least}
 use Rattle.witness_store.specs.declared.witness.Witness.{Witness}
 use Rattle.witness_store.specs.Witness.{text_of, IsAllowed}
 
