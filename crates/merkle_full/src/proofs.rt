@@ -61,8 +61,7 @@ impl<F: Family, D: Digest> Merkle<F, D> {
         inactive_peaks: u64,
     ) -> Result<Proof<F, D>, Error<F>>
         requires { inactive_peaks ≤ length (F.shape.heights leaves) }
-        ensures proves {
-            IsProved V.tells F.shape D.spelling (D.Read.admits tt) (D.Read.reads tt) self.now (present (V.state vol.old))
+        ensures proves { IsProved V.tells F.shape D.spelling (D.Read.admits tt) (D.Read.reads tt) self.now (present (V.state vol.old))
             (leaf_history self.now.tree.leaves leaves loc) leaves inactive_peaks loc (loc + 1) result }
         ensures uncalled { (e : Error F) →
             leaf_history self.now.tree.leaves leaves loc ≡ Err e → vol.new ≡ vol.old }
@@ -88,8 +87,7 @@ impl<F: Family, D: Digest> Merkle<F, D> {
         inactive_peaks: u64,
     ) -> Result<Proof<F, D>, Error<F>>
         requires { inactive_peaks ≤ length (F.shape.heights leaves) }
-        ensures proves {
-            IsProved V.tells F.shape D.spelling (D.Read.admits tt) (D.Read.reads tt) self.now (present (V.state vol.old))
+        ensures proves { IsProved V.tells F.shape D.spelling (D.Read.admits tt) (D.Read.reads tt) self.now (present (V.state vol.old))
             (history_answer self.now.tree.leaves leaves start end) leaves inactive_peaks start end result }
         ensures uncalled { (e : Error F) →
             history_answer self.now.tree.leaves leaves start end ≡ Err e → vol.new ≡ vol.old }
