@@ -3,7 +3,7 @@
 //!
 //! | through the volume | plainly |
 //! |---|---|
-//! | `append`: appends of one item, and a sync behind each thousandth | `write`: a write of the same bytes each, and the same syncs |
+//! | `append`: appends of one item, and a sync behind each thousandth | `write`: a write of the same bytes each, and the same syncs: the first also of the names of file and folder |
 //! | `read`: reads of single items | `seek`: a seek and a read of the same bytes each |
 //! | `open`: the log is opened anew | `load`: its file is read |
 #![tactic(auto)]
@@ -73,7 +73,17 @@ fn append(rt: &HostRuntime, folder: &str, count: u64) -> Result<(), BenchError> 
     Ok(())
 }
 
-fn write(rt: &HostRuntime, path: &str, count: u64) -> Result<(), BenchError> {
+/// Makes the names in a folder and its own outlast a crash.
+fn sync_names(rt: &HostRuntime, folder: &str) -> Result<(), BenchError> {
+    let alloc = rt.alloc();
+    let inside = format!(in alloc; "{folder}/.")?;
+    File::open(rt, inside.as_str())?.sync_all()?;
+    let above = format!(in alloc; "{folder}/..")?;
+    File::open(rt, above.as_str())?.sync_all()?;
+    Ok(())
+}
+
+fn write(rt: &HostRuntime, folder: &str, path: &str, count: u64) -> Result<(), BenchError> {
     let mut file = File::create(rt, path)?;
     let item = stored_item();
     file.write_all(&[0u8; 8])?;
@@ -81,6 +91,9 @@ fn write(rt: &HostRuntime, path: &str, count: u64) -> Result<(), BenchError> {
         file.write_all(&item)?;
         if made % 1000 == 999 {
             file.sync_all()?;
+        }
+        if made == 999 {
+            sync_names(rt, folder)?;
         }
     }
     Ok(())
@@ -144,7 +157,7 @@ fn main(rt: HostRuntime) -> Result<(), BenchError> {
     let path = format!(in alloc; "{folder}/log.log")?;
     match work.as_str() {
         "append" => append(&rt, folder, count),
-        "write" => write(&rt, path.as_str(), count),
+        "write" => write(&rt, folder, path.as_str(), count),
         "read" => read(&rt, folder, count),
         "seek" => seek(&rt, path.as_str(), count),
         "open" => open(&rt, folder, count),
