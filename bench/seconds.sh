@@ -1,16 +1,15 @@
-# The processor time of programs, for the benchmarks.
+# The processor time of programs, for the benchmarks. It needs bash, whose `time` counts thousandths of a second.
 
 # The processor time, user's and system's, of so many runs of a program, in seconds.
 seconds() {
-    (
+    bash -c '
+        TIMEFORMAT="%3U %3S"
         left=$1
         shift
-        while [ "$left" -gt 0 ]; do
-            "$@" >/dev/null
+        time while [ "$left" -gt 0 ]; do
+            "$@" >/dev/null 2>&1
             left=$((left - 1))
-        done
-        times
-    ) | awk 'NR == 2 { gsub(/[ms]/, " "); print $1 * 60 + $2 + $3 * 60 + $4 }'
+        done' seconds "$@" 2>&1 | awk '{ print $1 + $2 }'
 }
 
 # The least of five rounds.
