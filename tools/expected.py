@@ -13,7 +13,7 @@ from pathlib import Path
 
 import proofs
 import trees
-from trees import Mmr, digest, node, number, peaks
+from trees import Mmb, Mmr, digest, node, number, peaks
 
 VALUE_LIMIT = 1048576           # the standard configuration's
 
@@ -271,6 +271,9 @@ def known_digests():
             known.add(node(Mmr, ELEMENTS, first, height).hex())
         known.add(node(Mmr, ELEMENTS, leaves, 0).hex())
     known.update(one for _, one in proofs.rows())
+    for family in (Mmr, Mmb):
+        for leaves in (8, 11):
+            known.add(trees.root(family, [bytes([leaf]) for leaf in range(leaves)], 0, True).hex())
     for floors in FLOORS:
         known.add(list_root([commit(None, floor) for floor in floors], floors[-1] if floors else 0))
     for _, limit, lines in RUNS:

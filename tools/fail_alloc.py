@@ -93,18 +93,31 @@ def faults_without_output(program, name, lines):
             for number, ending in enumerate(endings, 1) if ending != NO_MEMORY]
 
 
-def main(words):
+def begun(words, usage):
+    """The status with which a check of a program ends at once: 2 without the program, 0 without a C compiler; None where it can go on."""
     if len(words) != 1:
-        print(__doc__.strip(), file=sys.stderr)
+        print(usage.strip(), file=sys.stderr)
         return 2
     if not sys.platform.startswith("linux") or shutil.which("cc") is None:
         print("skipped: no C compiler, so no allocation is made to fail")
         return 0
+    return None
+
+
+def library_in(folder):
+    """Makes the library by which one allocation fails, and gives its path."""
+    library = f"{folder}/fail_alloc.so"
     source = Path(__file__).with_name("fail_alloc.c")
+    subprocess.run(["cc", "-O1", "-shared", "-fPIC", "-o", library, source], check=True)
+    return library
+
+
+def main(words):
+    ended = begun(words, __doc__)
+    if ended is not None:
+        return ended
     with tempfile.TemporaryDirectory() as scratch:
-        library, told = f"{scratch}/fail_alloc.so", f"{scratch}/told"
-        subprocess.run(["cc", "-O1", "-shared", "-fPIC", "-o", library, source], check=True)
-        program = Program(words[0], library, told)
+        program = Program(words[0], library_in(scratch), f"{scratch}/told")
         runs = [(name, lines) for name, limit, lines in expected.RUNS if limit == expected.VALUE_LIMIT]
         results = [faults_of(program, name, lines) for name, lines in runs]
         unwritten = faults_without_output(program, *runs[1]) if os.path.exists(FULL) else []

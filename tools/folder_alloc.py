@@ -15,6 +15,8 @@ import sys
 import tempfile
 from pathlib import Path
 
+from fail_alloc import begun, library_in
+
 BEFORE = b"append log one . three\nsync log\nreplace map k v\n"
 CALLS = ["append log four five", "append new one", "sync log", "cut log 1", "prune log 2", "clear log 7", "clear new 7",
          "remove log", "replace map k other", "replace new k v", "take map"]
@@ -31,9 +33,7 @@ class Calls:
 
     def __init__(self, path, scratch):
         self.path, self.scratch, self.told = os.path.abspath(path), Path(scratch), f"{scratch}/told"
-        self.library = f"{scratch}/fail_alloc.so"
-        source = Path(__file__).with_name("fail_alloc.c")
-        subprocess.run(["cc", "-O1", "-shared", "-fPIC", "-o", self.library, source], check=True)
+        self.library = library_in(scratch)
 
     def run(self, script, failing=None):
         settings = dict(os.environ)
@@ -69,12 +69,9 @@ def faults_of(calls, call, is_there):
 
 
 def main(words):
-    if len(words) != 1:
-        print(__doc__.strip(), file=sys.stderr)
-        return 2
-    if not sys.platform.startswith("linux") or shutil.which("cc") is None:
-        print("skipped: no C compiler, so no allocation is made to fail")
-        return 0
+    ended = begun(words, __doc__)
+    if ended is not None:
+        return ended
     with tempfile.TemporaryDirectory() as scratch:
         calls = Calls(words[0], scratch)
         results = [faults_of(calls, call, is_there) for call in CALLS for is_there in (True, False)]

@@ -30,7 +30,7 @@ fn imported(alloc: Global, peaks: [u8; 2]) -> Result<Belt, Error<Mmb>> {
     Mem::init(alloc, Vec::new(alloc), Location::new(3), pins)
 }
 
-/// The batch sealed with one leaf more.
+/// The batch sealed with one leaf more, over so many of its ancestors, or all where there are fewer.
 fn sealed<F: Family, H: Hasher>(
     batch: UnmerkleizedBatch<F, H::Digest>,
     hasher: &Standard<H>,
@@ -39,7 +39,8 @@ fn sealed<F: Family, H: Hasher>(
 ) -> Result<MerkleizedBatch<F, H::Digest>, Error<F>> {
     let mut batch = batch;
     batch.add_leaf_digest(leaf)?;
-    batch.merkleize(hasher, reached)
+    let kept = reached.min(batch.segments());
+    batch.merkleize(hasher, kept)
 }
 
 /// Appends two leaves by a batch and its child, one after the other. On no tree is the child stale.
