@@ -95,6 +95,7 @@ fn answers(alloc: Global, batches: &[&Batch]) -> Result<(Option<Error<Mmb>>, u64
 #[test]
 fn a_child_goes_on_from_its_parent_on_any_pins(rt: HostRuntime) -> Result<(), Fail> {
     let mut tree = imported(rt.alloc(), [1, 2])?;
+    assert!(rt; tree.leaves().as_u64() == 3);
     append_two(&mut tree, &hasher(), digest(3), digest(4))?;
     let parent = parent(rt.alloc(), [1, 2])?;
     let child = child(&parent, false)?;
