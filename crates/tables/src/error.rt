@@ -2,11 +2,13 @@ use codec_base::CodecError;
 use std::alloc::{AllocError, AllocFailed};
 use std::io;
 use tree_core::Error;
+use volume_base::VolumeError;
 
-/// Why the table couldn't be printed.
+/// Why a table couldn't be printed.
 #[derive(Debug, Drop)]
 pub(crate) enum TableError {
     Tree,
+    Volume,
     Output,
     Memory,
 }
@@ -14,6 +16,12 @@ pub(crate) enum TableError {
 impl<F> From<Error<F>> for TableError {
     fn from(_: Error<F>) -> Self {
         TableError::Tree
+    }
+}
+
+impl From<VolumeError> for TableError {
+    fn from(_: VolumeError) -> Self {
+        TableError::Volume
     }
 }
 

@@ -1,48 +1,9 @@
-//! Prints the image of a log that each choice picks after a small history.
-#![tactic(auto)]
-
-use codec_base::{Bytes, CodecError};
+//! The image of a log that each choice of a crash picks after a small history.
+use crate::error::TableError;
+use codec_base::Bytes;
 use memory_volume::{LogChoice, MemoryVolume};
-use std::alloc::{AllocError, AllocFailed, Global};
-use std::io;
-use volume_base::{Volume, VolumeError};
-
-/// Why the table couldn't be printed.
-#[derive(Debug, Drop)]
-enum TableError {
-    Volume(VolumeError),
-    Output,
-}
-
-impl From<VolumeError> for TableError {
-    fn from(error: VolumeError) -> Self {
-        TableError::Volume(error)
-    }
-}
-
-impl From<CodecError> for TableError {
-    fn from(_: CodecError) -> Self {
-        TableError::Volume(VolumeError::Memory)
-    }
-}
-
-impl From<io::Error> for TableError {
-    fn from(_: io::Error) -> Self {
-        TableError::Output
-    }
-}
-
-impl From<AllocError> for TableError {
-    fn from(_: AllocError) -> Self {
-        TableError::Volume(VolumeError::Memory)
-    }
-}
-
-impl<T: Drop> From<AllocFailed<T>> for TableError {
-    fn from(_: AllocFailed<T>) -> Self {
-        TableError::Volume(VolumeError::Memory)
-    }
-}
+use std::alloc::Global;
+use volume_base::Volume;
 
 /// Appends an item for each of these bytes.
 fn append<V: Volume>(alloc: Global, vol: &mut V, bytes: &[u8]) -> Result<(), TableError> {
@@ -103,14 +64,14 @@ fn print_image(
     Ok(())
 }
 
-fn main(rt: HostRuntime) -> Result<(), TableError> {
-    let alloc = rt.alloc();
+/// Prints a line for each choice.
+pub(crate) fn print_crashes(rt: &impl Print, alloc: Global) -> Result<(), TableError> {
     let mut vol = MemoryVolume::new(alloc);
     history(alloc, &mut vol)?;
     for version in 0..7 {
         for start in 0..4 {
             for end in 2..7 {
-                print_image(&rt, alloc, &vol, version, start, end)?;
+                print_image(rt, alloc, &vol, version, start, end)?;
             }
         }
     }

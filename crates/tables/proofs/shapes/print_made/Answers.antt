@@ -1,6 +1,6 @@
 use Rattle.std.proofs.Common.{arith}
 use Rattle.tree_core.proofs.MemLemmas.{next_within}
-use Rattle.tree_table.proofs.shapes.print_made.Goals as goal
+use Rattle.tables.proofs.shapes.print_made.Goals as goal
 
 pub position-requires : goal.position-requires
 position-requires g c =

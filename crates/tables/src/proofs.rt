@@ -13,6 +13,9 @@ use tree_core::{
     Bagging, Digest, Family, Hasher, Location, Mem, Sha256Digest, Sha256Hasher, Standard,
 };
 
+/// How many leaves the greatest tree has.
+const LEAVES: u64 = 20;
+
 /// What was found of the proofs so far.
 #[derive(Drop)]
 struct Totals {
@@ -169,22 +172,19 @@ fn add_histories<F: Family>(
     Ok(())
 }
 
-/// Prints the lines of the trees of up to so many leaves, and what was found.
-pub(crate) fn print_family<F: Family>(
+/// Prints the lines of the small trees, and what was found.
+pub(crate) fn print_proofs<F: Family>(
     rt: &impl Print,
     alloc: Global,
     name: &str,
-    leaves: u64,
-) -> Result<(), TableError>
-    requires { leaves ≤ 2 ^ 62 }
-{
+) -> Result<(), TableError> {
     let mut totals = Totals::new();
     let mut tree = Mem::<F, Sha256Digest>::new(alloc)?;
-    for element in 0..leaves {
+    for element in 0..LEAVES {
         append(&mut tree, element)?;
         print_tree(rt, alloc, name, &tree, &mut totals)?;
     }
-    for fewer in 0..leaves {
+    for fewer in 0..LEAVES {
         add_histories(alloc, &tree, &mut totals, fewer + 1)?;
     }
     totals.print(rt, alloc, name)

@@ -1,31 +1,11 @@
 //! Digests over the nodes and the roots of trees whose elements are numbers.
+use crate::elements::append;
 use crate::error::TableError;
 use std::alloc::Global;
 use tree_core::{
     Bagging, Digest, Family, Hasher, Mem, Position, Sha256Digest, Sha256Hasher, Standard, Storage,
 };
 use volume_base::Volume;
-
-/// Appends a number to a tree.
-fn append<F: Family>(tree: &mut Mem<F, Sha256Digest>, element: u64) -> Result<(), TableError> {
-    let hasher = Standard::<Sha256Hasher>::new(Bagging::ForwardFold);
-    let mut batch = tree.new_batch()?;
-    batch.add(&hasher, &element.to_be_bytes())?;
-    tree.apply_batch(&batch.merkleize(&hasher, 0)?)?;
-    Ok(())
-}
-
-/// The tree of the numbers below this one.
-pub(crate) fn tree_of<F: Family>(
-    alloc: Global,
-    leaves: u64,
-) -> Result<Mem<F, Sha256Digest>, TableError> {
-    let mut tree = Mem::new(alloc)?;
-    for element in 0..leaves {
-        append(&mut tree, element)?;
-    }
-    Ok(tree)
-}
 
 /// One digest over all nodes of a store.
 pub(crate) fn nodes_digest<F: Family, S: Storage<F>, V: Volume>(

@@ -19,6 +19,18 @@ pub(crate) fn append<F: Family>(
     Ok(())
 }
 
+/// The tree of the numbers below this one.
+pub(crate) fn tree_of<F: Family>(
+    alloc: Global,
+    leaves: u64,
+) -> Result<Mem<F, Sha256Digest>, TableError> {
+    let mut tree = Mem::new(alloc)?;
+    for element in 0..leaves {
+        append(&mut tree, element)?;
+    }
+    Ok(tree)
+}
+
 /// The elements from one number on, up to another, with another element in the place of `damaged`.
 pub(crate) fn elements_of(
     alloc: Global,
