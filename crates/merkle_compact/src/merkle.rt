@@ -24,17 +24,16 @@ impl<F: Family, D: Digest> Model for Merkle<F, D> {
 }
 
 impl<F: Family, D: Digest> Merkle<F, D> {
-    ghost use Rattle.std.specs.Prelude.{◌≡◌, ℕ, ◌+◌, ◌≤◌, ◌<◌, ◌^◌, List, [], ◌∷◌, ◌++◌, length, map, drop, Ok, Err, OnOk, OnErr, IsOk, IfOk, IfErr, IsOkUnless};
+    ghost use Rattle.std.specs.Prelude.{◌≡◌, ℕ, ◌+◌, ◌≤◌, ◌<◌, ◌^◌, List, [], ◌∷◌, ◌++◌, length, drop, Ok, Err, OnOk, OnErr, IsOk, IfOk, IfErr, IsOkUnless};
     ghost use Rattle.tree_shape.specs.Hashing.{Hashing};
-    ghost use Rattle.tree_shape.specs.Shape.{peaks};
-    ghost use Rattle.tree_shape.specs.Slow.{leaf, node_of};
+    ghost use Rattle.tree_shape.specs.Slow.{leaf};
     ghost use Rattle.tree_shape.specs.Root.{root, root_over};
     ghost use Rattle.tree_shape.specs.Kept.{PeakOf};
     ghost use Rattle.tree_core.specs.Reading.{ArePeaks};
     ghost use Rattle.tree_core.specs.Tree.{Tree, node_at, IsSound, IsOf, empty_tree};
     ghost use Rattle.tree_core.specs.Batches.{BeginsAt, StandsAt, IsUnsealedOf, IsSealedOf};
     ghost use Rattle.tree_core.specs.Applied.{IsLonger, IsMarkOf, FitsTree, RefusedByTree, Fits, Refused};
-    ghost use Rattle.merkle_compact.specs.Frontier.{IsFrontier, frontier_answer};
+    ghost use Rattle.merkle_compact.specs.Frontier.{IsFrontier, HasPeaks, IsTreeOfPins, frontier_answer};
 
     /// The empty tree, where memory allows.
     pub fn new(alloc: Global) -> Result<Self, Error<F>>
@@ -55,11 +54,12 @@ impl<F: Family, D: Digest> Merkle<F, D> {
     ) -> Result<Self, Error<F>>
         ensures leaves { IfOk result (λ t. t.leaves ≡ leaves) }
         ensures frontier { IfOk result (IsFrontier F.shape) }
-        ensures pins { IfOk result (λ t. ArePeaks F.shape leaves (λ x k. node_at t (F.shape.position x k)) pinned_nodes.items) }
-        ensures tree { IfOk result (λ t. (h : Hashing D) (all : List D) → leaves ≡ length all → pinned_nodes.items ≡ map (node_of F.shape h all) (peaks F.shape leaves) →
-            IsOf F.shape h all t) }
-        ensures refused { (e : Error F) → frontier_answer F.shape leaves (length pinned_nodes.items) ≡ Err e → result ≡ Err e }
-        ensures memory { frontier_answer {F = F} F.shape leaves (length pinned_nodes.items) ≡ Ok tt → IsOkUnless result Error.Memory }
+        ensures pins { IfOk result (HasPeaks F.shape leaves pinned_nodes.items) }
+        ensures tree { IfOk result (IsTreeOfPins F.shape leaves pinned_nodes.items) }
+        ensures refused { (e : Error F) →
+            frontier_answer F.shape leaves (length pinned_nodes.items) ≡ Err e → result ≡ Err e }
+        ensures memory { frontier_answer {F = F} F.shape leaves (length pinned_nodes.items) ≡ Ok tt →
+            IsOkUnless result Error.Memory }
     {
         let mem = Mem::init(alloc, Vec::new(alloc), leaves, pinned_nodes)?;
         // Its leaves tell that the tree is sound.
@@ -72,11 +72,12 @@ impl<F: Family, D: Digest> Merkle<F, D> {
     pub fn reset_to(&mut self, leaves: Location<F>, pinned_nodes: Vec<D>) -> Result<(), Error<F>>
         ensures leaves { OnOk result (self.new.leaves ≡ leaves) }
         ensures frontier { OnOk result (IsFrontier F.shape self.new) }
-        ensures pins { OnOk result (ArePeaks F.shape leaves (λ x k. node_at self.new (F.shape.position x k)) pinned_nodes.items) }
-        ensures tree { OnOk result ((h : Hashing D) (all : List D) → leaves ≡ length all → pinned_nodes.items ≡ map (node_of F.shape h all) (peaks F.shape leaves) →
-            IsOf F.shape h all self.new) }
-        ensures refused { (e : Error F) → frontier_answer F.shape leaves (length pinned_nodes.items) ≡ Err e → result ≡ Err e }
-        ensures memory { frontier_answer {F = F} F.shape leaves (length pinned_nodes.items) ≡ Ok tt → IsOkUnless result Error.Memory }
+        ensures pins { OnOk result (HasPeaks F.shape leaves pinned_nodes.items self.new) }
+        ensures tree { OnOk result (IsTreeOfPins F.shape leaves pinned_nodes.items self.new) }
+        ensures refused { (e : Error F) →
+            frontier_answer F.shape leaves (length pinned_nodes.items) ≡ Err e → result ≡ Err e }
+        ensures memory { frontier_answer {F = F} F.shape leaves (length pinned_nodes.items) ≡ Ok tt →
+            IsOkUnless result Error.Memory }
         ensures err { OnErr result (self.new ≡ self.old) }
     {
         let rebuilt = Merkle::from_compact_state(self.alloc, leaves, pinned_nodes)?;
