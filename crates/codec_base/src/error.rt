@@ -1,5 +1,8 @@
 ghost use Rattle.std.specs.Prelude.{◌≡◌};
+ghost use Rattle.std.specs.Bool.{Decides};
+ghost use Rattle.codec_base.specs.declared.error.CodecError.{CodecError};
 ghost use Rattle.codec_base.specs.declared.error.CodecError.TheVariants.{Memory};
+ghost use Rattle.codec_base.specs.declared.error.InvalidAt.{InvalidAt};
 ghost use Rattle.codec_base.specs.Texts.{place_text, fault_text};
 
 use std::alloc::{AllocError, AllocFailed};
@@ -85,3 +88,9 @@ impl<T: Drop> From<AllocFailed<T>> for CodecError {
         CodecError::Memory
     }
 }
+
+/// Two errors are equal exactly where they are one: one variant with the same fields.
+pub fn equality_laws()
+    ensures codec { (a b : CodecError) → Decides (⟦<CodecError as PartialEq>⟧.eq a b) (a ≡ b) }
+    ensures place { (a b : InvalidAt) → Decides (⟦<InvalidAt as PartialEq>⟧.eq a b) (a ≡ b) }
+{}

@@ -11,13 +11,17 @@ pub fn spelling_laws<T: Read>(cfg: &T::Cfg)
     // No byte string is the spelling of two values.
     ensures one_value { (x y : T) → T.admits cfg.now x → T.admits cfg.now y → T.spelling x ≡ T.spelling y → x ≡ y }
     // No spelling begins another.
-    ensures no_front { (x y : T) (more : List ℕ) → T.admits cfg.now x → T.admits cfg.now y → T.spelling y ≡ T.spelling x ++ more → (x ≡ y) × (more ≡ []) }
+    ensures no_front { (x y : T) (more : List ℕ) → T.admits cfg.now x → T.admits cfg.now y →
+        T.spelling y ≡ T.spelling x ++ more → (x ≡ y) × (more ≡ []) }
     // What is spelled is read back, and exactly it is taken.
-    ensures read_back { (x : T) (rest : List ℕ) → T.admits cfg.now x → T.reads cfg.now (T.spelling x ++ rest) ≡ Ok (x, rest) }
+    ensures read_back { (x : T) (rest : List ℕ) → T.admits cfg.now x →
+        T.reads cfg.now (T.spelling x ++ rest) ≡ Ok (x, rest) }
     // What is read stood there, and is allowed.
-    ensures exact { (bytes : List ℕ) (x : T) (rest : List ℕ) → IsBytes bytes → T.reads cfg.now bytes ≡ Ok (x, rest) → (bytes ≡ T.spelling x ++ rest) × T.admits cfg.now x }
+    ensures exact { (bytes : List ℕ) (x : T) (rest : List ℕ) → IsBytes bytes → T.reads cfg.now bytes ≡ Ok (x, rest) →
+        (bytes ≡ T.spelling x ++ rest) × T.admits cfg.now x }
     // A refusal comes only where no front of the input is a spelling.
-    ensures refused { (bytes : List ℕ) (e : CodecError) → T.reads cfg.now bytes ≡ Err e → (x : T) (rest : List ℕ) → T.admits cfg.now x → bytes ≡ T.spelling x ++ rest → ⊥ }
+    ensures refused { (bytes : List ℕ) (e : CodecError) → T.reads cfg.now bytes ≡ Err e → (x : T) (rest : List ℕ) →
+        T.admits cfg.now x → bytes ≡ T.spelling x ++ rest → ⊥ }
     // A whole spelling is the one of its value.
     ensures decoded { (x : T) → T.admits cfg.now x → whole (T.reads cfg.now (T.spelling x)) ≡ Ok x }
 {}

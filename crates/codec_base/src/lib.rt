@@ -19,7 +19,7 @@ pub use bytes::{Bytes, undo_on_err};
 pub use codec::{EncodeSize, FixedSize, Read, Spelled, Write};
 pub use cursor::Cursor;
 pub use duplicate::Duplicate;
-pub use error::{CodecError, InvalidAt};
+pub use error::{CodecError, InvalidAt, equality_laws};
 pub use lawful::{spelling_laws, width_law};
 pub use list::ListOf;
 pub use number::U64;

@@ -24,7 +24,8 @@ pub fn decode<T: Read + Drop>(alloc: Global, bytes: &[u8], cfg: &T::Cfg) -> Resu
     // What is spelled so and allowed is read, unless memory runs out.
     ensures only { (x : T) → T.admits cfg.now x → bytes.now ≡ T.spelling x → Gives result (Ok x) }
     // Another refusal than want of memory comes only where nothing allowed is spelled so.
-    ensures refused { (e : CodecError) → IsErrOf result e → (e ≡ CodecError.Memory → ⊥) → (x : T) → T.admits cfg.now x → bytes.now ≡ T.spelling x → ⊥ }
+    ensures refused { (e : CodecError) → IsErrOf result e → (e ≡ CodecError.Memory → ⊥) → (x : T) →
+        T.admits cfg.now x → bytes.now ≡ T.spelling x → ⊥ }
     // Which refusal it is.
     ensures exact { Gives result (whole (T.reads cfg.now bytes.now)) }
 {

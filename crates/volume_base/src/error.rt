@@ -1,7 +1,11 @@
 ghost use Rattle.std.specs.Prelude.{◌≡◌};
+ghost use Rattle.std.specs.Bool.{Decides};
 ghost use Rattle.volume_base.specs.Errors.{as_journal_error};
 ghost use Rattle.volume_base.specs.declared.error.VolumeError.TheVariants as volume_error;
 ghost use Rattle.volume_base.specs.declared.error.JournalError.TheVariants as journal_error;
+ghost use Rattle.volume_base.specs.declared.error.VolumeError.{VolumeError};
+ghost use Rattle.volume_base.specs.declared.error.TreeCause.{TreeCause};
+ghost use Rattle.volume_base.specs.declared.error.JournalError.{JournalError};
 
 use std::alloc::{AllocError, AllocFailed};
 
@@ -92,3 +96,10 @@ impl From<VolumeError> for JournalError {
         }
     }
 }
+
+/// Two errors are equal exactly where they are one: one variant with the same fields.
+pub fn equality_laws()
+    ensures volume { (a b : VolumeError) → Decides (⟦<VolumeError as PartialEq>⟧.eq a b) (a ≡ b) }
+    ensures cause { (a b : TreeCause) → Decides (⟦<TreeCause as PartialEq>⟧.eq a b) (a ≡ b) }
+    ensures journal { (a b : JournalError) → Decides (⟦<JournalError as PartialEq>⟧.eq a b) (a ≡ b) }
+{}

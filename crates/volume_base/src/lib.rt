@@ -5,6 +5,6 @@ mod error;
 mod map;
 mod volume;
 
-pub use error::{JournalError, TreeCause, VolumeError};
+pub use error::{JournalError, TreeCause, VolumeError, equality_laws};
 pub use map::MetaMap;
 pub use volume::Volume;
