@@ -19,6 +19,7 @@ impl<R: Files + Drop> Contents<R>
 where
     R::File: Lock,
 {
+    /// The contents of the folder at this path. No file is opened yet.
     pub(crate) fn new(files: R, alloc: Global, path: &str) -> Result<Self, AllocError> {
         Ok(Contents {
             directory: Directory::new(files, alloc, path)?,
@@ -26,6 +27,7 @@ where
         })
     }
 
+    /// The first position that the log keeps and the one past its last.
     pub(crate) fn bounds(&mut self, name: &str) -> Result<(u64, u64), Failure> {
         match self.logs.find(&mut self.directory, name)? {
             Some(log) => Ok(log.bounds()),
@@ -33,6 +35,7 @@ where
         }
     }
 
+    /// The bytes of the item at this position, within the log's bounds.
     pub(crate) fn read(&mut self, name: &str, position: u64) -> Result<Bytes, Failure> {
         let alloc = self.directory.allocator();
         match self.logs.find(&mut self.directory, name)? {
@@ -41,11 +44,13 @@ where
         }
     }
 
+    /// Writes these items behind the log's last.
     pub(crate) fn append(&mut self, name: &str, items: &[Bytes]) -> Result<(), Failure> {
         let log = self.logs.make(&mut self.directory, name)?;
         log.append(&self.directory, name, items)
     }
 
+    /// Makes the log's items outlast a crash; of a log that isn't there nothing.
     pub(crate) fn sync(&mut self, name: &str) -> Result<(), Failure> {
         match self.logs.find(&mut self.directory, name)? {
             Some(log) => log.sync(&mut self.directory),
@@ -53,6 +58,7 @@ where
         }
     }
 
+    /// Ends the log at this position, within its bounds.
     pub(crate) fn cut(&mut self, name: &str, end: u64) -> Result<(), Failure> {
         match self.logs.find(&mut self.directory, name)? {
             Some(log) => log.cut(end),
@@ -60,6 +66,7 @@ where
         }
     }
 
+    /// Begins the log at this position, within its bounds.
     pub(crate) fn prune(&mut self, name: &str, start: u64) -> Result<(), Failure> {
         match self.logs.find(&mut self.directory, name)? {
             Some(log) => log.prune(&mut self.directory, name, start),
@@ -67,11 +74,13 @@ where
         }
     }
 
+    /// Empties the log, which then begins and ends at this position.
     pub(crate) fn clear(&mut self, name: &str, size: u64) -> Result<(), Failure> {
         let log = self.logs.make(&mut self.directory, name)?;
         log.clear(&mut self.directory, name, size)
     }
 
+    /// Takes the log and its file away.
     pub(crate) fn remove(&mut self, name: &str) -> Result<(), Failure> {
         match self.logs.find(&mut self.directory, name)? {
             Some(log) => log.remove(&mut self.directory, name),
@@ -79,6 +88,7 @@ where
         }
     }
 
+    /// The map of this name; an empty one where none was written.
     pub(crate) fn map(&mut self, name: &str) -> Result<MetaMap, Failure> {
         check_name(name)?;
         if !self.directory.is_there()? {
@@ -87,12 +97,14 @@ where
         read_map(&self.directory, name)
     }
 
+    /// Puts this map in place of the one that was written, in one step.
     pub(crate) fn replace_map(&mut self, name: &str, map: &MetaMap) -> Result<(), Failure> {
         check_name(name)?;
         self.directory.make()?;
         replace_map(&mut self.directory, name, map)
     }
 
+    /// Takes the map and its file away.
     pub(crate) fn remove_map(&mut self, name: &str) -> Result<(), Failure> {
         check_name(name)?;
         if !self.directory.is_there()? {

@@ -71,6 +71,7 @@ where
         })
     }
 
+    /// Where its names and maps are kept.
     pub(crate) fn allocator(&self) -> Global {
         self.alloc
     }

@@ -16,6 +16,7 @@ impl<R: Files + Drop> Logs<R>
 where
     R::File: Lock,
 {
+    /// No log is known yet.
     pub(crate) fn new(alloc: Global) -> Self {
         Logs {
             known: BTreeMap::new(alloc),

@@ -9,6 +9,7 @@ pub(crate) struct Synced<T> {
 }
 
 impl<T: OpenFile> Synced<T> {
+    /// This file or folder, of which no sync has failed.
     pub(crate) fn new(file: T) -> Self {
         Synced {
             file,
@@ -16,10 +17,12 @@ impl<T: OpenFile> Synced<T> {
         }
     }
 
+    /// What is open, to be read.
     pub(crate) fn file(&self) -> &T {
         &self.file
     }
 
+    /// What is open, to be written.
     pub(crate) fn file_mut(&mut self) -> &mut T {
         &mut self.file
     }
