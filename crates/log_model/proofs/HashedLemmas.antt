@@ -1,8 +1,8 @@
 -- Lists with one root.
-use Rattle.std.proofs.Common.{◌≡◌, ℕ, zero, suc, ◌^◌, ◌≤◌, ◌⊎◌, inl, inr, List, [], ◌∷◌, ◌++◌, length, map, drop, get_or, refl, sym, ◌∙◌, ap, subst, arith}
+use Rattle.std.proofs.Common.{◌≡◌, ℕ, ◌^◌, ◌≤◌, ◌⊎◌, inl, inr, List, [], ◌∷◌, ◌++◌, length, map, drop, get_or, refl, sym, ◌∙◌, ap, arith}
 use Rattle.std.specs.List.{flat_map, Contains, AllByRecursion}
 use Rattle.std.proofs.lemmas.List.{length-map}
-use Rattle.std.proofs.lemmas.List.Elements.{Contains-append_left, Contains-append_right, Contains-append_cases}
+use Rattle.std.proofs.lemmas.List.Elements.{Contains-append_cases}
 use Rattle.tree_shape.specs.Hashing.{Hashing}
 use Rattle.tree_shape.specs.Shape.{Shape, inactive}
 use Rattle.tree_shape.specs.Slow.{leaf_digests}
@@ -14,11 +14,7 @@ use Rattle.log_model.specs.Meaning.{Meaning}
 use Rattle.log_model.specs.Operations.{floor_of, root_of}
 use Rattle.log_model.specs.Hashed.{inputs_of, NoClash}
 use Rattle.log_model.proofs.OperationLemmas.{inactive-within}
-
-in_flat_map : {X A : Type 0} (f : X → List A) (xs : List X) (x : X) (a : A) → Contains xs x → Contains (f x) a → Contains (flat_map f xs) a
-in_flat_map f [] x a (k, within, is) c = absurd (omega (arith, within))
-in_flat_map f (y ∷ ys) x a (zero, within, is) c = Contains-append_left (f y) (flat_map f ys) a (subst (λ z. Contains (f z) a) (sym is) c)
-in_flat_map f (y ∷ ys) x a (suc k, within, is) c = Contains-append_right (f y) (flat_map f ys) a (in_flat_map f ys x a (k, omega (arith, within), is) c)
+use Rattle.tree_proof.proofs.InputLemmas.{in_flat_map}
 
 module _ {D Op V : Type 0} (s : Shape) (h : Hashing D) (m : Meaning Op V) where
   root_of_encodings : (ops : List Op) → root_of s h m ops ≡ root s h (leaf_digests s h (map m.encoding ops)) (inactive s (length ops) (floor_of m ops)) ForwardFold

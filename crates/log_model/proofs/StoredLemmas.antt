@@ -63,7 +63,7 @@ module _ {D Op V : Type 0} (s : Shape) (h : Hashing D) (spelling : D → List �
       let later : List D = leaves_from s h m (0 + length ops) more in
       record {
         operations = subst (λ (items : List (List ℕ)). IsPartOf items prune durable log) (sym (map-append m.encoding ops more)) (part_of_longer (map m.encoding ops) (map m.encoding more) prune durable log stands.operations);
-        tree = subst (λ (all : List D). tree.StandsFor s h spelling all node_durable log.start node_log metadata) (sym (leaves_from-append s h m 0 ops more)) (stands_longer s h spelling (leaves_from s h m 0 ops) later node_durable log.start node_log metadata w stands.tree);
+        tree = subst (λ (all : List D). tree.TreeStands s h spelling all node_durable log.start node_log metadata) (sym (leaves_from-append s h m 0 ops more)) (stands_longer s h spelling (leaves_from s h m 0 ops) later node_durable log.start node_log metadata w stands.tree);
       }
 
   -- ---- witnesses

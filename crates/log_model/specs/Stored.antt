@@ -32,7 +32,7 @@ module _ {D Op V : Type 0} (s : Shape) (h : Hashing D) (spelling : D → List �
   pub record FullStands (ops : List Op) (prune durable node_durable : ℕ) (log node_log : Log)
       (metadata : Map) : Type 0 where
     pub operations : IsPartOf (map m.encoding ops) prune durable log
-    pub tree : tree.StandsFor s h spelling (leaves_from s h m 0 ops) node_durable log.start node_log metadata
+    pub tree : tree.TreeStands s h spelling (leaves_from s h m 0 ops) node_durable log.start node_log metadata
 
   -- The witness log has witnesses of this list at these sizes, at least the durable ones, and all that aren't pruned.
   abbrev pub CompactStands : List Op → List ℕ → ℕ → ℕ → Log → Type 0

@@ -24,15 +24,16 @@ impl<F: Family, D: Digest> Model for Merkle<F, D> {
 }
 
 impl<F: Family, D: Digest> Merkle<F, D> {
-    ghost use Rattle.std.specs.Prelude.{◌≡◌, ℕ, ◌+◌, ◌≤◌, ◌<◌, ◌^◌, List, [], ◌∷◌, ◌++◌, length, drop, Ok, Err, OnOk, OnErr, IsOk, IfOk, IfErr, IsOkUnless};
+    ghost use Rattle.std.specs.Prelude.{◌≡◌, ℕ, ◌+◌, ◌≤◌, ◌<◌, ◌^◌, List, [], ◌∷◌, ◌++◌, length, reverse, drop, Ok, Err, OnOk, OnErr, IsOk, IfOk, IfErr, IsOkUnless};
     ghost use Rattle.tree_shape.specs.Hashing.{Hashing};
+    ghost use Rattle.tree_shape.specs.Shape.{made};
     ghost use Rattle.tree_shape.specs.Slow.{leaf};
     ghost use Rattle.tree_shape.specs.Root.{root, root_over};
     ghost use Rattle.tree_shape.specs.Kept.{PeakOf};
     ghost use Rattle.tree_core.specs.Reading.{ArePeaks};
     ghost use Rattle.tree_core.specs.Tree.{Tree, node_at, IsSound, IsOf, empty_tree};
-    ghost use Rattle.tree_core.specs.Batches.{BeginsAt, StandsAt, IsUnsealedOf, IsSealedOf};
-    ghost use Rattle.tree_core.specs.Applied.{IsLonger, IsMarkOf, FitsTree, RefusedByTree, Fits, Refused};
+    ghost use Rattle.tree_core.specs.Batches.{BeginsAt, StandsAt, IsUnsealedOf, IsSealedOf, sealed_node};
+    ghost use Rattle.tree_core.specs.Applied.{IsLonger, IsMarkOf, FitsTree, EndsAtTree, RefusedByTree, Fits, Refused};
     ghost use Rattle.merkle_compact.specs.Frontier.{IsFrontier, HasPeaks, IsTreeOfPins, frontier_answer};
 
     /// The empty tree, where memory allows.
@@ -136,6 +137,8 @@ impl<F: Family, D: Digest> Merkle<F, D> {
         ensures root { IfOk result (λ d. (all : List D) → IsOf F.shape H.hash all self.now → d ≡ root F.shape H.hash all inactive_peaks hasher.now) }
         ensures peaks { IfOk result (λ d. (ds : List D) → ArePeaks F.shape self.now.leaves (λ x k. node_at self.now (F.shape.position x k)) ds →
             d ≡ root_over H.hash self.now.leaves ds inactive_peaks hasher.now) }
+        ensures marked { IfOk result (λ d. (ps : List D) → IsMarkOf F.shape self.now self.now.leaves ps →
+            d ≡ root_over H.hash self.now.leaves (reverse ps) inactive_peaks hasher.now) }
     {
         self.mem.root(hasher, inactive_peaks)
     }
@@ -169,6 +172,7 @@ impl<F: Family, D: Digest> Merkle<F, D> {
     pub fn to_batch(&self) -> Result<MerkleizedBatch<F, D>, Error<F>>
         ensures stands { IfOk result (λ b. StandsAt self.now.leaves b) }
         ensures marked { IfOk result (λ b. IsMarkOf F.shape self.now b.began b.peaks × FitsTree F.shape self.now b 0) }
+        ensures behind { IfOk result (λ b. EndsAtTree F.shape b self.now) }
         ensures batch { IfOk result (λ b. (h : Hashing D) (all : List D) → IsOf F.shape h all self.now → IsSealedOf F.shape h all b) }
         ensures memory { IsOkUnless result Error.Memory }
     {
@@ -178,6 +182,9 @@ impl<F: Family, D: Digest> Merkle<F, D> {
     /// Appends what the batch has behind the mark of this tree. It refuses as `Mem::apply_batch`, and is then as before.
     pub fn apply_batch(&mut self, batch: &MerkleizedBatch<F, D>) -> Result<(), Error<F>>
         ensures longer { OnOk result (IsLonger F.shape batch.now.leaves self.old self.new) }
+        ensures since { OnOk result ((p : ℕ) → length (made F.shape self.old.leaves) ≤ p →
+            node_at self.new p ≡ sealed_node F.shape batch.now p) }
+        ensures behind { OnOk result (EndsAtTree F.shape batch.now self.new) }
         ensures marked { OnOk result ((i : ℕ) × FitsTree F.shape self.old batch.now i) }
         ensures answer { IfErr result (RefusedByTree F.shape self.old batch.now) }
         ensures fits { OnOk result ((h : Hashing D) (all : List D) → IsOf F.shape h all self.old → (i : ℕ) × Fits F.shape h all self.old.leaves batch.now i) }

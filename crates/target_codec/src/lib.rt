@@ -5,6 +5,6 @@ mod request;
 mod response;
 mod target;
 
-pub use request::Request;
-pub use response::Response;
+pub use request::{Request, request_equality_law};
+pub use response::{Response, response_equality_law};
 pub use target::{CompactTarget, EngineError, Target, advance_laws, equality_laws};

@@ -1,5 +1,5 @@
 ghost use Rattle.std.specs.Prelude.{◌≡◌};
-ghost use Rattle.target_codec.specs.Request.{size_of, start_of, max_ops_of};
+ghost use Rattle.target_codec.specs.Request.{size_of, start_of, max_ops_of, IsFieldwise};
 
 use std::num::NonZeroU64;
 use tree_shape::Location;
@@ -59,3 +59,8 @@ impl<F> Request<F> {
         }
     }
 }
+
+/// Two requests are equal where their kinds and their numbers are.
+pub fn request_equality_law<F>()
+    ensures { IsFieldwise (⟦<Request<F> as PartialEq>⟧.eq) }
+{}

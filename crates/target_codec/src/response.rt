@@ -1,3 +1,5 @@
+ghost use Rattle.target_codec.specs.Response.{IsFieldwise};
+
 use codec_base::ListOf;
 use tree_proof::Proof;
 
@@ -17,3 +19,8 @@ pub enum Response<F, Op, D> {
         pinned_nodes: ListOf<D>,
     },
 }
+
+/// Two answers are equal where their kinds and their fields are.
+pub fn response_equality_law<F, Op: PartialEq, D: PartialEq>()
+    ensures { IsFieldwise (⟦<Proof<F, D> as PartialEq>⟧.eq) Op.eq D.eq (⟦<Response<F, Op, D> as PartialEq>⟧.eq) }
+{}

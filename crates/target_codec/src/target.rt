@@ -1,7 +1,9 @@
 //! What a log is synced to.
 ghost use Rattle.std.specs.Prelude.{◌≡◌, ◌↔◌, ◌<◌, ◌&&◌, nat_eq, IsTrue};
+ghost use Rattle.std.specs.Bool.{Decides};
 ghost use Rattle.target_codec.specs.Target.{Advances};
 ghost use Rattle.target_codec.specs.declared.target.CompactTarget.{CompactTarget};
+ghost use Rattle.target_codec.specs.declared.target.EngineError.{EngineError};
 ghost use Rattle.target_codec.specs.declared.target.Target.{Target};
 
 use codec_base::{
@@ -68,10 +70,13 @@ pub fn advance_laws<F, D>()
     ensures transitive { (a b c : Target F D) → Advances a b → Advances b c → Advances a c }
 {}
 
-/// Targets are equal where their fields are.
+/// Targets are equal where their fields are, and two refusals exactly where they are one.
 pub fn equality_laws<F, D: Digest>()
-    ensures target { (t u : Target F D) → ⟦<Target<F, D> as PartialEq>⟧.eq t u ≡ (D.eq t.root u.root && (nat_eq t.start u.start && nat_eq t.end u.end)) }
-    ensures compact { (t u : CompactTarget F D) → ⟦<CompactTarget<F, D> as PartialEq>⟧.eq t u ≡ (D.eq t.root u.root && nat_eq t.size u.size) }
+    ensures target { (t u : Target F D) → ⟦<Target<F, D> as PartialEq>⟧.eq t u ≡
+        (D.eq t.root u.root && (nat_eq t.start u.start && nat_eq t.end u.end)) }
+    ensures compact { (t u : CompactTarget F D) → ⟦<CompactTarget<F, D> as PartialEq>⟧.eq t u ≡
+        (D.eq t.root u.root && nat_eq t.size u.size) }
+    ensures error { (a b : EngineError F) → Decides (⟦<EngineError<F> as PartialEq>⟧.eq a b) (a ≡ b) }
 {}
 
 impl<F, D: Copy> TryFrom<&CompactTarget<F, D>> for Target<F, D> {

@@ -12,7 +12,7 @@ use Rattle.tree_core.specs.KeptNodes.{entry_at, placed, AreBefore, ArePinsThenRu
 use Rattle.tree_verification.proofs.KeyLemmas.{key_apart, key_itself}
 use Rattle.tree_proof.proofs.RebuildLemmas.{append_nil}
 use Rattle.tree_core.proofs.Later.{get_past}
-use Rattle.tree_core.proofs.MemLemmas.{take-next}
+use Rattle.tree_store.proofs.StoreLemmas.{take-next}
 
 -- ---- an entry of a list, and of two joined
 

@@ -14,10 +14,11 @@ use Rattle.tree_shape.specs.Shape.{Shape, made, PeaksStand, IsLawful}
 use Rattle.tree_shape.specs.Kept.{KeepsPeaks}
 use Rattle.tree_shape.specs.Slow.{leaf_at, node_of, peak_digests}
 use Rattle.tree_proof.proofs.RebuildLemmas.{append_nil}
-use Rattle.tree_core.proofs.MemLemmas.{take-next, node-append, map-nodes-append}
+use Rattle.tree_core.proofs.MemLemmas.{node-append, map-nodes-append}
+use Rattle.tree_store.proofs.StoreLemmas.{take-next}
 use Rattle.tree_core.specs.Pruned.{made_from, nodes_from, peaks_at, Extends, Continues}
 use Rattle.tree_store.specs.Stores.{IsTreeOf}
-use Rattle.tree_core.specs.Links.{ChainSegment, IsLinked, IsLinkedOf, joined_nodes, HasMark, IsBatchOf, first_leaves}
+use Rattle.tree_core.specs.Links.{ChainSegment, IsLinked, IsLinkedOf, joined_nodes, HasMark, IsChainOf, first_leaves}
 use Rattle.tree_core.proofs.Later.{stands_since, get_past, get_front, made_from-split, nodes_same, peaks_at-append, tree_grown}
 
 pub linked_from : {D : Type 0} (s : Shape) (n : ℕ) (gs : List (ChainSegment D)) (m i c : ℕ) (ps : List D) → IsLinked s n gs m → HasMark gs i c ps → IsLinked s c (drop i gs) m
@@ -146,8 +147,8 @@ linked_of_push s h all more n (f ∷ fs) g w l e p j c =
     let r = joined_of s h all (n + f.later) fs l.3 in
     (l.0, l.1 ∙ sym (peaks_within s h all more n w (omega (arith, r.0))), l.2 ∙ sym (nodes_within s h all more n f.later w r.0), linked_of_push s h all more (n + f.later) fs g w l.3 e p j c)
 
-pub batch_push : {D : Type 0} (s : Shape) (h : Hashing D) (all more : List D) (began : ℕ) (ps : List D) (n : ℕ) (gs : List (ChainSegment D)) (g : ChainSegment D) → IsLawful s → IsBatchOf s h all began ps n gs
-    → g.leaves ≡ length all → g.peaks ≡ peaks_at s h all (length all) → g.later ≡ length more → g.nodes ≡ nodes_from s h (all ++ more) (length all) (length more) → IsBatchOf s h (all ++ more) began ps n (gs ++ (g ∷ []))
+pub batch_push : {D : Type 0} (s : Shape) (h : Hashing D) (all more : List D) (began : ℕ) (ps : List D) (n : ℕ) (gs : List (ChainSegment D)) (g : ChainSegment D) → IsLawful s → IsChainOf s h all began ps n gs
+    → g.leaves ≡ length all → g.peaks ≡ peaks_at s h all (length all) → g.later ≡ length more → g.nodes ≡ nodes_from s h (all ++ more) (length all) (length more) → IsChainOf s h (all ++ more) began ps n (gs ++ (g ∷ []))
 batch_push s h all more began ps n gs g w b e p j c = record {
   linked = linked_of_push s h all more n gs g w b.linked e p j c;
   before = b.before;
@@ -168,12 +169,12 @@ linked_push_map {D = D} {X = X} s f n m j xs ys x e l el ej en =
     let S : List X → Type 0 = λ zs. IsLinked s n (map f zs) (m + (f x).later) in
     subst R ej (subst S (sym e) (subst Q (sym all) pushed))
 
-pub batch_push_map : {D X : Type 0} (s : Shape) (h : Hashing D) (all more : List D) (f : X → ChainSegment D) (began : ℕ) (ps : List D) (n : ℕ) (xs ys : List X) (x : X) → IsLawful s → ys ≡ xs ++ (x ∷ []) → IsBatchOf s h all began ps n (map f xs)
-    → (f x).leaves ≡ length all → (f x).peaks ≡ peaks_at s h all (length all) → (f x).later ≡ length more → (f x).nodes ≡ nodes_from s h (all ++ more) (length all) (length more) → IsBatchOf s h (all ++ more) began ps n (map f ys)
+pub batch_push_map : {D X : Type 0} (s : Shape) (h : Hashing D) (all more : List D) (f : X → ChainSegment D) (began : ℕ) (ps : List D) (n : ℕ) (xs ys : List X) (x : X) → IsLawful s → ys ≡ xs ++ (x ∷ []) → IsChainOf s h all began ps n (map f xs)
+    → (f x).leaves ≡ length all → (f x).peaks ≡ peaks_at s h all (length all) → (f x).later ≡ length more → (f x).nodes ≡ nodes_from s h (all ++ more) (length all) (length more) → IsChainOf s h (all ++ more) began ps n (map f ys)
 batch_push_map {D = D} {X = X} s h all more f began ps n xs ys x w e b el ep ej en =
     let joined : map f (xs ++ (x ∷ [])) ≡ map f xs ++ (f x ∷ []) = map-append f xs (x ∷ []) in
-    let Q : List (ChainSegment D) → Type 0 = λ gs. IsBatchOf s h (all ++ more) began ps n gs in
-    let S : List X → Type 0 = λ zs. IsBatchOf s h (all ++ more) began ps n (map f zs) in
+    let Q : List (ChainSegment D) → Type 0 = λ gs. IsChainOf s h (all ++ more) began ps n gs in
+    let S : List X → Type 0 = λ zs. IsChainOf s h (all ++ more) began ps n (map f zs) in
     subst S (sym e) (subst Q (sym joined) (batch_push s h all more began ps n (map f xs) (f x) w b el ep ej en))
 
 pub peaks_longer : {D : Type 0} (s : Shape) (h : Hashing D) (all more : List D) (n : ℕ) → IsLawful s → n ≤ length all → peaks_at s h all n ≡ peaks_at s h (all ++ more) n
@@ -215,8 +216,8 @@ link_of_map s h all f n xs i x l e = link_of s h all n (map f xs) i (f x) l (get
 pub linked_like : {D : Type 0} (s : Shape) (n m k : ℕ) (gs fs : List (ChainSegment D)) → fs ≡ gs → k ≡ m → IsLinked s n gs m → IsLinked s n fs k
 linked_like {D = D} s n m k gs fs e q l = let P : List (ChainSegment D) → Type 0 = λ js. IsLinked s n js k in let Q : ℕ → Type 0 = λ j. IsLinked s n gs j in subst P (sym e) (subst Q (sym q) l)
 
-pub batch_like : {D : Type 0} (s : Shape) (h : Hashing D) (all : List D) (began : ℕ) (ps : List D) (n : ℕ) (gs fs : List (ChainSegment D)) → fs ≡ gs → IsBatchOf s h all began ps n gs → IsBatchOf s h all began ps n fs
-batch_like {D = D} s h all began ps n gs fs e b = let P : List (ChainSegment D) → Type 0 = λ js. IsBatchOf s h all began ps n js in subst P (sym e) b
+pub batch_like : {D : Type 0} (s : Shape) (h : Hashing D) (all : List D) (began : ℕ) (ps : List D) (n : ℕ) (gs fs : List (ChainSegment D)) → fs ≡ gs → IsChainOf s h all began ps n gs → IsChainOf s h all began ps n fs
+batch_like {D = D} s h all began ps n gs fs e b = let P : List (ChainSegment D) → Type 0 = λ js. IsChainOf s h all began ps n js in subst P (sym e) b
 
 pub linked_drop : {D : Type 0} (s : Shape) (n : ℕ) (gs : List (ChainSegment D)) (m i : ℕ) → IsLinked s n gs m → IsLinked s (first_leaves (drop i gs) m) (drop i gs) m
 linked_drop s n [] m zero l = refl
@@ -232,7 +233,7 @@ linked_of_drop {D = D} s h all n (g ∷ gs) m zero q l = let P : ℕ → Type 0 
 linked_of_drop s h all n (g ∷ gs) m (suc i) q l = let r = linked_of_drop s h all (n + g.later) gs m i q l.3 in (r.0, omega (arith, r.1))
 
 pub batch_drop : {D : Type 0} (s : Shape) (h : Hashing D) (all : List D) (began : ℕ) (ps : List D) (n m i : ℕ) (gs fs : List (ChainSegment D)) (f : ℕ) → m ≡ length all → fs ≡ drop i gs → f ≡ first_leaves (drop i gs) m
-    → IsBatchOf s h all began ps n gs → IsBatchOf s h all began ps f fs
+    → IsChainOf s h all began ps n gs → IsChainOf s h all began ps f fs
 batch_drop s h all began ps n m i gs fs f q e ef b =
     let r = linked_of_drop s h all n gs m i q b.linked in
     rw (e, ef) (record { linked = r.0; before = (let le = b.before in omega (arith, r.1)); boundary = b.boundary })
@@ -276,7 +277,7 @@ some_map f xs lt = omega (arith, length-map xs f)
 
 -- an empty batch with one segment
 pub one_batch : {D : Type 0} (s : Shape) (h : Hashing D) (all : List D) (n began : ℕ) (ps : List D) (g : ChainSegment D) → g.leaves ≡ n → g.peaks ≡ peaks_at s h all n → g.later ≡ 0 → g.nodes ≡ [] → n ≡ length all → began ≡ n → ps ≡ peaks_at s h all n
-    → IsBatchOf s h all began ps n (g ∷ [])
+    → IsChainOf s h all began ps n (g ∷ [])
 unfolding made_from
 one_batch s h all n began ps g el ep ej en count eb eps =
     let zero : n + g.later ≡ length all = omega (arith, ej, count) in
@@ -289,7 +290,7 @@ one_batch s h all n began ps g el ep ej en count eb eps =
 pub nothing_linked : {D : Type 0} (s : Shape) (n m : ℕ) (gs : List (ChainSegment D)) → gs ≡ [] → n ≡ m → IsLinked s n gs m
 nothing_linked s n m gs e q = rw e q
 
-pub no_batch : {D : Type 0} (s : Shape) (h : Hashing D) (all : List D) (n began : ℕ) (ps : List D) (gs : List (ChainSegment D)) → gs ≡ [] → n ≡ length all → began ≡ n → ps ≡ peaks_at s h all n → IsBatchOf s h all began ps n gs
+pub no_batch : {D : Type 0} (s : Shape) (h : Hashing D) (all : List D) (n began : ℕ) (ps : List D) (gs : List (ChainSegment D)) → gs ≡ [] → n ≡ length all → began ≡ n → ps ≡ peaks_at s h all n → IsChainOf s h all began ps n gs
 no_batch s h all n began ps gs e count eb eps = rw e (record { linked = count; before = omega (arith, eb); boundary = eps ∙ ap (peaks_at s h all) (sym eb) })
 
 pub none_made : (s : Shape) (b : ℕ) → 0 ≡ length (made_from s b 0)

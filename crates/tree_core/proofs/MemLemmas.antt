@@ -12,6 +12,7 @@ use Rattle.tree_shape.specs.Hashing.{Hashing, node_input}
 use Rattle.tree_shape.specs.Shape.{Shape, made, Stands, ChildrenStand, IsWellMade, IsLawful}
 use Rattle.tree_shape.specs.Slow.{node, node_of, nodes}
 use Rattle.tree_shape.proofs.NodeLemmas.{node-from_halves}
+use Rattle.tree_store.proofs.StoreLemmas.{take-next}
 pub use Rattle.tree_store.proofs.StoreLemmas.{get-take}
 
 -- the node that is made as the i-th behind leaf n
@@ -48,11 +49,6 @@ children_of s e cs j x (suc k) w at lt =
     let c : ChildrenStand s cs j x (suc k) = w.behind j x (suc k) at in
     let q : suc k - 1 ≡ k = omega arith in
     record { left = rw q c.0; right = rw q c.1; left_before = rw q c.2; right_before = rw q c.3 }
-
-pub take-next : {X : Type 0} (xs : List X) (j : ℕ) (x : X) → slice_get xs j ≡ Some x → take (suc j) xs ≡ take j xs ++ (x ∷ [])
-take-next [] j x e = absurd (cc)
-take-next (y ∷ xs) zero x e = let q : y ≡ x = same_Some y x e in ap (λ z. z ∷ []) q
-take-next (y ∷ xs) (suc j) x e = ap (λ ys. y ∷ ys) (take-next xs j x e)
 
 -- what is read of the first nodes is the slow node
 read_node : {D : Type 0} (s : Shape) (h : Hashing D) (leaves : List D) (cs : List (ℕ × ℕ)) (xs : List D) (p x k : ℕ) (a : D)

@@ -9,7 +9,7 @@ use Rattle.tree_shape.specs.Hashing.{Hashing, node_input}
 use Rattle.tree_shape.specs.Shape.{Shape, made, Stands, ChildrenStand, PeaksStand, IsLawful}
 use Rattle.tree_shape.specs.Kept.{PeakIn, PeakOf, IsPeakOrLater, KeepsPeaks}
 use Rattle.tree_shape.specs.Slow.{node, node_of}
-use Rattle.tree_core.proofs.MemLemmas.{take-next}
+use Rattle.tree_store.proofs.StoreLemmas.{take-next}
 use Rattle.tree_shape.proofs.NodeLemmas.{node-from_halves}
 use Rattle.tree_core.specs.Pruned.{made_from, nodes_from, peaks_at, held_at}
 use Rattle.tree_shape.proofs.NeededLemmas.{at_hand_back}

@@ -11,7 +11,9 @@ use Rattle.tree_core.specs.Batches.{Sealed}
 
 -- the tree's mark as it stands: its leaves, and the digests of their peaks, the newest first
 abbrev pub IsMarkOf : {D : Type 0} → Shape → Tree D → ℕ → List D → Type 0
-IsMarkOf s t n ps = (n ≡ t.leaves) × (map Some ps ≡ map (λ c. node_at t (s.position c.0 c.1)) (peaks_down t.leaves (s.heights t.leaves)))
+IsMarkOf s t n ps =
+    (n ≡ t.leaves)
+    × (map Some ps ≡ map (λ c. node_at t (s.position c.0 c.1)) (peaks_down t.leaves (s.heights t.leaves)))
 
 -- segment i has the tree's mark before it
 abbrev pub FitsTree : {D : Type 0} → Shape → Tree D → Sealed D → ℕ → Type 0
@@ -24,7 +26,11 @@ EndsAtTree s b t = (ps : List _) → StandsBehind s b.links b.leaves ps → IsMa
 -- where no mark fits: the batch's chain began at the tree's mark, and both sizes are told; or it didn't
 abbrev pub RefusedByTree : {F D : Type 0} → Shape → Tree D → Sealed D → Error F → Type 0
 RefusedByTree s t b StaleBatch = ((i : ℕ) → FitsTree s t b i → ⊥) × (IsMarkOf s t b.began b.peaks → ⊥)
-RefusedByTree s t b (AncestorDropped x y) = (x ≡ length (made s b.first)) × (y ≡ length (made s t.leaves)) × IsMarkOf s t b.began b.peaks × ((i : ℕ) → FitsTree s t b i → ⊥)
+RefusedByTree s t b (AncestorDropped x y) =
+    (x ≡ length (made s b.first))
+    × (y ≡ length (made s t.leaves))
+    × IsMarkOf s t b.began b.peaks
+    × ((i : ℕ) → FitsTree s t b i → ⊥)
 RefusedByTree s t b Memory = Unit {0}
 RefusedByTree s t b _ = ⊥
 
@@ -45,7 +51,11 @@ WhyNot s b n ps e =
 -- where no mark fits: the tree is the boundary, and both sizes are told; or it isn't the boundary either
 abbrev pub Refused : {F D : Type 0} → Shape → Hashing D → List D → ℕ → Sealed D → Error F → Type 0
 Refused s h all n b StaleBatch = ((i : ℕ) → Fits s h all n b i → ⊥) × (BeganAt s h all n b → ⊥)
-Refused s h all n b (AncestorDropped x y) = (x ≡ length (made s b.first)) × (y ≡ length (made s n)) × BeganAt s h all n b × ((i : ℕ) → Fits s h all n b i → ⊥)
+Refused s h all n b (AncestorDropped x y) =
+    (x ≡ length (made s b.first))
+    × (y ≡ length (made s n))
+    × BeganAt s h all n b
+    × ((i : ℕ) → Fits s h all n b i → ⊥)
 Refused s h all n b Memory = Unit {0}
 Refused s h all n b _ = ⊥
 

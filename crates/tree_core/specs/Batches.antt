@@ -3,7 +3,7 @@ use Rattle.std.specs.Prelude.{◌≡◌, ℕ, ◌+◌, ◌-◌, ◌^◌, ◌<◌
 use Rattle.tree_shape.specs.Hashing.{Hashing}
 use Rattle.tree_shape.specs.Shape.{Shape, made}
 use Rattle.tree_core.specs.Pruned.{made_from, peaks_at}
-use Rattle.tree_core.specs.Links.{ChainSegment, IsLinked, AreChained, StandsBehind, IsBatchOf, first_leaves, joined_nodes}
+use Rattle.tree_core.specs.Links.{ChainSegment, IsLinked, AreChained, StandsBehind, IsChainOf, first_leaves, joined_nodes}
 
 -- a sealed batch: the mark on which its chain began, the segments that are kept, its own the last, and its leaves
 pub record Sealed (D : Type 0) : Type 0 where
@@ -42,11 +42,11 @@ pub record IsSoundUnsealed {D : Type 0} (s : Shape) (b : Unsealed D) : Type 0 wh
 
 -- a sealed batch of this list of leaf digests
 abbrev pub IsSealedOf : {D : Type 0} → Shape → Hashing D → List D → Sealed D → Type 0
-IsSealedOf s h all b = IsBatchOf s h all b.began b.peaks b.first b.links
+IsSealedOf s h all b = IsChainOf s h all b.began b.peaks b.first b.links
 
 -- a batch that goes on from this list
 pub record IsUnsealedOf {D : Type 0} (s : Shape) (h : Hashing D) (all : List D) (b : Unsealed D) : Type 0 where
-  pub batch : IsBatchOf s h all b.began b.peaks b.first b.links
+  pub batch : IsChainOf s h all b.began b.peaks b.first b.links
   pub base : b.base_peaks ≡ peaks_at s h all b.base
 
 -- the leaves with this batch
@@ -87,9 +87,12 @@ pub record IsSealedFrom {D : Type 0} (b : Unsealed D) (reached : ℕ) (c : Seale
   pub peaks : c.peaks ≡ b.peaks
   pub first : c.first ≡ first_leaves (drop (length b.links - reached) b.links) b.base
   pub nodes : List D
-  pub links : c.links ≡ drop (length b.links - reached) b.links ++ (record { leaves = b.base; peaks = b.base_peaks; later = length b.digests; nodes = nodes } ∷ [])
+  pub links : let own : ChainSegment D = record { leaves = b.base; peaks = b.base_peaks; later = length b.digests; nodes = nodes } in
+      c.links ≡ drop (length b.links - reached) b.links ++ (own ∷ [])
   pub leaves : c.leaves ≡ leaf_count b
 
 -- the node at a position, of those that the segments have
 abbrev pub sealed_node : {D : Type 0} → Shape → Sealed D → ℕ → Option D
-sealed_node s b p = if nat_le (length (made s b.first)) p then slice_get (joined_nodes b.links) (p - length (made s b.first)) else None
+sealed_node s b p =
+    let first = length (made s b.first) in
+    if nat_le first p then slice_get (joined_nodes b.links) (p - first) else None

@@ -24,11 +24,18 @@ IsLinked s n (g ∷ gs) m = IsNext s n g × IsLinked s (n + g.later) gs m
 -- and are those of this list
 abbrev pub IsLinkedOf : {D : Type 0} → Shape → Hashing D → List D → ℕ → List (ChainSegment D) → Type 0
 IsLinkedOf s h all n [] = n ≡ length all
-IsLinkedOf s h all n (g ∷ gs) = (g.leaves ≡ n) × (g.peaks ≡ peaks_at s h all n) × (g.nodes ≡ nodes_from s h all n g.later) × IsLinkedOf s h all (n + g.later) gs
+IsLinkedOf s h all n (g ∷ gs) =
+    (g.leaves ≡ n)
+    × (g.peaks ≡ peaks_at s h all n)
+    × (g.nodes ≡ nodes_from s h all n g.later)
+    × IsLinkedOf s h all (n + g.later) gs
 
--- the mark behind a segment: so many leaves, and the digests of their peaks, the newest first, each of its nodes or of the mark before it
+-- the mark behind a segment: so many leaves, and the digests of their peaks, the newest first, each of its nodes or of the
+-- mark before it
 abbrev pub IsMarkBehind : {D : Type 0} → Shape → ChainSegment D → ℕ → List D → Type 0
-IsMarkBehind s g n ps = (n ≡ g.leaves + g.later) × (map Some ps ≡ map (λ c. held_at s g.leaves g.peaks g.nodes c.0 c.1) (peaks_down n (s.heights n)))
+IsMarkBehind s g n ps =
+    (n ≡ g.leaves + g.later)
+    × (map Some ps ≡ map (λ c. held_at s g.leaves g.peaks g.nodes c.0 c.1) (peaks_down n (s.heights n)))
 
 -- behind the last of these segments stands this mark
 abbrev pub StandsBehind : {D : Type 0} → Shape → List (ChainSegment D) → ℕ → List D → Type 0
@@ -51,8 +58,9 @@ abbrev pub joined_nodes : {D : Type 0} → List (ChainSegment D) → List D
 joined_nodes [] = []
 joined_nodes (g ∷ gs) = g.nodes ++ joined_nodes gs
 
--- a batch of this list: where its chain began, and what is kept of it
-pub record IsBatchOf {D : Type 0} (s : Shape) (h : Hashing D) (all : List D) (began : ℕ) (peaks : List D) (first : ℕ) (links : List (ChainSegment D)) : Type 0 where
+-- the segments of a batch are a chain of this list: where it began, and what is kept of it
+pub record IsChainOf {D : Type 0} (s : Shape) (h : Hashing D) (all : List D) (began : ℕ) (peaks : List D)
+    (first : ℕ) (links : List (ChainSegment D)) : Type 0 where
   pub linked : IsLinkedOf s h all first links
   pub before : began ≤ first
   pub boundary : peaks ≡ peaks_at s h all began

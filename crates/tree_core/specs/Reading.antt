@@ -17,4 +17,6 @@ TellsPeaks s n t = (x k : ℕ) → PeakOf s n x k → IsSome (t x k)
 -- the peaks of n leaves, the oldest first, are these
 pub record ArePeaks {D : Type 0} (s : Shape) (n : ℕ) (t : ℕ → ℕ → Option D) (ds : List D) : Type 0 where
   pub counted : length ds ≡ length (s.heights n)
-  pub told : (j : ℕ) (d : D) → j < length (s.heights n) → t (base n (s.heights n) (length (s.heights n) - j)) (slice_index_or (s.heights n) (length (s.heights n) - 1 - j) 0) ≡ Some (slice_index_or ds j d)
+  pub told : let hs = s.heights n in
+      (j : ℕ) (d : D) → j < length hs →
+      t (base n hs (length hs - j)) (slice_index_or hs (length hs - 1 - j) 0) ≡ Some (slice_index_or ds j d)

@@ -58,7 +58,8 @@ pub record IsRested {D : Type 0} (s : Shape) (b : ℕ) (t u : Tree D) : Type 0 w
 -- whether a tree of n leaves can be pruned to loc
 abbrev pub prune_answer : {F : Type 0} → ℕ → ℕ → Result (Unit {0}) (Error F)
 prune_answer n loc =
-    if nat_le loc n then Ok tt else (if nat_le loc (2 ^ 62) then Err (LeafOutOfBounds loc) else Err (LocationOverflow loc))
+    if nat_le loc n then Ok tt
+    else (if nat_le loc (2 ^ 62) then Err (LeafOutOfBounds loc) else Err (LocationOverflow loc))
 
 -- u is t with what later leaves made behind its nodes
 pub record IsGrown {D : Type 0} (s : Shape) (later : ℕ) (more : List D) (t u : Tree D) : Type 0 where
@@ -66,7 +67,8 @@ pub record IsGrown {D : Type 0} (s : Shape) (later : ℕ) (more : List D) (t u :
   pub boundary : u.boundary ≡ t.boundary
   pub nodes : Extends (node_at t) (node_at u) (length (made s t.leaves)) more
 
--- t is pruned at b: its nodes from there on are these, the peaks of b leaves, the oldest first, are these pins, and no other node is kept
+-- t is pruned at b: its nodes from there on are these, the peaks of b leaves, the oldest first, are these pins, and no other
+-- node is kept
 pub record IsBuilt {D : Type 0} (s : Shape) (b : ℕ) (more pinned : List D) (t : Tree D) : Type 0 where
   pub leaves : HasSize s t.leaves (length (made s b) + length more)
   pub within : b ≤ t.leaves
@@ -81,8 +83,12 @@ abbrev pub NotBuilt : {F : Type 0} → Shape → ℕ → ℕ → ℕ → Error F
 NotBuilt s b nodes pinned (LocationOverflow loc) = (loc ≡ b) × (2 ^ 62 < b)
 NotBuilt s b nodes pinned InvalidPinnedNodes = (b ≤ 2 ^ 62) × (pinned ≡ length (s.heights b) → ⊥)
 NotBuilt s b nodes pinned (MissingNode p) =
-    (b ≤ 2 ^ 62) × (pinned ≡ length (s.heights b)) × (p ≡ min (length (made s b) + nodes) (2 ^ 64 - 1)) × ((n : ℕ) → HasSize s n (length (made s b) + nodes) → ⊥)
-NotBuilt s b nodes pinned Memory = (b ≤ 2 ^ 62) × (pinned ≡ length (s.heights b)) × ((n : ℕ) × HasSize s n (length (made s b) + nodes))
+    (b ≤ 2 ^ 62)
+    × (pinned ≡ length (s.heights b))
+    × (p ≡ min (length (made s b) + nodes) (2 ^ 64 - 1))
+    × ((n : ℕ) → HasSize s n (length (made s b) + nodes) → ⊥)
+NotBuilt s b nodes pinned Memory =
+    (b ≤ 2 ^ 62) × (pinned ≡ length (s.heights b)) × ((n : ℕ) × HasSize s n (length (made s b) + nodes))
 NotBuilt s b nodes pinned _ = ⊥
 
 -- what stands here, or else there

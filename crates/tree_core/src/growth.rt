@@ -21,8 +21,10 @@ fn push_parents<F: Family, H: Hasher>(
     requires few { mark.now.leaves + later < 2 ^ 62 }
     requires counted { length since.old.items ≡ length (made_from F.shape mark.now.leaves later) + 1 }
     ensures counted { OnOk result (length since.new.items ≡ length (made_from F.shape mark.now.leaves (later + 1))) }
-    ensures nodes { OnOk result ((leaves : List H.Digest) → mark.now.peaks.items ≡ peaks_at F.shape H.hash leaves mark.now.leaves →
-        since.old.items ≡ map (node_of F.shape H.hash leaves) (take (length since.old.items) (made_from F.shape mark.now.leaves (later + 1))) →
+    ensures nodes { OnOk result ((leaves : List H.Digest) →
+        mark.now.peaks.items ≡ peaks_at F.shape H.hash leaves mark.now.leaves →
+        let made = made_from F.shape mark.now.leaves (later + 1) in
+        since.old.items ≡ map (node_of F.shape H.hash leaves) (take (length since.old.items) made) →
         since.new.items ≡ nodes_from F.shape H.hash leaves mark.now.leaves (later + 1)) }
 {
     let n = mark.leaves + later;
@@ -48,9 +50,12 @@ pub(crate) fn nodes_after<F: Family, H: Hasher>(
     hasher: &Standard<H>,
 ) -> Result<Vec<H::Digest>, AllocError>
     requires { mark.now.leaves + length digests.now ≤ 2 ^ 62 }
-    ensures counted { IfOk result (λ since. length since.items ≡ length (made_from F.shape mark.now.leaves (length digests.now))) }
-    ensures nodes { IfOk result (λ since. (all : List H.Digest) → mark.now.peaks.items ≡ peaks_at F.shape H.hash all mark.now.leaves →
-        Continues all mark.now.leaves digests.now → since.items ≡ nodes_from F.shape H.hash all mark.now.leaves (length digests.now)) }
+    ensures counted { IfOk result (λ since. length since.items ≡
+        length (made_from F.shape mark.now.leaves (length digests.now))) }
+    ensures nodes { IfOk result (λ since. (all : List H.Digest) →
+        mark.now.peaks.items ≡ peaks_at F.shape H.hash all mark.now.leaves →
+        Continues all mark.now.leaves digests.now →
+        since.items ≡ nodes_from F.shape H.hash all mark.now.leaves (length digests.now)) }
 {
     let mut since = Vec::new(alloc);
     for i in 0..digests.len() {
@@ -69,7 +74,8 @@ pub(crate) fn mark_of<F: Family, D: Digest, P: Peaks<F, D>>(
     requires few { leaves ≤ 2 ^ 62 }
     requires there { TellsPeaks F.shape leaves (P.told peaks.now) }
     ensures leaves { IfOk result (λ m. m.leaves ≡ leaves) }
-    ensures peaks { IfOk result (λ m. map Some m.peaks.items ≡ map (λ c. P.told peaks.now c.0 c.1) (peaks_down leaves (F.shape.heights leaves))) }
+    ensures peaks { IfOk result (λ m. map Some m.peaks.items ≡
+        map (λ c. P.told peaks.now c.0 c.1) (peaks_down leaves (F.shape.heights leaves))) }
 {
     let mut digests = Vec::new(alloc);
     let mut end = leaves;

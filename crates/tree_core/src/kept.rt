@@ -53,8 +53,10 @@ pub(crate) fn pins_of<F: Family, D: Digest>(
 ) -> Result<Vec<(u64, D)>, AllocError>
     requires few { leaves ≤ 2 ^ 62 }
     requires counted { length pinned.now ≡ length (F.shape.heights leaves) }
-    ensures pins { IfOk result (λ v. ArePeaks F.shape leaves (λ x k. entry_at v.items (F.shape.position x k)) pinned.now) }
-    ensures others { IfOk result (λ v. (p : ℕ) → is_peak_at F.shape leaves (F.shape.heights leaves) p ≡ false → entry_at v.items p ≡ None) }
+    ensures pins { IfOk result (λ v.
+        ArePeaks F.shape leaves (λ x k. entry_at v.items (F.shape.position x k)) pinned.now) }
+    ensures others { IfOk result (λ v. (p : ℕ) → is_peak_at F.shape leaves (F.shape.heights leaves) p ≡ false →
+        entry_at v.items p ≡ None) }
     ensures before { IfOk result (λ v. AreBefore (length (made F.shape leaves)) v.items) }
 {
     let mut nodes = Vec::new(alloc);
@@ -72,7 +74,8 @@ pub(crate) fn pins_of<F: Family, D: Digest>(
 pub(crate) fn leaves_with<F: Family>(boundary: u64, more: u64) -> Result<u64, Error<F>>
     requires { boundary ≤ 2 ^ 62 }
     ensures found { IfOk result (λ n. HasSize F.shape n (length (made F.shape boundary) + more)) }
-    ensures missing { IfErr result (λ e. (e ≡ Error.MissingNode (min (length (made F.shape boundary) + more) (2 ^ 64 - 1))) × ((n : ℕ) → HasSize F.shape n (length (made F.shape boundary) + more) → ⊥)) }
+    ensures missing { let size = length (made F.shape boundary) + more in
+        IfErr result (λ e. (e ≡ Error.MissingNode (min size (2 ^ 64 - 1))) × ((n : ℕ) → HasSize F.shape n size → ⊥)) }
 {
     let end = F::size(boundary).saturating_add(more);
     match F::leaves_at(Position::new(end)) {

@@ -72,7 +72,8 @@ pub(crate) fn with_pins<F: Family, D: Digest>(
     pins: &BTreeMap<Position<F>, D>,
 ) -> Result<Vec<(u64, D)>, AllocError>
     requires { ArePinsThenRun first count nodes.now }
-    ensures { IfOk result (λ all. all.items ≡ filter (λ e. is_none (entry_at nodes.now e.0)) pins.now.entries ++ nodes.now) }
+    ensures { IfOk result (λ all.
+        all.items ≡ filter (λ e. is_none (entry_at nodes.now e.0)) pins.now.entries ++ nodes.now) }
 {
     let mut all = Vec::new(alloc);
     for (position, digest) in pins {

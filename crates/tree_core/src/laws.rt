@@ -11,6 +11,7 @@ use tree_shape::{Digest, Family};
 /// now and after equal appends. So has a tree that is rebuilt from its leaf count and its pins.
 pub fn rebuilt_roots<F: Family, D: Digest>()
     ensures { (h : Hashing D) (one two more : List D) (k : ℕ) (bagging : Bagging) → length one ≡ length two →
-        map (node_of F.shape h one) (peaks F.shape (length one)) ≡ map (node_of F.shape h two) (peaks F.shape (length two)) →
+        map (node_of F.shape h one) (peaks F.shape (length one)) ≡
+        map (node_of F.shape h two) (peaks F.shape (length two)) →
         root F.shape h (one ++ more) k bagging ≡ root F.shape h (two ++ more) k bagging }
 {}

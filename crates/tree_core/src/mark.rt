@@ -39,7 +39,8 @@ fn same_digests<D: Digest>(a: &[D], b: &[D]) -> bool
 impl<F: Family, D: Digest> Mark<F, D> {
     /// Whether the two have as many leaves and the same peaks.
     pub(crate) fn is_same(&self, other: &Mark<F, D>) -> bool
-        ensures { IsTrue result ↔ ((self.now.leaves ≡ other.now.leaves) × (self.now.peaks.items ≡ other.now.peaks.items)) }
+        ensures { IsTrue result ↔
+            ((self.now.leaves ≡ other.now.leaves) × (self.now.peaks.items ≡ other.now.peaks.items)) }
     {
         self.leaves == other.leaves && same_digests(&self.peaks, &other.peaks)
     }
@@ -60,7 +61,8 @@ impl<F: Family, D: Digest> Mark<F, D> {
 
     /// The digest of the peak of this height over the leaves from `start` on.
     fn peak_over(&self, start: u64, height: u32) -> Option<D>
-        ensures { result ≡ peak_found self.now.leaves (F.shape.heights self.now.leaves) self.now.peaks.items start height }
+        ensures { let heights = F.shape.heights self.now.leaves in
+            result ≡ peak_found self.now.leaves heights self.now.peaks.items start height }
     {
         let mut end = self.leaves;
         let count = F::peak_count(self.leaves);

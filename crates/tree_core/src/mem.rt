@@ -11,6 +11,7 @@ use std::marker::{Model, PhantomData};
 use std::rc::Rc;
 use tree_proof::Proof;
 use tree_shape::{Digest, Family, Hasher, Location, MAX_LEAVES, Position, Standard};
+use tree_store::nodes_from_memory;
 use tree_verification::{proof_from_memory, range_proof_from_memory};
 use volume_base::Volume;
 
@@ -32,7 +33,8 @@ impl<F: Family, D: Digest> Model for Mem<F, D> {
 
     ghost view = { λ m. record { leaves = m.leaves; boundary = m.boundary; kept = m.nodes.items } };
 
-    ghost invariant = { λ m. IsStored F.shape m.pins (record { leaves = m.leaves; boundary = m.boundary; kept = m.nodes.items }) };
+    ghost invariant = { λ m.
+        IsStored F.shape m.pins (record { leaves = m.leaves; boundary = m.boundary; kept = m.nodes.items }) };
 }
 
 impl<F: Family, D: Digest> Peaks<F, D> for Mem<F, D> {
@@ -49,7 +51,7 @@ impl<F: Family, D: Digest> Peaks<F, D> for Mem<F, D> {
 }
 
 impl<F: Family, D: Digest> Mem<F, D> {
-    ghost use Rattle.std.specs.Prelude.{◌≡◌, ℕ, ◌+◌, ◌≤◌, ◌<◌, ◌^◌, List, [], ◌++◌, ◌-◌, length, map, drop, slice_get, Some, OnOk, OnErr, IsOk, IfOk, IfErr, IsOkUnless};
+    ghost use Rattle.std.specs.Prelude.{◌≡◌, ℕ, ◌+◌, ◌≤◌, ◌<◌, ◌^◌, List, [], ◌++◌, ◌-◌, length, map, reverse, drop, slice_get, Some, OnOk, OnErr, IsOk, IfOk, IfErr, IsOkUnless};
     ghost use Rattle.tree_shape.specs.Hashing.{Hashing};
     ghost use Rattle.tree_shape.specs.Shape.{made, peaks};
     ghost use Rattle.std.specs.BTreeMap.{get};
@@ -90,7 +92,8 @@ impl<F: Family, D: Digest> Mem<F, D> {
         pinned: Vec<D>,
     ) -> Result<Self, Error<F>>
         ensures built { IfOk result (λ t. IsBuilt F.shape boundary nodes.items pinned.items t) }
-        ensures tree { IfOk result (λ t. (h : Hashing D) (all : List D) → t.leaves ≡ length all → pinned.items ≡ map (node_of F.shape h all) (peaks F.shape boundary) →
+        ensures tree { IfOk result (λ t. (h : Hashing D) (all : List D) → t.leaves ≡ length all →
+            pinned.items ≡ map (node_of F.shape h all) (peaks F.shape boundary) →
             nodes.items ≡ nodes_from F.shape h all boundary (t.leaves - boundary) → IsOf F.shape h all t) }
         ensures refused { IfErr result (NotBuilt F.shape boundary (length nodes.items) (length pinned.items)) }
     {
@@ -160,9 +163,13 @@ impl<F: Family, D: Digest> Mem<F, D> {
     ) -> Result<D, Error<F>>
         requires { inactive_peaks ≤ length (F.shape.heights self.now.leaves) }
         ensures ok { IsOk result }
-        ensures root { IfOk result (λ d. (all : List D) → IsOf F.shape H.hash all self.now → d ≡ root F.shape H.hash all inactive_peaks hasher.now) }
-        ensures peaks { IfOk result (λ d. (ds : List D) → ArePeaks F.shape self.now.leaves (λ x k. node_at self.now (F.shape.position x k)) ds →
+        ensures root { IfOk result (λ d. (all : List D) → IsOf F.shape H.hash all self.now →
+            d ≡ root F.shape H.hash all inactive_peaks hasher.now) }
+        ensures peaks { IfOk result (λ d. (ds : List D) → ArePeaks F.shape self.now.leaves
+            (λ x k. node_at self.now (F.shape.position x k)) ds →
             d ≡ root_over H.hash self.now.leaves ds inactive_peaks hasher.now) }
+        ensures marked { IfOk result (λ d. (ps : List D) → IsMarkOf F.shape self.now self.now.leaves ps →
+            d ≡ root_over H.hash self.now.leaves (reverse ps) inactive_peaks hasher.now) }
     {
         Ok(root_from::<F, H, Mem<F, D>>(self, hasher, self.leaves, inactive_peaks))
     }
@@ -171,7 +178,8 @@ impl<F: Family, D: Digest> Mem<F, D> {
     /// node that is wanting, or `Memory`.
     pub fn proof(&self, loc: Location<F>, inactive_peaks: u64) -> Result<Proof<F, D>, Error<F>>
         requires { inactive_peaks ≤ length (F.shape.heights self.now.leaves) }
-        ensures proves { Proves F.shape (leaf_answer self.now.leaves loc) self.now.leaves inactive_peaks (meets loc (loc + 1)) (node_at self.now) result }
+        ensures proves { let n = self.now.leaves in
+            Proves F.shape (leaf_answer n loc) n inactive_peaks (meets loc (loc + 1)) (node_at self.now) result }
 
         // From the boundary on no node is wanting.
         ensures kept { self.now.boundary ≤ loc → OnlyRefusedBy (leaf_answer self.now.leaves loc) result }
@@ -188,10 +196,12 @@ impl<F: Family, D: Digest> Mem<F, D> {
         inactive_peaks: u64,
     ) -> Result<Proof<F, D>, Error<F>>
         requires { inactive_peaks ≤ length (F.shape.heights self.now.leaves) }
-        ensures proves { Proves F.shape (range_answer self.now.leaves self.now.leaves start end) self.now.leaves inactive_peaks (meets start end) (node_at self.now) result }
+        ensures proves { let n = self.now.leaves in
+            Proves F.shape (range_answer n n start end) n inactive_peaks (meets start end) (node_at self.now) result }
 
         // From the boundary on no node is wanting.
-        ensures kept { self.now.boundary ≤ start → OnlyRefusedBy (range_answer self.now.leaves self.now.leaves start end) result }
+        ensures kept { self.now.boundary ≤ start →
+            OnlyRefusedBy (range_answer self.now.leaves self.now.leaves start end) result }
     {
         range_proof_from_memory(self.alloc, self, start, end, inactive_peaks)
     }
@@ -255,7 +265,9 @@ impl<F: Family, D: Digest> Mem<F, D> {
         requires { (p : ℕ) (d : D) → get nat_cmp pins p ≡ Some d → p < length (made F.shape self.old.leaves) }
         ensures ok { OnOk result (IsPinned (get nat_cmp pins) self.old self.new) }
         ensures err { OnErr result (self.new ≡ self.old) }
-        ensures tree { (h : Hashing D) (all : List D) → IsOf F.shape h all self.old → ((p : ℕ) (d : D) → get nat_cmp pins p ≡ Some d → slice_get (nodes F.shape h all) p ≡ Some d) → IsOf F.shape h all self.new }
+        ensures tree { (h : Hashing D) (all : List D) → IsOf F.shape h all self.old →
+            ((p : ℕ) (d : D) → get nat_cmp pins p ≡ Some d → slice_get (nodes F.shape h all) p ≡ Some d) →
+            IsOf F.shape h all self.new }
         ensures memory { IsOkUnless result Error.Memory }
     {
         let first = F::size(self.boundary);
@@ -269,7 +281,8 @@ impl<F: Family, D: Digest> Mem<F, D> {
     pub(crate) fn mark(&self) -> Result<Mark<F, D>, AllocError>
         ensures leaves { IfOk result (λ m. m.leaves ≡ self.now.leaves) }
         ensures mark { IfOk result (λ m. IsMarkOf F.shape self.now m.leaves m.peaks.items) }
-        ensures peaks { IfOk result (λ m. (h : Hashing D) (all : List D) → IsOf F.shape h all self.now → m.peaks.items ≡ peaks_at F.shape h all self.now.leaves) }
+        ensures peaks { IfOk result (λ m. (h : Hashing D) (all : List D) → IsOf F.shape h all self.now →
+            m.peaks.items ≡ peaks_at F.shape h all self.now.leaves) }
     {
         let mark = mark_of::<F, D, Mem<F, D>>(self.alloc, self, self.leaves)?;
         Ok(mark)
@@ -278,7 +291,8 @@ impl<F: Family, D: Digest> Mem<F, D> {
     /// Adds what the batch has from a kept segment on, whose mark has the tree's leaves: all or nothing.
     fn append_from(&mut self, batch: &MerkleizedBatch<F, D>, place: usize) -> Result<(), AllocError>
         requires { FitsTree F.shape self.old batch.now place }
-        ensures ok { OnOk result (IsGrown F.shape (batch.now.leaves - self.old.leaves) (joined_nodes (drop place batch.now.links)) self.old self.new) }
+        ensures ok { OnOk result (IsGrown F.shape (batch.now.leaves - self.old.leaves)
+            (joined_nodes (drop place batch.now.links)) self.old self.new) }
         ensures sound { IsSoundSealed F.shape batch.now }
         ensures err { OnErr result (self.new ≡ self.old) }
     {
@@ -291,8 +305,10 @@ impl<F: Family, D: Digest> Mem<F, D> {
     /// An empty batch on this tree.
     pub fn new_batch(&self) -> Result<UnmerkleizedBatch<F, D>, Error<F>>
         ensures begins { IfOk result (λ b. BeginsAt self.now.leaves b) }
-        ensures marked { IfOk result (λ b. IsMarkOf F.shape self.now b.began b.peaks × IsMarkOf F.shape self.now b.base b.base_peaks) }
-        ensures batch { IfOk result (λ b. (h : Hashing D) (all : List D) → IsOf F.shape h all self.now → IsUnsealedOf F.shape h all b) }
+        ensures marked { IfOk result (λ b. IsMarkOf F.shape self.now b.began b.peaks ×
+            IsMarkOf F.shape self.now b.base b.base_peaks) }
+        ensures batch { IfOk result (λ b. (h : Hashing D) (all : List D) → IsOf F.shape h all self.now →
+            IsUnsealedOf F.shape h all b) }
         ensures memory { IsOkUnless result Error.Memory }
     {
         let base = self.mark()?;
@@ -306,7 +322,8 @@ impl<F: Family, D: Digest> Mem<F, D> {
         ensures stands { IfOk result (λ b. StandsAt self.now.leaves b) }
         ensures marked { IfOk result (λ b. IsMarkOf F.shape self.now b.began b.peaks × FitsTree F.shape self.now b 0) }
         ensures behind { IfOk result (λ b. EndsAtTree F.shape b self.now) }
-        ensures batch { IfOk result (λ b. (h : Hashing D) (all : List D) → IsOf F.shape h all self.now → IsSealedOf F.shape h all b) }
+        ensures batch { IfOk result (λ b. (h : Hashing D) (all : List D) → IsOf F.shape h all self.now →
+            IsSealedOf F.shape h all b) }
         ensures memory { IsOkUnless result Error.Memory }
     {
         let mark = self.mark()?;
@@ -324,8 +341,10 @@ impl<F: Family, D: Digest> Mem<F, D> {
     pub fn place_of(&self, batch: &MerkleizedBatch<F, D>) -> Result<u64, Error<F>>
         ensures place { IfOk result (λ i. FitsTree F.shape self.now batch.now i) }
         ensures answer { IfErr result (RefusedByTree F.shape self.now batch.now) }
-        ensures fits { IfOk result (λ i. (h : Hashing D) (all : List D) → IsOf F.shape h all self.now → Fits F.shape h all self.now.leaves batch.now i) }
-        ensures refused { IfErr result (λ e. (h : Hashing D) (all : List D) → IsOf F.shape h all self.now → Refused F.shape h all self.now.leaves batch.now e) }
+        ensures fits { IfOk result (λ i. (h : Hashing D) (all : List D) → IsOf F.shape h all self.now →
+            Fits F.shape h all self.now.leaves batch.now i) }
+        ensures refused { IfErr result (λ e. (h : Hashing D) (all : List D) → IsOf F.shape h all self.now →
+            Refused F.shape h all self.now.leaves batch.now e) }
     {
         let mark = self.mark()?;
         match batch.place_of(&mark) {
@@ -337,13 +356,17 @@ impl<F: Family, D: Digest> Mem<F, D> {
     /// Appends what the batch has behind the mark of this tree. Refuses as `place_of`.
     pub fn apply_batch(&mut self, batch: &MerkleizedBatch<F, D>) -> Result<(), Error<F>>
         ensures longer { OnOk result (IsLonger F.shape batch.now.leaves self.old self.new) }
-        ensures since { OnOk result ((p : ℕ) → length (made F.shape self.old.leaves) ≤ p → node_at self.new p ≡ sealed_node F.shape batch.now p) }
+        ensures since { OnOk result ((p : ℕ) → length (made F.shape self.old.leaves) ≤ p →
+            node_at self.new p ≡ sealed_node F.shape batch.now p) }
         ensures behind { OnOk result (EndsAtTree F.shape batch.now self.new) }
         ensures marked { OnOk result ((i : ℕ) × FitsTree F.shape self.old batch.now i) }
         ensures answer { IfErr result (RefusedByTree F.shape self.old batch.now) }
-        ensures fits { OnOk result ((h : Hashing D) (all : List D) → IsOf F.shape h all self.old → (i : ℕ) × Fits F.shape h all self.old.leaves batch.now i) }
-        ensures tree { OnOk result ((h : Hashing D) (all made : List D) → IsOf F.shape h all self.old → IsSealedOf F.shape h made batch.now → IsOf F.shape h (all ++ drop (length all) made) self.new) }
-        ensures refused { IfErr result (λ e. (h : Hashing D) (all : List D) → IsOf F.shape h all self.old → Refused F.shape h all self.old.leaves batch.now e) }
+        ensures fits { OnOk result ((h : Hashing D) (all : List D) → IsOf F.shape h all self.old →
+            (i : ℕ) × Fits F.shape h all self.old.leaves batch.now i) }
+        ensures tree { OnOk result ((h : Hashing D) (all made : List D) → IsOf F.shape h all self.old →
+            IsSealedOf F.shape h made batch.now → IsOf F.shape h (all ++ drop (length all) made) self.new) }
+        ensures refused { IfErr result (λ e. (h : Hashing D) (all : List D) → IsOf F.shape h all self.old →
+            Refused F.shape h all self.old.leaves batch.now e) }
         ensures err { OnErr result (self.new ≡ self.old) }
     {
         match self.place_of(batch) {
@@ -368,6 +391,10 @@ impl<F: Family, D: Digest> Readable for Mem<F, D> {
 
     ghost told = { λ t p. node_at t p };
 
+    fn leaves(&self) -> Location<F> {
+        Mem::leaves(self)
+    }
+
     fn size(&self) -> Position<F> {
         Mem::size(self)
     }
@@ -380,7 +407,7 @@ impl<F: Family, D: Digest> Readable for Mem<F, D> {
 }
 
 impl<F: Family, D: Digest> Storage<F> for Mem<F, D> {
-    ghost use Rattle.std.specs.Prelude.{◌≡◌, ◌<◌, length, map, Some, Ok, All, AllPairs, IfOk, IfErr};
+    ghost use Rattle.std.specs.Prelude.{◌≡◌, ◌<◌, length, map, Some, Ok, All, IfOk, IfErr};
     ghost use Rattle.tree_shape.specs.Shape.{made};
     ghost use Rattle.volume_base.specs.Volume.{Reads};
     ghost use Rattle.tree_store.specs.Stores.{IsReadFault, IsReadRefusal, IsOutside, IsOutsideOr, IsUnread};
@@ -394,6 +421,14 @@ impl<F: Family, D: Digest> Storage<F> for Mem<F, D> {
 
     ghost told = { λ t c p. node_at t p };
 
+    fn allocator(&self) -> Global {
+        self.alloc
+    }
+
+    fn leaves(&self) -> Location<F> {
+        Mem::leaves(self)
+    }
+
     fn size(&self) -> Position<F> {
         Mem::size(self)
     }
@@ -405,7 +440,8 @@ impl<F: Family, D: Digest> Storage<F> for Mem<F, D> {
     ) -> Result<Option<D>, Error<F>>
         ensures node { IfOk result (λ node. V.tells → Unit {0} → node ≡ node_at self.now position) }
         ensures fault { position < length (made F.shape self.now.leaves) → IfErr result IsReadFault }
-        ensures outside { position < length (made F.shape self.now.leaves) → V.tells → Unit {0} → IfErr result IsOutside }
+        ensures outside { position < length (made F.shape self.now.leaves) → V.tells → Unit {0} →
+            IfErr result IsOutside }
         ensures reads { Reads V.tells Error.Volume (V.state _vol.old) (V.state _vol.new) result }
         // It is told from memory, at any position.
         ensures exact { result ≡ Ok (node_at self.now position) }
@@ -419,23 +455,20 @@ impl<F: Family, D: Digest> Storage<F> for Mem<F, D> {
         _vol: &mut V,
         positions: &[Position<F>],
     ) -> Result<Vec<D>, Error<F>>
-        ensures nodes { IfOk result (λ nodes. V.tells → Unit {0} → map Some nodes.items ≡ map (node_at self.now) positions.now) }
-        ensures fault { All (λ p. p < length (made F.shape self.now.leaves)) positions.now → IfErr result IsReadRefusal }
-        ensures outside { All (λ p. p < length (made F.shape self.now.leaves)) positions.now → V.tells → Unit {0} → IfErr result (IsOutsideOr (node_at self.now) positions.now) }
+        ensures nodes { IfOk result (λ nodes. V.tells → Unit {0} →
+            map Some nodes.items ≡ map (node_at self.now) positions.now) }
+        ensures counted { IfOk result (λ nodes. length nodes.items ≡ length positions.now) }
+        ensures fault { All (λ p. p < length (made F.shape self.now.leaves)) positions.now →
+            IfErr result IsReadRefusal }
+        ensures outside { All (λ p. p < length (made F.shape self.now.leaves)) positions.now → V.tells → Unit {0} →
+            IfErr result (IsOutsideOr (node_at self.now) positions.now) }
         ensures reads { Reads V.tells Error.Volume (V.state _vol.old) (V.state _vol.new) result }
         // They are told from memory, at any positions.
         ensures exact { IfOk result (λ nodes. map Some nodes.items ≡ map (node_at self.now) positions.now) }
         ensures absent { IfErr result (IsUnread (node_at self.now) positions.now) }
         ensures volume { _vol.new ≡ _vol.old }
     {
-        let mut nodes = Vec::new(self.alloc);
-        for i in 0..positions.len() {
-            let position = positions[i].as_u64();
-            match self.node(position) {
-                Some(digest) => nodes.push(digest)?,
-                None => return Err(Error::ElementPruned(Position::new(position))),
-            }
-        }
+        let nodes = nodes_from_memory(self.alloc, self, positions)?;
         Ok(nodes)
     }
 }

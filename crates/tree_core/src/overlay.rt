@@ -1,6 +1,6 @@
 //! The nodes of a sealed batch and of a tree below it.
 use crate::{Mem, MerkleizedBatch, Readable};
-use tree_shape::{Digest, Family, Position};
+use tree_shape::{Digest, Family, Location, Position};
 
 /// A batch, and the tree that has what stands before the batch's nodes.
 #[derive(Drop)]
@@ -20,6 +20,10 @@ impl<F: Family, D: Digest> Readable for Overlay<'_, F, D> {
     ghost leaves = { λ o. o.batch.now.leaves };
 
     ghost told = { λ o p. overlaid F.shape o.batch.now o.base.now p };
+
+    fn leaves(&self) -> Location<F> {
+        self.batch.leaves()
+    }
 
     fn size(&self) -> Position<F> {
         self.batch.size()

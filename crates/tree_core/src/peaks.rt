@@ -28,7 +28,8 @@ fn fold_first<F: Family, H: Hasher, P: Peaks<F, H::Digest>>(
     requires some { 0 < first }
     requires within { first ≤ length (F.shape.heights leaves) }
     requires there { TellsPeaks F.shape leaves (P.told peaks.now) }
-    ensures { (d : H.Digest) (ds : List H.Digest) → ArePeaks F.shape leaves (P.told peaks.now) (d ∷ ds) → result ≡ fold_forward H.hash d (take (first - 1) ds) }
+    ensures { (d : H.Digest) (ds : List H.Digest) → ArePeaks F.shape leaves (P.told peaks.now) (d ∷ ds) →
+        result ≡ fold_forward H.hash d (take (first - 1) ds) }
 {
     let count = F::peak_count(leaves);
     let oldest = F::peak_height(leaves, count - 1);
@@ -52,7 +53,8 @@ fn fold_last<F: Family, H: Hasher, P: Peaks<F, H::Digest>>(
     requires few { leaves ≤ 2 ^ 62 }
     requires some { skipped < length (F.shape.heights leaves) }
     requires there { TellsPeaks F.shape leaves (P.told peaks.now) }
-    ensures { (ds es : List H.Digest) (d : H.Digest) → ArePeaks F.shape leaves (P.told peaks.now) ds → drop skipped ds ≡ d ∷ es → result ≡ fold_backward H.hash d es }
+    ensures { (ds es : List H.Digest) (d : H.Digest) → ArePeaks F.shape leaves (P.told peaks.now) ds →
+        drop skipped ds ≡ d ∷ es → result ≡ fold_backward H.hash d es }
 {
     let newest = F::peak_height(leaves, 0);
     let mut end = leaves - width(newest);
@@ -76,7 +78,8 @@ fn fold_all<F: Family, H: Hasher, P: Peaks<F, H::Digest>>(
     requires some { 0 < length (F.shape.heights leaves) }
     requires within { inactive ≤ length (F.shape.heights leaves) }
     requires there { TellsPeaks F.shape leaves (P.told peaks.now) }
-    ensures { (ds : List H.Digest) → ArePeaks F.shape leaves (P.told peaks.now) ds → H.hash.bytes result ≡ folded_bytes H.hash hasher.now inactive ds }
+    ensures { (ds : List H.Digest) → ArePeaks F.shape leaves (P.told peaks.now) ds →
+        H.hash.bytes result ≡ folded_bytes H.hash hasher.now inactive ds }
 {
     let count = F::peak_count(leaves);
     match hasher.root_bagging() {
@@ -107,7 +110,8 @@ pub(crate) fn root_from<F: Family, H: Hasher, P: Peaks<F, H::Digest>>(
     requires few { leaves ≤ 2 ^ 62 }
     requires within { inactive ≤ length (F.shape.heights leaves) }
     requires there { TellsPeaks F.shape leaves (P.told peaks.now) }
-    ensures { (ds : List H.Digest) → ArePeaks F.shape leaves (P.told peaks.now) ds → result ≡ root_over H.hash leaves ds inactive hasher.now }
+    ensures { (ds : List H.Digest) → ArePeaks F.shape leaves (P.told peaks.now) ds →
+        result ≡ root_over H.hash leaves ds inactive hasher.now }
 {
     let bagging = hasher.root_bagging();
     if F::peak_count(leaves) == 0 {

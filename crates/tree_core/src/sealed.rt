@@ -26,16 +26,28 @@ impl<F: Family, D: Digest> Model for MerkleizedBatch<F, D> {
 
     ghost Value = { Sealed D };
 
-    ghost view = { λ b. record { began = b.boundary.value.leaves; peaks = b.boundary.value.peaks.items; first = b.first; links = map (λ g. g.value) b.segments.items; leaves = b.leaves } };
+    ghost view = { λ b. record {
+      began = b.boundary.value.leaves;
+      peaks = b.boundary.value.peaks.items;
+      first = b.first;
+      links = map (λ g. g.value) b.segments.items;
+      leaves = b.leaves;
+    } };
 
-    ghost invariant = { λ b. IsSoundSealed F.shape (record { began = b.boundary.value.leaves; peaks = b.boundary.value.peaks.items; first = b.first; links = map (λ g. g.value) b.segments.items; leaves = b.leaves }) };
+    ghost invariant = { λ b. IsSoundSealed F.shape (record {
+      began = b.boundary.value.leaves;
+      peaks = b.boundary.value.peaks.items;
+      first = b.first;
+      links = map (λ g. g.value) b.segments.items;
+      leaves = b.leaves;
+    }) };
 }
 
 impl<F: Family, D: Digest> MerkleizedBatch<F, D> {
-    ghost use Rattle.std.specs.Prelude.{◌≡◌, ℕ, ◌+◌, ◌-◌, ◌≤◌, ◌<◌, ◌^◌, List, [], length, map, drop, ◌++◌, slice_get, Some, None, OnOk, OnErr, IfOk, IfSome, IsOk, IsOkUnless, IsSome};
+    ghost use Rattle.std.specs.Prelude.{◌≡◌, ℕ, ◌+◌, ◌-◌, ◌≤◌, ◌<◌, ◌^◌, List, [], length, map, reverse, drop, ◌++◌, slice_get, Some, None, OnOk, OnErr, IfOk, IfSome, IsOk, IsOkUnless, IsSome};
     ghost use Rattle.tree_shape.specs.Hashing.{Hashing};
     ghost use Rattle.tree_shape.specs.Shape.{made};
-    ghost use Rattle.tree_shape.specs.Root.{root};
+    ghost use Rattle.tree_shape.specs.Root.{root, root_over};
     ghost use Rattle.tree_shape.specs.Slow.{nodes};
     ghost use Rattle.tree_core.specs.Links.{ChainSegment, IsLinked, StandsBehind, HasMark, joined_nodes};
     ghost use Rattle.tree_core.specs.Batches.{Sealed, IsSoundSealed, IsSealedOf, IsUnsealedOf, IsChildOf, sealed_node};
@@ -56,8 +68,20 @@ impl<F: Family, D: Digest> MerkleizedBatch<F, D> {
         first: u64,
         leaves: u64,
     ) -> Self
-        requires sound { IsSoundSealed F.shape (record { began = boundary.value.leaves; peaks = boundary.value.peaks.items; first = first; links = map {B = ChainSegment D} (λ g. g.value) segments.items; leaves = leaves }) }
-        ensures { result ≡ record { began = boundary.value.leaves; peaks = boundary.value.peaks.items; first = first; links = map (λ g. g.value) segments.items; leaves = leaves } }
+        requires sound { IsSoundSealed F.shape (record {
+          began = boundary.value.leaves;
+          peaks = boundary.value.peaks.items;
+          first = first;
+          links = map {B = ChainSegment D} (λ g. g.value) segments.items;
+          leaves = leaves;
+        }) }
+        ensures { result ≡ record {
+          began = boundary.value.leaves;
+          peaks = boundary.value.peaks.items;
+          first = first;
+          links = map (λ g. g.value) segments.items;
+          leaves = leaves;
+        } }
     {
         MerkleizedBatch {
             alloc,
@@ -104,9 +128,11 @@ impl<F: Family, D: Digest> MerkleizedBatch<F, D> {
     /// The node at a position, of those that this batch and its kept ancestors made: each from the size of their first leaf on.
     pub fn get_node(&self, pos: Position<F>) -> Option<D>
         ensures told { result ≡ sealed_node F.shape self.now pos }
-        ensures node { IfSome result (λ d. (h : Hashing D) (all : List D) → IsSealedOf F.shape h all self.now → slice_get (nodes F.shape h all) pos ≡ Some d) }
+        ensures node { IfSome result (λ d. (h : Hashing D) (all : List D) → IsSealedOf F.shape h all self.now →
+            slice_get (nodes F.shape h all) pos ≡ Some d) }
         ensures before { pos < length (made F.shape self.now.first) → result ≡ None }
-        ensures since { length (made F.shape self.now.first) ≤ pos → pos < length (made F.shape self.now.leaves) → IsSome result }
+        ensures since { length (made F.shape self.now.first) ≤ pos → pos < length (made F.shape self.now.leaves) →
+            IsSome result }
     {
         let first = self.first_position();
         if pos.as_u64() < first {
@@ -123,7 +149,11 @@ impl<F: Family, D: Digest> MerkleizedBatch<F, D> {
     ) -> Result<D, Error<F>>
         requires { inactive_peaks ≤ length (F.shape.heights self.now.leaves) }
         ensures ok { IsOk result }
-        ensures root { IfOk result (λ d. (all : List D) → IsSealedOf F.shape H.hash all self.now → d ≡ root F.shape H.hash all inactive_peaks hasher.now) }
+        ensures root { IfOk result (λ d. (all : List D) → IsSealedOf F.shape H.hash all self.now →
+            d ≡ root F.shape H.hash all inactive_peaks hasher.now) }
+        // It is the root over the mark behind the batch, whether or not that is a list's.
+        ensures marked { IfOk result (λ d. (ps : List D) × StandsBehind F.shape self.now.links self.now.leaves ps ×
+            (d ≡ root_over H.hash self.now.leaves (reverse ps) inactive_peaks hasher.now)) }
     {
         Ok(self.own().root(hasher, inactive_peaks))
     }
@@ -138,12 +168,16 @@ impl<F: Family, D: Digest> MerkleizedBatch<F, D> {
         inactive_peaks: u64,
     ) -> Result<Proof<F, D>, Error<F>>
         requires { inactive_peaks ≤ length (F.shape.heights self.now.leaves) }
-        ensures proves { Proves F.shape (leaf_answer self.now.leaves loc) self.now.leaves inactive_peaks (meets loc (loc + 1)) (overlaid F.shape self.now base.now) result }
-        ensures batch { IfOk result (λ proof. (h : Hashing D) (all made : List D) → IsOf F.shape h all base.now → IsSealedOf F.shape h made self.now → AreAlike all made →
+        ensures proves { let n = self.now.leaves in
+            let told = overlaid F.shape self.now base.now in
+            Proves F.shape (leaf_answer n loc) n inactive_peaks (meets loc (loc + 1)) told result }
+        ensures batch { IfOk result (λ proof. (h : Hashing D) (all made : List D) → IsOf F.shape h all base.now →
+            IsSealedOf F.shape h made self.now → AreAlike all made →
             proof ≡ proof_of F.shape h made inactive_peaks (meets loc (loc + 1))) }
 
         // From the tree's boundary on no node is wanting, where the tree has what stands before the batch's nodes.
-        ensures kept { base.now.boundary ≤ loc → self.now.first ≤ base.now.leaves → OnlyRefusedBy (leaf_answer self.now.leaves loc) result }
+        ensures kept { base.now.boundary ≤ loc → self.now.first ≤ base.now.leaves →
+            OnlyRefusedBy (leaf_answer self.now.leaves loc) result }
     {
         // Its leaves tell that the tree is sound.
         let _stored = base.leaves();
@@ -162,12 +196,16 @@ impl<F: Family, D: Digest> MerkleizedBatch<F, D> {
         inactive_peaks: u64,
     ) -> Result<Proof<F, D>, Error<F>>
         requires { inactive_peaks ≤ length (F.shape.heights self.now.leaves) }
-        ensures proves { Proves F.shape (range_answer self.now.leaves self.now.leaves start end) self.now.leaves inactive_peaks (meets start end) (overlaid F.shape self.now base.now) result }
-        ensures batch { IfOk result (λ proof. (h : Hashing D) (all made : List D) → IsOf F.shape h all base.now → IsSealedOf F.shape h made self.now → AreAlike all made →
+        ensures proves { let n = self.now.leaves in
+            let told = overlaid F.shape self.now base.now in
+            Proves F.shape (range_answer n n start end) n inactive_peaks (meets start end) told result }
+        ensures batch { IfOk result (λ proof. (h : Hashing D) (all made : List D) → IsOf F.shape h all base.now →
+            IsSealedOf F.shape h made self.now → AreAlike all made →
             proof ≡ proof_of F.shape h made inactive_peaks (meets start end)) }
 
         // From the tree's boundary on no node is wanting, where the tree has what stands before the batch's nodes.
-        ensures kept { base.now.boundary ≤ start → self.now.first ≤ base.now.leaves → OnlyRefusedBy (range_answer self.now.leaves self.now.leaves start end) result }
+        ensures kept { base.now.boundary ≤ start → self.now.first ≤ base.now.leaves →
+            OnlyRefusedBy (range_answer self.now.leaves self.now.leaves start end) result }
     {
         // Its leaves tell that the tree is sound.
         let _stored = base.leaves();
@@ -179,7 +217,8 @@ impl<F: Family, D: Digest> MerkleizedBatch<F, D> {
     pub fn new_batch(&self) -> Result<UnmerkleizedBatch<F, D>, Error<F>>
         ensures child { IfOk result (λ b. IsChildOf self.now b) }
         ensures behind { IfOk result (λ b. StandsBehind F.shape self.now.links b.base b.base_peaks) }
-        ensures batch { IfOk result (λ b. (h : Hashing D) (all : List D) → IsSealedOf F.shape h all self.now → IsUnsealedOf F.shape h all b) }
+        ensures batch { IfOk result (λ b. (h : Hashing D) (all : List D) → IsSealedOf F.shape h all self.now →
+            IsUnsealedOf F.shape h all b) }
         ensures memory { IsOkUnless result Error.Memory }
     {
         let base = self.own().mark_behind(self.alloc)?;
@@ -206,7 +245,8 @@ impl<F: Family, D: Digest> MerkleizedBatch<F, D> {
     ) -> Result<(), AllocError>
         requires within { place ≤ length self.now.links }
         requires few { first + length (joined_nodes (drop place self.now.links)) < 2 ^ 64 }
-        ensures ok { OnOk result (nodes.new.items ≡ nodes.old.items ++ placed first (joined_nodes (drop place self.now.links))) }
+        ensures ok { OnOk result (nodes.new.items ≡ nodes.old.items ++
+            placed first (joined_nodes (drop place self.now.links))) }
         ensures err { OnErr result (nodes.new.items ≡ nodes.old.items) }
     {
         push_nodes(nodes, first, &self.segments, place)

@@ -1,7 +1,7 @@
 //! What one batch of a chain added.
-ghost use Rattle.std.specs.Prelude.{◌≡◌, ℕ, ◌+◌, ◌-◌, ◌≤◌, ◌<◌, ◌^◌, ◌↔◌, List, [], ◌∷◌, ◌++◌, length, map, drop, slice_get, OnOk, OnErr, IfOk, IfSome, IsTrue, Some, None};
+ghost use Rattle.std.specs.Prelude.{◌≡◌, ℕ, ◌+◌, ◌-◌, ◌≤◌, ◌<◌, ◌^◌, ◌↔◌, List, [], ◌∷◌, ◌++◌, length, map, reverse, drop, slice_get, OnOk, OnErr, IfOk, IfSome, IsTrue, Some, None};
 ghost use Rattle.tree_shape.specs.Hashing.{Hashing};
-ghost use Rattle.tree_shape.specs.Root.{root};
+ghost use Rattle.tree_shape.specs.Root.{root, root_over};
 ghost use Rattle.tree_core.specs.Pruned.{made_from, nodes_from, peaks_at, held_at};
 ghost use Rattle.tree_core.specs.Links.{ChainSegment, IsMarkBehind, first_leaves, HasMark, joined_nodes};
 ghost use Rattle.tree_core.specs.Batches.{IsSoundSegment};
@@ -27,9 +27,19 @@ pub(crate) struct Segment<F: Family, D: Digest> {
 impl<F: Family, D: Digest> Model for Segment<F, D> {
     ghost Value = { ChainSegment D };
 
-    ghost view = { λ g. record { leaves = g.before.leaves; peaks = g.before.peaks.items; later = g.later; nodes = g.nodes.items } };
+    ghost view = { λ g. record {
+      leaves = g.before.leaves;
+      peaks = g.before.peaks.items;
+      later = g.later;
+      nodes = g.nodes.items;
+    } };
 
-    ghost invariant = { λ g. IsSoundSegment F.shape (record { leaves = g.before.leaves; peaks = g.before.peaks.items; later = g.later; nodes = g.nodes.items }) };
+    ghost invariant = { λ g. IsSoundSegment F.shape (record {
+      leaves = g.before.leaves;
+      peaks = g.before.peaks.items;
+      later = g.later;
+      nodes = g.nodes.items;
+    }) };
 }
 
 impl<F: Family, D: Digest> Peaks<F, D> for Segment<F, D> {
@@ -45,7 +55,12 @@ impl<F: Family, D: Digest> Segment<F, D> {
     pub(crate) fn new(before: Mark<F, D>, later: u64, nodes: Vec<D>) -> Self
         requires few { before.leaves + later ≤ 2 ^ 62 }
         requires counted { length nodes.items ≡ length (made_from F.shape before.leaves later) }
-        ensures { result ≡ record { leaves = before.leaves; peaks = before.peaks.items; later = later; nodes = nodes.items } }
+        ensures { result ≡ record {
+          leaves = before.leaves;
+          peaks = before.peaks.items;
+          later = later;
+          nodes = nodes.items;
+        } }
     {
         Segment {
             before,
@@ -71,8 +86,12 @@ impl<F: Family, D: Digest> Segment<F, D> {
     /// The root behind it, with this many inactive peaks.
     pub(crate) fn root<H: Hasher<Digest = D>>(&self, hasher: &Standard<H>, inactive: u64) -> D
         requires { inactive ≤ length (F.shape.heights (self.now.leaves + self.now.later)) }
-        ensures { (all : List D) → self.now.leaves + self.now.later ≡ length all → self.now.peaks ≡ peaks_at F.shape H.hash all self.now.leaves →
-            self.now.nodes ≡ nodes_from F.shape H.hash all self.now.leaves self.now.later → result ≡ root F.shape H.hash all inactive hasher.now }
+        ensures root { (all : List D) → self.now.leaves + self.now.later ≡ length all →
+            self.now.peaks ≡ peaks_at F.shape H.hash all self.now.leaves →
+            self.now.nodes ≡ nodes_from F.shape H.hash all self.now.leaves self.now.later →
+            result ≡ root F.shape H.hash all inactive hasher.now }
+        ensures marked { (ps : List D) × IsMarkBehind F.shape self.now (self.now.leaves + self.now.later) ps ×
+            (result ≡ root_over H.hash (self.now.leaves + self.now.later) (reverse ps) inactive hasher.now) }
     {
         let leaves = self.before.leaves + self.later;
         root_from::<F, H, Segment<F, D>>(self, hasher, leaves, inactive)
@@ -89,8 +108,10 @@ impl<F: Family, D: Digest> Segment<F, D> {
     pub(crate) fn mark_behind(&self, alloc: Global) -> Result<Mark<F, D>, AllocError>
         ensures leaves { IfOk result (λ m. m.leaves ≡ self.now.leaves + self.now.later) }
         ensures mark { IfOk result (λ m. IsMarkBehind F.shape self.now m.leaves m.peaks.items) }
-        ensures peaks { IfOk result (λ m. (h : Hashing D) (all : List D) → self.now.peaks ≡ peaks_at F.shape h all self.now.leaves →
-            self.now.nodes ≡ nodes_from F.shape h all self.now.leaves self.now.later → m.peaks.items ≡ peaks_at F.shape h all (self.now.leaves + self.now.later)) }
+        ensures peaks { IfOk result (λ m. (h : Hashing D) (all : List D) →
+            self.now.peaks ≡ peaks_at F.shape h all self.now.leaves →
+            self.now.nodes ≡ nodes_from F.shape h all self.now.leaves self.now.later →
+            m.peaks.items ≡ peaks_at F.shape h all (self.now.leaves + self.now.later)) }
     {
         let leaves = self.before.leaves + self.later;
         let mark = mark_of::<F, D, Segment<F, D>>(alloc, self, leaves)?;
@@ -103,8 +124,10 @@ pub(crate) fn place_of<F: Family, D: Digest>(
     segments: &[Rc<Segment<F, D>>],
     mark: &Mark<F, D>,
 ) -> Option<usize>
-    ensures some { IfSome result (λ i. HasMark (map (λ g. g.value) segments.now) i mark.now.leaves mark.now.peaks.items) }
-    ensures none { result ≡ None → (i : ℕ) → HasMark (map (λ g. g.value) segments.now) i mark.now.leaves mark.now.peaks.items → ⊥ }
+    ensures some { IfSome result (λ i.
+        HasMark (map (λ g. g.value) segments.now) i mark.now.leaves mark.now.peaks.items) }
+    ensures none { result ≡ None → (i : ℕ) →
+        HasMark (map (λ g. g.value) segments.now) i mark.now.leaves mark.now.peaks.items → ⊥ }
 {
     for i in 0..segments.len() {
         if segments[i].is_behind(mark) {
@@ -123,7 +146,8 @@ pub(crate) fn push_nodes<F: Family, D: Digest>(
 ) -> Result<(), AllocError>
     requires within { place ≤ length segments.now }
     requires few { first + length (joined_nodes (drop place (map (λ g. g.value) segments.now))) < 2 ^ 64 }
-    ensures ok { OnOk result (nodes.new.items ≡ nodes.old.items ++ placed first (joined_nodes (drop place (map (λ g. g.value) segments.now)))) }
+    ensures ok { OnOk result (nodes.new.items ≡ nodes.old.items ++
+        placed first (joined_nodes (drop place (map (λ g. g.value) segments.now)))) }
     ensures err { OnErr result (nodes.new.items ≡ nodes.old.items) }
 {
     let before = nodes.len();
@@ -159,7 +183,8 @@ pub(crate) fn first_of<F: Family, D: Digest>(
 /// Keeps the segments from this one on, and lets go of those before it.
 pub(crate) fn keep_from<F: Family, D: Digest>(segments: &mut Vec<Rc<Segment<F, D>>>, place: usize)
     requires { place ≤ length segments.old.items }
-    ensures { map {B = ChainSegment D} (λ g. g.value) segments.new.items ≡ drop place (map (λ g. g.value) segments.old.items) }
+    ensures { map {B = ChainSegment D} (λ g. g.value) segments.new.items ≡
+        drop place (map (λ g. g.value) segments.old.items) }
 {
     let kept = segments.len() - place;
     segments.rotate_left(place);

@@ -25,9 +25,25 @@ impl<F: Family, D: Digest> Model for UnmerkleizedBatch<F, D> {
 
     ghost Value = { Unsealed D };
 
-    ghost view = { λ b. record { began = b.boundary.value.leaves; peaks = b.boundary.value.peaks.items; first = b.first; links = map (λ g. g.value) b.segments.items; base = b.base.leaves; base_peaks = b.base.peaks.items; digests = b.digests.items } };
+    ghost view = { λ b. record {
+      began = b.boundary.value.leaves;
+      peaks = b.boundary.value.peaks.items;
+      first = b.first;
+      links = map (λ g. g.value) b.segments.items;
+      base = b.base.leaves;
+      base_peaks = b.base.peaks.items;
+      digests = b.digests.items;
+    } };
 
-    ghost invariant = { λ b. IsSoundUnsealed F.shape (record { began = b.boundary.value.leaves; peaks = b.boundary.value.peaks.items; first = b.first; links = map (λ g. g.value) b.segments.items; base = b.base.leaves; base_peaks = b.base.peaks.items; digests = b.digests.items }) };
+    ghost invariant = { λ b. IsSoundUnsealed F.shape (record {
+      began = b.boundary.value.leaves;
+      peaks = b.boundary.value.peaks.items;
+      first = b.first;
+      links = map (λ g. g.value) b.segments.items;
+      base = b.base.leaves;
+      base_peaks = b.base.peaks.items;
+      digests = b.digests.items;
+    }) };
 }
 
 impl<F: Family, D: Digest> UnmerkleizedBatch<F, D> {
@@ -46,8 +62,17 @@ impl<F: Family, D: Digest> UnmerkleizedBatch<F, D> {
     ) -> Self
         requires linked { IsLinked F.shape first (map {B = ChainSegment D} (λ g. g.value) segments.items) base.leaves }
         requires chained { AreChained F.shape (map {B = ChainSegment D} (λ g. g.value) segments.items) }
-        requires marked { StandsBehind F.shape (map {B = ChainSegment D} (λ g. g.value) segments.items) base.leaves base.peaks.items }
-        ensures { result ≡ record { began = boundary.value.leaves; peaks = boundary.value.peaks.items; first = first; links = map (λ g. g.value) segments.items; base = base.leaves; base_peaks = base.peaks.items; digests = [] } }
+        requires marked { let links = map {B = ChainSegment D} (λ g. g.value) segments.items in
+            StandsBehind F.shape links base.leaves base.peaks.items }
+        ensures { result ≡ record {
+          began = boundary.value.leaves;
+          peaks = boundary.value.peaks.items;
+          first = first;
+          links = map (λ g. g.value) segments.items;
+          base = base.leaves;
+          base_peaks = base.peaks.items;
+          digests = [];
+        } }
     {
         UnmerkleizedBatch {
             alloc,
@@ -92,7 +117,8 @@ impl<F: Family, D: Digest> UnmerkleizedBatch<F, D> {
     pub fn add_leaf_digests(&mut self, digests: &[D]) -> Result<(), Error<F>>
         ensures ok { OnOk result (self.new ≡ with_digests self.old digests.now) }
         ensures err { OnErr result (self.new ≡ self.old) }
-        ensures full { 2 ^ 62 < leaf_count self.old + length digests.now → result ≡ Err (Error.LocationOverflow (2 ^ 62 + 1)) }
+        ensures full { 2 ^ 62 < leaf_count self.old + length digests.now →
+            result ≡ Err (Error.LocationOverflow (2 ^ 62 + 1)) }
         ensures memory { leaf_count self.old + length digests.now ≤ 2 ^ 62 → IsOkUnless result Error.Memory }
     {
         let leaves = self.base.leaves + self.digests.len() as u64;
@@ -111,7 +137,8 @@ impl<F: Family, D: Digest> UnmerkleizedBatch<F, D> {
     ) -> Result<MerkleizedBatch<F, D>, Error<F>>
         requires { reached ≤ length self.links }
         ensures sealed { IfOk result (λ b. IsSealedFrom self reached b) }
-        ensures batch { IfOk result (λ b. (all : List D) → IsUnsealedOf F.shape H.hash all self → IsSealedOf F.shape H.hash (all ++ self.digests) b) }
+        ensures batch { IfOk result (λ b. (all : List D) → IsUnsealedOf F.shape H.hash all self →
+            IsSealedOf F.shape H.hash (all ++ self.digests) b) }
         ensures memory { IsOkUnless result Error.Memory }
     {
         let UnmerkleizedBatch {
@@ -139,7 +166,8 @@ impl<F: Family, D: Digest> UnmerkleizedBatch<F, D> {
         hasher: &Standard<H>,
         element: &[u8],
     ) -> Result<(), Error<F>>
-        ensures ok { OnOk result (self.new ≡ with_digests self.old (leaf F.shape H.hash (leaf_count self.old) element.now ∷ [])) }
+        ensures ok { OnOk result (self.new ≡ with_digests self.old
+            (leaf F.shape H.hash (leaf_count self.old) element.now ∷ [])) }
         ensures err { OnErr result (self.new ≡ self.old) }
         ensures full { leaf_count self.old ≡ 2 ^ 62 → result ≡ Err (Error.LocationOverflow (2 ^ 62 + 1)) }
         ensures memory { leaf_count self.old < 2 ^ 62 → IsOkUnless result Error.Memory }

@@ -1,4 +1,3 @@
-mod InputLemmas
 mod ClashLemmas
 mod DifferenceLemmas
 mod FoldLemmas

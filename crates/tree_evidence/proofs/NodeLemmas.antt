@@ -7,7 +7,7 @@ use Rattle.tree_shape.specs.Shape.{Shape}
 use Rattle.tree_shape.specs.Slow.{leaf_digests, node}
 use Rattle.tree_proof.specs.Inputs.{input_of, element_of, slow_inputs}
 use Rattle.tree_proof.proofs.Complete.{leaf_digests-at}
-use Rattle.tree_evidence.proofs.InputLemmas.{leaf_input_same}
+use Rattle.tree_proof.proofs.InputLemmas.{leaf_input_same}
 use Rattle.tree_evidence.specs.Evidence.{IsClash}
 use Rattle.tree_evidence.proofs.ClashLemmas.{among_more}
 use Rattle.tree_evidence.proofs.FoldLemmas.{clash_in_front, behind}

@@ -12,7 +12,7 @@ use Rattle.tree_shape.specs.Shape.{Shape, peaks}
 use Rattle.tree_shape.specs.Slow.{leaf_digests, node, node_of}
 use Rattle.tree_shape.specs.Root.{folded_bytes, root_input, root}
 use Rattle.tree_proof.specs.Inputs.{slow_inputs, fold_inputs, root_inputs, tree_inputs}
-use Rattle.tree_evidence.proofs.InputLemmas.{SameRoots, root_input_same}
+use Rattle.tree_proof.proofs.InputLemmas.{SameRoots, root_input_same, in_flat_map}
 use Rattle.tree_evidence.specs.Evidence.{IsClash}
 use Rattle.tree_evidence.proofs.ClashLemmas.{among_more}
 use Rattle.tree_evidence.proofs.FoldLemmas.{clash_in_front, behind}
@@ -24,14 +24,6 @@ place_within xs ys i l differ = elim (cases_lt i (length xs)) [
   | inl lt ↦ lt
   | inr le ↦ absurd (differ (slice_get_past xs i le ∙ sym (slice_get_past ys i (omega (arith, l, le)))))
 ]
-
-in_flat_map_at : {X A : Type 0} (f : X → List A) (xs : List X) (x : X) (y : A) (k : ℕ) → k < length xs → get_or xs k x ≡ x → Contains (f x) y → Contains (flat_map f xs) y
-in_flat_map_at f [] x y k lt e d = absurd (omega (arith, lt))
-in_flat_map_at f (z ∷ xs) x y zero lt e d = Contains-append_left (f z) (flat_map f xs) y (subst (λ w. Contains (f w) y) (sym e) d)
-in_flat_map_at f (z ∷ xs) x y (suc k) lt e d = Contains-append_right (f z) (flat_map f xs) y (in_flat_map_at f xs x y k (omega (arith, lt)) e d)
-
-in_flat_map : {X A : Type 0} (f : X → List A) (xs : List X) (x : X) (y : A) → Contains xs x → Contains (f x) y → Contains (flat_map f xs) y
-in_flat_map f xs x y c d = in_flat_map_at f xs x y c.0 c.1 c.2 d
 
 -- equal results have equal members
 member_same : {X A : Type 0} (f g : X → A) (xs : List X) (x : X) (k : ℕ) → map f xs ≡ map g xs → k < length xs → get_or xs k x ≡ x → f x ≡ g x

@@ -3,12 +3,11 @@ ghost use Rattle.std.specs.Prelude.{◌≡◌, ◌≤◌, ◌<◌, ◌+◌, ◌�
 ghost use Rattle.tree_shape.specs.Root.{fold_forward, fold_backward, bagged, folded_bytes};
 ghost use Rattle.tree_evidence.specs.Searches.{AreTheFold, FindsForward, FindsBackward, FindsBagged, FindsFolded};
 
-use crate::folds::{backward, forward};
 use crate::inputs::fold_bytes;
 use crate::pair::Pair;
 use codec_base::Bytes;
 use std::alloc::{AllocError, Global};
-use tree_shape::{Bagging, Hasher, Standard};
+use tree_shape::{Bagging, Hasher, Standard, backward_fold, forward_fold};
 
 /// The inputs of one fold in each tree, where they differ.
 fn differing_folds<H: Hasher>(
@@ -75,8 +74,8 @@ fn find_backward<H: Hasher>(
         other: others[0],
     };
     let rest = Pair {
-        one: backward(hasher, next.one, &ones[1..]),
-        other: backward(hasher, next.other, &others[1..]),
+        one: backward_fold(hasher, next.one, &ones[1..]),
+        other: backward_fold(hasher, next.other, &others[1..]),
     };
     match differing_folds::<H>(alloc, first, rest)? {
         Some(clash) => Ok(Some(clash)),
@@ -128,8 +127,8 @@ pub(crate) fn find_folded<H: Hasher>(
         return find_bagged(alloc, hasher, first, &ones[1..], &others[1..]);
     }
     let joined = Pair {
-        one: forward(hasher, first.one, &ones[1..count]),
-        other: forward(hasher, first.other, &others[1..count]),
+        one: forward_fold(hasher, first.one, &ones[1..count]),
+        other: forward_fold(hasher, first.other, &others[1..count]),
     };
     match find_bagged(alloc, hasher, joined, &ones[count..], &others[count..])? {
         Some(clash) => Ok(Some(clash)),

@@ -1,7 +1,7 @@
 //! What is hashed in a tree, byte for byte.
 ghost use Rattle.std.specs.Prelude.{◌≡◌, ◌≤◌, ℕ, ◌∷◌, ◌++◌, length, IfOk, OnOk};
 ghost use Rattle.tree_shape.specs.Hashing.{number, leaf_input, node_input, fold_input};
-ghost use Rattle.tree_shape.specs.Root.{bagging_byte, root_input};
+ghost use Rattle.tree_shape.specs.Root.{root_input};
 
 use codec_base::Bytes;
 use std::alloc::{AllocError, Global};
@@ -65,15 +65,6 @@ pub(crate) fn fold_bytes<H: Hasher>(
     Ok(Bytes::from_vec(bytes))
 }
 
-fn byte_of(bagging: Bagging) -> u8
-    ensures { result ≡ bagging_byte bagging }
-{
-    match bagging {
-        Bagging::ForwardFold => 0,
-        Bagging::BackwardFold => 1,
-    }
-}
-
 /// The input of the root of a number of leaves, with the bytes of the folded peaks.
 pub(crate) fn root_bytes(
     alloc: Global,
@@ -86,7 +77,7 @@ pub(crate) fn root_bytes(
 {
     let mut bytes = numbered(alloc, 3, leaves)?;
     push_number(&mut bytes, inactive)?;
-    bytes.push(byte_of(bagging))?;
+    bytes.push(bagging.byte())?;
     bytes.extend_from_slice(folded)?;
     Ok(Bytes::from_vec(bytes))
 }

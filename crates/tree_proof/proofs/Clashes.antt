@@ -1,62 +1,17 @@
 -- Equal digests: equal inputs, or a clash.
-use Rattle.std.proofs.Common.{◌≡◌, ℕ, zero, suc, ◌^◌, ◌<◌, ◌⊎◌, inl, inr, true, false, Bool, List, [], ◌∷◌, ◌++◌, length, take, drop, refl, sym, ◌∙◌, ap, subst, arith, length-append}
+use Rattle.std.proofs.Common.{◌≡◌, ℕ, zero, suc, ◌^◌, ◌<◌, ◌⊎◌, inl, inr, true, false, Bool, List, [], ◌∷◌, ◌++◌, length, take, drop, refl, sym, ◌∙◌, ap, subst, arith}
 use Rattle.std.specs.List.{Contains}
-use Rattle.std.specs.Int.{w64, from_be_bytes}
 use Rattle.std.specs.Str.{bytes_eq}
 use Rattle.std.specs.Bool.{Decides}
-use Rattle.std.proofs.Math.Seq.{take-append_seam, drop-append_seam}
 use Rattle.std.proofs.lemmas.List.{take-append-drop, length-take, length-drop}
 use Rattle.std.proofs.lemmas.List.Elements.{Contains-append_left, Contains-append_right}
-use Rattle.std.proofs.lemmas.Nat.{from_be_bytes-to_be_bytes_8}
 use Rattle.std.proofs.lemmas.Slice.Eq.{bytes_eq-Decides}
 use Rattle.tree_shape.specs.declared.bagging.Bagging.{Bagging}
 use Rattle.tree_shape.specs.declared.bagging.Bagging.TheVariants.{ForwardFold, BackwardFold}
-use Rattle.tree_shape.specs.Hashing.{Hashing, number, leaf_input, fold_input}
-use Rattle.tree_shape.specs.Root.{fold_forward, fold_backward, bagged, bagging_byte, folded_bytes, root_input}
+use Rattle.tree_shape.specs.Hashing.{Hashing, fold_input}
+use Rattle.tree_shape.specs.Root.{fold_forward, fold_backward, bagged, folded_bytes, root_input}
 use Rattle.tree_proof.specs.Inputs.{Clash, forward_inputs, backward_inputs, bagged_inputs, fold_inputs, root_inputs}
-
--- equal joined lists whose first parts have one length
-pub split : {X : Type 0} (xs ys us vs : List X) → length xs ≡ length us → xs ++ ys ≡ us ++ vs → (xs ≡ us) × (ys ≡ vs)
-split xs ys us vs l e =
-    let a : xs ≡ take (length xs) (us ++ vs) = sym (take-append_seam xs ys) ∙ ap (take (length xs)) e in
-    let b : ys ≡ drop (length xs) (us ++ vs) = sym (drop-append_seam xs ys) ∙ ap (drop (length xs)) e in
-    (a ∙ ap (λ n. take n (us ++ vs)) l ∙ take-append_seam us vs, b ∙ ap (λ n. drop n (us ++ vs)) l ∙ drop-append_seam us vs)
-
-pub length-number : (n : ℕ) → length (number n) ≡ 8
-unfolding number
-length-number n = refl
-
-pub number_is : (m n : ℕ) → m < 2 ^ 64 → n < 2 ^ 64 → number m ≡ number n → m ≡ n
-unfolding number
-number_is m n fm fn e = sym (from_be_bytes-to_be_bytes_8 m fm) ∙ ap (from_be_bytes w64) e ∙ from_be_bytes-to_be_bytes_8 n fn
-
-pub leaf_input_is : (position : ℕ) (x y : List ℕ) → leaf_input position x ≡ leaf_input position y → x ≡ y
-leaf_input_is position x y e = (split (0 ∷ number position) x (0 ∷ number position) y refl e).1
-
-byte_is : (b c : Bagging) → bagging_byte b ≡ bagging_byte c → b ≡ c
-byte_is ForwardFold ForwardFold e = refl
-byte_is ForwardFold BackwardFold e = absurd (omega (arith, e))
-byte_is BackwardFold ForwardFold e = absurd (omega (arith, e))
-byte_is BackwardFold BackwardFold e = refl
-
-pub record SameRoots (m n j k : ℕ) (xs ys : List ℕ) : Type 0 where
-  pub leaves : m ≡ n
-  pub inactive : j ≡ k
-  pub folded : xs ≡ ys
-
-pub root_input_is : (m n j k : ℕ) (b : Bagging) (xs ys : List ℕ) → m < 2 ^ 64 → n < 2 ^ 64 → j < 2 ^ 64 → k < 2 ^ 64 → root_input m j b xs ≡ root_input n k b ys → SameRoots m n j k xs ys
-root_input_is m n j k b xs ys fm fn fj fk e =
-    let lm = length-number m in
-    let ln = length-number n in
-    let lj = length-number j in
-    let lk = length-number k in
-    let one = split (((3 ∷ number m) ++ number j) ++ (bagging_byte b ∷ [])) xs (((3 ∷ number n) ++ number k) ++ (bagging_byte b ∷ [])) ys
-    (omega (arith, lm, ln, lj, lk, length-append ((3 ∷ number m) ++ number j) (bagging_byte b ∷ []), length-append ((3 ∷ number n) ++ number k) (bagging_byte b ∷ []), length-append (3 ∷ number m) (number j), length-append (3 ∷ number n) (number k))) e in
-    let two = split ((3 ∷ number m) ++ number j) (bagging_byte b ∷ []) ((3 ∷ number n) ++ number k) (bagging_byte b ∷ [])
-    (omega (arith, lm, ln, lj, lk, length-append (3 ∷ number m) (number j), length-append (3 ∷ number n) (number k))) one.0 in
-    let three = split (3 ∷ number m) (number j) (3 ∷ number n) (number k) (omega (arith, lm, ln)) two.0 in
-    let tail : number m ≡ number n = ap (drop 1) three.0 in
-    record { leaves = number_is m n fm fn tail; inactive = number_is j k fj fk three.1; folded = one.1 }
+use Rattle.tree_proof.proofs.InputLemmas.{fold_input_same, root_input_same}
 
 module _ {D : Type 0} (h : Hashing D) (inputs : List (List ℕ)) (size : ℕ) (exact : (a b : D) → h.bytes a ≡ h.bytes b → a ≡ b) (one_size : (m : List ℕ) → length (h.bytes (h.digest m)) ≡ size) where
   abbrev pub Sized : D → Type 0
@@ -99,11 +54,6 @@ module _ {D : Type 0} (h : Hashing D) (inputs : List (List ℕ)) (size : ℕ) (e
 
   -- ---- folds
 
-  fold_input_is : (p q p1 q1 : D) → Sized p → Sized p1 → fold_input h p q ≡ fold_input h p1 q1 → (p ≡ p1) × (q ≡ q1)
-  fold_input_is p q p1 q1 s s1 e =
-      let t = split (2 ∷ h.bytes p) (h.bytes q) (2 ∷ h.bytes p1) (h.bytes q1) (omega (arith, s, s1)) e in
-      (exact p p1 (ap (drop 1) t.0), exact q q1 t.1)
-
   forward_is : (p p1 : D) (qs qs1 : List D) → length qs ≡ length qs1 → Sized p → Sized p1 → EachSized qs → EachSized qs1 → AllIn (forward_inputs h p qs) → AllIn (forward_inputs h p1 qs1)
       → fold_forward h p qs ≡ fold_forward h p1 qs1 → OrClash ((p ≡ p1) × (qs ≡ qs1))
   forward_is p p1 [] [] l s s1 ss ss1 i i1 e = inl (e, refl)
@@ -112,7 +62,7 @@ module _ {D : Type 0} (h : Hashing D) (inputs : List (List ℕ)) (size : ℕ) (e
   forward_is p p1 (q ∷ qs) (q1 ∷ qs1) l s s1 ss ss1 i i1 e =
       and_then (forward_is (h.digest (fold_input h p q)) (h.digest (fold_input h p1 q1)) qs qs1 (omega (arith, l)) (one_size _) (one_size _) ss.1 ss1.1 (in_rest _ _ i) (in_rest _ _ i1) e)
       (λ r. and_then (same_or_clash (fold_input h p q) (fold_input h p1 q1) (in_first _ _ i) (in_first _ _ i1) r.0)
-      (λ m. let t = fold_input_is p q p1 q1 s s1 m in inl (t.0, rw (t.1, r.1) refl)))
+      (λ m. let t = fold_input_same h exact p q p1 q1 (s ∙ sym s1) m in inl (t.0, rw (t.1, r.1) refl)))
 
   backward_is : (p p1 : D) (qs qs1 : List D) → length qs ≡ length qs1 → Sized p → Sized p1 → EachSized qs → EachSized qs1 → AllIn (backward_inputs h p qs) → AllIn (backward_inputs h p1 qs1)
       → fold_backward h p qs ≡ fold_backward h p1 qs1 → OrClash ((p ≡ p1) × (qs ≡ qs1))
@@ -121,7 +71,7 @@ module _ {D : Type 0} (h : Hashing D) (inputs : List (List ℕ)) (size : ℕ) (e
   backward_is p p1 (q ∷ qs) [] l s s1 ss ss1 i i1 e = absurd (omega (arith, l))
   backward_is p p1 (q ∷ qs) (q1 ∷ qs1) l s s1 ss ss1 i i1 e =
       and_then (same_or_clash (fold_input h p (fold_backward h q qs)) (fold_input h p1 (fold_backward h q1 qs1)) (in_first _ _ i) (in_first _ _ i1) e)
-      (λ m. let t = fold_input_is p (fold_backward h q qs) p1 (fold_backward h q1 qs1) s s1 m in
+      (λ m. let t = fold_input_same h exact p (fold_backward h q qs) p1 (fold_backward h q1 qs1) (s ∙ sym s1) m in
       and_then (backward_is q q1 qs qs1 (omega (arith, l)) ss.0 ss1.0 ss.1 ss1.1 (in_rest _ _ i) (in_rest _ _ i1) t.1)
       (λ r. inl (t.0, rw (r.0, r.1) refl)))
 
@@ -165,7 +115,7 @@ module _ {D : Type 0} (h : Hashing D) (inputs : List (List ℕ)) (size : ℕ) (e
       → OrClash ((m ≡ n) × (j ≡ k) × (ps ≡ ps1))
   roots_is m n j k b ps ps1 fm fn fj fk l ss ss1 i i1 e =
       and_then (same_or_clash _ _ (in_first _ _ i) (in_first _ _ i1) e)
-      (λ q. let r = root_input_is m n j k b (folded_bytes h b j ps) (folded_bytes h b k ps1) fm fn fj fk q in
+      (λ q. let r = root_input_same m n j k b (folded_bytes h b j ps) (folded_bytes h b k ps1) fm fn fj fk q in
       let at : folded_bytes h b j ps ≡ folded_bytes h b j ps1 = r.folded ∙ ap (λ c. folded_bytes h b c ps1) (sym r.inactive) in
       let i2 : AllIn (fold_inputs h b j ps1) = subst (λ c. AllIn (fold_inputs h b c ps1)) (sym r.inactive) (in_rest _ _ i1) in
       and_then (folded_is b j ps ps1 (l r.leaves) ss ss1 (in_rest _ _ i) i2 at) (λ t. inl (r.leaves, r.inactive, t)))

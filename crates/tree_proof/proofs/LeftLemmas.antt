@@ -1,16 +1,14 @@
 -- The nodes of a cover that stand left of its range.
 use Rattle.std.proofs.Common.{◌≡◌, ℕ, zero, suc, ◌+◌, ◌-◌, ◌^◌, ◌<◌, ◌≤◌, Bool, true, false, cond, List, [], ◌∷◌, ◌++◌, length, refl, sym, ◌∙◌, ap, subst, arith, append_assoc}
 use Rattle.std.specs.Prelude.{All, nat_le, if◌then◌else◌}
-use Rattle.std.specs.List.{AllByRecursion}
 use Rattle.std.proofs.lemmas.Bool.Decides.{nat_tests}
 use Rattle.std.proofs.lemmas.List.Elements.{filter-append}
 use Rattle.std.proofs.lemmas.Nat.{pow_pos}
 use Rattle.tree_shape.specs.Shape.{Shape, peaks, ends_by}
-use Rattle.tree_shape.proofs.NodeLemmas.{low_height}
 use Rattle.tree_proof.specs.Cover.{Opened, meets, cover_in, cover_over}
 use Rattle.tree_proof.specs.Pinned.{left_of}
 use Rattle.tree_proof.proofs.CoverSteps.{cover_in-outside, cover_in-halves}
-use Rattle.tree_proof.proofs.PeakLemmas.{peaks_left, all_left, none_left}
+use Rattle.tree_shape.proofs.PeakLemmas.{peaks_left, all_left, none_left, all-append, EndBy, small}
 use Rattle.tree_proof.proofs.RebuildLemmas.{append_nil}
 
 -- ---- one node, by cases
@@ -120,13 +118,6 @@ left-cover a b some (p ∷ ps) =
 
 -- ---- they are small
 
-abbrev pub EndBy : ℕ → List (ℕ × ℕ) → Type 0
-EndBy a ps = AllByRecursion (λ p. p.0 + 2 ^ p.1 ≤ a) ps
-
-both-end : (a : ℕ) (ps qs : List (ℕ × ℕ)) → EndBy a ps → EndBy a qs → EndBy a (ps ++ qs)
-both-end a [] qs l r = r
-both-end a (p ∷ ps) qs l r = (l.0, both-end a ps qs l.1 r)
-
 left-ends : (a x k : ℕ) → EndBy a (left_in a x k)
 unfolding left_in
 left-ends a x zero = at (nat_le (x + 1) a) refl
@@ -139,16 +130,11 @@ left-ends a x (suc k) = at (nat_le (x + 2 ^ suc k) a) (nat_le a x) refl (left-en
     at : (m n : Bool) → nat_le (x + 2 ^ suc k) a ≡ m → EndBy a (left_in a x k) → EndBy a (left_in a (x + 2 ^ k) k) → EndBy a (cond m ((x, suc k) ∷ []) (cond n [] (left_in a x k ++ left_in a (x + 2 ^ k) k)))
     at true n t l r = (grind (arith, nat_tests), tt)
     at false true t l r = tt
-    at false false t l r = both-end a (left_in a x k) (left_in a (x + 2 ^ k) k) l r
+    at false false t l r = all-append (λ p. p.0 + 2 ^ p.1 ≤ a) (left_in a x k) (left_in a (x + 2 ^ k) k) l r
 
 pub over-ends : (a : ℕ) (ps : List (ℕ × ℕ)) → EndBy a (left_over a ps)
 over-ends a [] = tt
-over-ends a (p ∷ ps) = both-end a (left_in a p.0 p.1) (left_over a ps) (left-ends a p.0 p.1) (over-ends a ps)
-
-small : (a : ℕ) (ps : List (ℕ × ℕ)) → a ≤ 2 ^ 62 → EndBy a ps → All (λ p. (p.0 + 2 ^ p.1 ≤ 2 ^ 62) × (p.1 < 63)) ps
-small a [] few e k d lt = absurd (omega arith)
-small a (p ∷ ps) few e zero d lt = let le = e.0 in (omega (arith, le, few), low_height p.1 (2 ^ 62) (omega (arith, le, few)) (omega arith))
-small a (p ∷ ps) few e (suc k) d lt = small a ps few e.1 k d (omega arith)
+over-ends a (p ∷ ps) = all-append (λ p. p.0 + 2 ^ p.1 ≤ a) (left_in a p.0 p.1) (left_over a ps) (left-ends a p.0 p.1) (over-ends a ps)
 
 pub left-small : (a : ℕ) (ps qs : List (ℕ × ℕ)) → a ≤ 2 ^ 62 → qs ≡ left_over a ps → All (λ p. (p.0 + 2 ^ p.1 ≤ 2 ^ 62) × (p.1 < 63)) qs
 left-small a ps qs few e = subst (All (λ p. (p.0 + 2 ^ p.1 ≤ 2 ^ 62) × (p.1 < 63))) (sym e) (small a (left_over a ps) few (over-ends a ps))

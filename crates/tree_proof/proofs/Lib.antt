@@ -1,5 +1,5 @@
+pub mod InputLemmas
 pub mod RebuildLemmas
-pub mod PeakLemmas
 mod WalkLemmas
 pub mod Complete
 mod CoverCount

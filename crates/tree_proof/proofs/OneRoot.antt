@@ -11,8 +11,10 @@ use Rattle.tree_shape.specs.Root.{root, root_over}
 use Rattle.tree_proof.specs.Cover.{Opened}
 use Rattle.tree_proof.specs.Inputs.{Clash, input_of, element_of, slow_inputs, tree_inputs}
 use Rattle.tree_proof.proofs.Complete.{length-leaf_digests, leaf_digests-at}
-use Rattle.tree_proof.proofs.Clashes.{leaf_input_is, AllIn, OrClash, and_then, same_or_clash, in_first, in_rest, in_left, in_right, roots_is}
-use Rattle.tree_proof.proofs.Soundness.{sized_node, node_input_is, Shown, both_shown, Within, sized_nodes, covered, peaks_within, all_reverse, few_peaks}
+use Rattle.tree_proof.proofs.Clashes.{AllIn, OrClash, and_then, same_or_clash, in_first, in_rest, in_left, in_right, roots_is}
+use Rattle.tree_proof.proofs.Soundness.{sized_node, node_input_is, Shown, both_shown, Within, sized_nodes, covered, peaks_within, few_peaks}
+use Rattle.tree_shape.proofs.PeakLemmas.{all-reverse}
+use Rattle.tree_proof.proofs.InputLemmas.{leaf_input_same}
 
 abbrev everywhere : Opened
 everywhere x k = true
@@ -51,7 +53,7 @@ module _ {D : Type 0} (s : Shape) (h : Hashing D) (inputs : List (List ℕ)) (si
       and_then h inputs size exact one_size
       (same_or_clash h inputs size exact one_size (input_of s h (element_of s h second) x) (input_of s h (element_of s h first) x)
       (in_first h inputs size exact one_size (input_of s h (element_of s h second) x) [] j) (in_first h inputs size exact one_size (input_of s h (element_of s h first) x) [] i) both)
-      (λ t. let here = leaf_input_is (s.position x 0) (element_of s h second x) (element_of s h first x) t in
+      (λ t. let here = leaf_input_same (s.position x 0) (element_of s h second x) (element_of s h first x) t in
       inl (λ y le lt my. let same = one_leaf x y le lt in ap (element_of s h second) (sym same) ∙ here ∙ ap (element_of s h first) same))
 
   inner_same : (x k : ℕ) → IsSame x k → IsSame (x + 2 ^ k) k → x + 2 ^ suc k ≤ length first → x + 2 ^ suc k ≤ length second
@@ -108,12 +110,12 @@ module _ {D : Type 0} (s : Shape) (h : Hashing D) (inputs : List (List ℕ)) (si
   module _ (stand : (n : ℕ) → PeaksStand s (made s n) n (s.heights n)) where
     within : (elements : List (List ℕ)) (n : ℕ) → n ≤ length elements → AllByRecursion (IsWithin elements) (peaks s n)
     within elements n le =
-        all_reverse (IsWithin elements) (peaks_down n (s.heights n)) (peaks_within s h inputs size exact one_size elements everywhere item under (made s n) n (s.heights n) le (stand n))
+        all-reverse (IsWithin elements) (peaks_down n (s.heights n)) (peaks_within s h inputs size exact one_size elements everywhere item under (made s n) n (s.heights n) le (stand n))
 
     are_one : length first ≡ length second → AllByRecursion SameAt (peaks s (length first)) → first ≡ second
     are_one e shown =
         let n = length first in
-        let down = subst (AllByRecursion SameAt) (reverse-reverse (peaks_down n (s.heights n))) (all_reverse SameAt (peaks s n) shown) in
+        let down = subst (AllByRecursion SameAt) (reverse-reverse (peaks_down n (s.heights n))) (all-reverse SameAt (peaks s n) shown) in
         ext_get_or [] first second e (λ y lt. sym (covered s h inputs size exact one_size first everywhere item under (made s n) n (s.heights n) (stand n) down y lt refl))
 
     peaks_same : length first ≡ length second

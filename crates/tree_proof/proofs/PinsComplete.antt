@@ -22,13 +22,13 @@ use Rattle.tree_shape.proofs.PinLemmas.{base-next, base-end}
 use Rattle.tree_proof.specs.declared.proof.Proof.{Proof}
 use Rattle.tree_proof.specs.Cover.{Opened, meets, cover_in, cover_over, cover}
 use Rattle.tree_proof.specs.Check.{next_of, joined_by, rebuilt, before, rebuilt_over, all_used, wholly_rebuilt}
-use Rattle.tree_proof.specs.Pinned.{is_peak, above_pins, left_of, HasPins}
+use Rattle.tree_proof.specs.Pinned.{above_pins, left_of, HasPins}
+use Rattle.tree_shape.specs.Kept.{is_peak}
 use Rattle.tree_proof.proofs.Complete.{wholly_rebuilt-cover}
 use Rattle.tree_proof.proofs.RebuildLemmas.{append_nil}
 use Rattle.tree_proof.proofs.LeftLemmas.{left_in, left-here, left-none, left-both, left_over, left-cover}
 use Rattle.tree_proof.proofs.Rises.{cover-rises, left-leads}
-use Rattle.tree_proof.proofs.Soundness.{all_split, all_reverse}
-use Rattle.tree_proof.proofs.PeakLemmas.{peaks_left, peaks_left-next, peaks_left-all}
+use Rattle.tree_shape.proofs.PeakLemmas.{peaks_left, peaks_left-next, peaks_left-all, all-append, all-reverse}
 
 -- ---- nodes one behind another without a gap
 
@@ -178,7 +178,7 @@ module _ (s : Shape) (w : IsLawful s) (q : KeepsPeaks s) (n a : ℕ) (few : a �
   one-tiles x k m = ((refl, refl), (not-false (is_peak a hs x k) m, tt))
 
   both-tile : (e f g : ℕ) (ps qs : List (ℕ × ℕ)) → AreTiles e f ps → AreTiles f g qs → AreTiles e g (ps ++ qs)
-  both-tile e f g ps qs l r = (tiles-append e f g ps qs l.0 r.0, all_split (IsPin a hs) ps qs l.1 r.1)
+  both-tile e f g ps qs l r = (tiles-append e f g ps qs l.0 r.0, all-append (IsPin a hs) ps qs l.1 r.1)
 
   -- no leaf is asked for, so it is the same where none is met
   abbrev pub above : Opened
@@ -284,7 +284,7 @@ module _ (s : Shape) (w : IsLawful s) (q : KeepsPeaks s) (n a : ℕ) (few : a �
       | inr past ↦ subst AreMade (sym (left-none a x (suc k) lt past)) tt
       | inl below ↦ let stands = (w.well_made n).behind i x (suc k) st in
           subst AreMade (sym (left-split x k lt below))
-          (all_split (λ p. Made p.0 p.1) (left_in a x k) (left_in a (x + 2 ^ k) k)
+          (all-append (λ p. Made p.0 p.1) (left_in a x k) (left_in a (x + 2 ^ k) k)
           (left-made (s.position x k) x k stands.0 (inr (record { place = i; start = x; parent = st; past = lt; side = inl refl })))
           (left-made (s.position (x + 2 ^ k) k) (x + 2 ^ k) k stands.1 (inr (record { place = i; start = x; parent = st; past = lt; side = inr refl }))))
     ]
@@ -295,7 +295,7 @@ module _ (s : Shape) (w : IsLawful s) (q : KeepsPeaks s) (n a : ℕ) (few : a �
 
   over-made : (ps : List (ℕ × ℕ)) → AllByRecursion IsTop ps → AreMade (left_over a ps)
   over-made [] t = tt
-  over-made (p ∷ ps) t = all_split (λ p. Made p.0 p.1) (left_in a p.0 p.1) (left_over a ps) (left-made (s.position p.0 p.1) p.0 p.1 t.0.0 (inl t.0.1)) (over-made ps t.1)
+  over-made (p ∷ ps) t = all-append (λ p. Made p.0 p.1) (left_in a p.0 p.1) (left_over a ps) (left-made (s.position p.0 p.1) p.0 p.1 t.0.0 (inl t.0.1)) (over-made ps t.1)
 
   tops-down : (e : ℕ) (ks : List ℕ) → PeaksStand s (made s n) e ks → ((x k : ℕ) → PeakIn e ks x k → PeakOf s n x k) → AllByRecursion IsTop (peaks_down e ks)
   tops-down e [] st f = tt
@@ -305,13 +305,13 @@ module _ (s : Shape) (w : IsLawful s) (q : KeepsPeaks s) (n a : ℕ) (few : a �
   Left = left_over a (peaks s n)
 
   pub left-are-made : AreMade Left
-  left-are-made = over-made (peaks s n) (all_reverse IsTop (peaks_down n (s.heights n)) (tops-down n (s.heights n) (w.peaks n) (λ x k p. p)))
+  left-are-made = over-made (peaks s n) (all-reverse IsTop (peaks_down n (s.heights n)) (tops-down n (s.heights n) (w.peaks n) (λ x k p. p)))
 
   -- so the pins are their cover
   pub pins-cover : peaks s a ≡ cover_over above Left
   pins-cover =
       let tiled = over-tile 0 a Left (over-left 0 n (peaks s n) (all-peaks-tile s n (w.peaks n)) (omega arith) few) left-are-made in
-      one-tiling s (made s a) a hs (w.peaks a) 0 a (peaks s a) (cover_over above Left) (all-peaks-tile s a (w.peaks a)) tiled.0 (all_reverse (IsPin a hs) (peaks_down a hs) (down-pins a hs)) tiled.1
+      one-tiling s (made s a) a hs (w.peaks a) 0 a (peaks s a) (cover_over above Left) (all-peaks-tile s a (w.peaks a)) tiled.0 (all-reverse (IsPin a hs) (peaks_down a hs) (down-pins a hs)) tiled.1
 
   pub pins-hash : {D : Type 0} (h : Hashing D) (leaves : List D) → wholly_rebuilt s h (above_pins s a) (λ x. leaf s h x []) Left (map (node_of s h leaves) (peaks s a)) ≡ Some (map (node_of s h leaves) Left)
   pins-hash h leaves =

@@ -9,7 +9,7 @@ use Rattle.tree_shape.specs.Pins.{base}
 use Rattle.tree_shape.proofs.PinLemmas.{base-next, base-end}
 use Rattle.tree_proof.specs.Cover.{Opened, cover_in, cover_over, cover}
 use Rattle.tree_proof.specs.Pinned.{left_of}
-use Rattle.tree_proof.proofs.PeakLemmas.{peaks_left, peaks_left-next, peaks_left-all}
+use Rattle.tree_shape.proofs.PeakLemmas.{peaks_left, peaks_left-next, peaks_left-all}
 
 -- each begins where those before it end, or later
 abbrev pub RisesFrom : ℕ → List (ℕ × ℕ) → Type 0

@@ -1,15 +1,15 @@
 -- What an accepted proof shows: the items are the elements, or two inputs clash.
-use Rattle.std.proofs.Common.{◌≡◌, ℕ, zero, suc, ◌+◌, ◌-◌, ◌*◌, ◌^◌, ◌<◌, ◌≤◌, inl, inr, true, false, Bool, cond, List, [], ◌∷◌, ◌++◌, length, map, drop, reverse, get_or, Option, Some, refl, sym, ◌∙◌, ap, subst, arith, append_assoc, length-append, length-drop}
+use Rattle.std.proofs.Common.{◌≡◌, ℕ, zero, suc, ◌+◌, ◌-◌, ◌*◌, ◌^◌, ◌<◌, ◌≤◌, inl, inr, true, false, Bool, cond, List, [], ◌∷◌, ◌++◌, length, map, drop, get_or, Option, Some, refl, sym, ◌∙◌, ap, subst, arith, append_assoc, length-drop}
 use Rattle.std.specs.Prelude.{slice_range}
 use Rattle.std.specs.List.{flat_map, AllByRecursion}
 use Rattle.std.specs.Option.{option_and_then}
 use Rattle.std.proofs.lemmas.Bool.{cases_lt}
 use Rattle.std.proofs.lemmas.Bool.Decides.{nat_tests}
-use Rattle.std.proofs.lemmas.List.{get_or_past, get_or-take, get_or-drop, length-take, length-map, map-append, ext_get_or, reverse-append, reverse-reverse}
+use Rattle.std.proofs.lemmas.List.{get_or_past, get_or-take, get_or-drop, length-take, length-map, map-append, ext_get_or, reverse-reverse}
 use Rattle.std.proofs.Math.Nat.{pow-suc}
 use Rattle.std.proofs.lemmas.Nat.{pow_pos}
 use Rattle.tree_shape.specs.declared.bagging.Bagging.{Bagging}
-use Rattle.tree_shape.specs.Hashing.{Hashing, number, node_input}
+use Rattle.tree_shape.specs.Hashing.{Hashing, node_input}
 use Rattle.tree_shape.specs.Shape.{Shape, made, PeaksStand, peaks, peaks_down}
 use Rattle.tree_shape.specs.Slow.{leaf, leaf_at, leaf_digests, node, node_of}
 use Rattle.tree_shape.specs.Root.{root, root_over}
@@ -21,7 +21,9 @@ use Rattle.tree_proof.specs.Inputs.{input_of, element_of, slow_inputs, tree_inpu
 use Rattle.tree_proof.proofs.Complete.{length-leaf_digests, leaf_digests-at}
 use Rattle.tree_proof.proofs.CoverCount.{some_bind, some_map}
 use Rattle.tree_proof.proofs.RebuildLemmas.{append_nil, meets_leaf, length-wholly_rebuilt}
-use Rattle.tree_proof.proofs.Clashes.{split, leaf_input_is, Sized, EachSized, AllIn, OrClash, and_then, same_or_clash, in_first, in_rest, in_left, in_right, roots_is}
+use Rattle.tree_proof.proofs.Clashes.{Sized, EachSized, AllIn, OrClash, and_then, same_or_clash, in_first, in_rest, in_left, in_right, roots_is}
+use Rattle.tree_proof.proofs.InputLemmas.{leaf_input_same, node_input_same}
+use Rattle.tree_shape.proofs.PeakLemmas.{all-reverse}
 
 not_both : (t : Bool) → t ≡ true → t ≡ false → ⊥
 not_both t a b = absurd (let e : true ≡ false = sym a ∙ b in cc)
@@ -77,11 +79,7 @@ module _ {D : Type 0} (s : Shape) (h : Hashing D) (inputs : List (List ℕ)) (si
   sized x (suc k) ds ss = sized_at_inner x k (sized x k) (sized (x + 2 ^ k) k) (met x (suc k)) ds ss
 
   pub node_input_is : (position : ℕ) (l r l1 r1 : D) → Sized h inputs size exact one_size l → Sized h inputs size exact one_size l1 → node_input h position l r ≡ node_input h position l1 r1 → (l ≡ l1) × (r ≡ r1)
-  node_input_is position l r l1 r1 sl sl1 e =
-      let front = 1 ∷ number position in
-      let two = split (front ++ h.bytes l) (h.bytes r) (front ++ h.bytes l1) (h.bytes r1) (omega (arith, length-append front (h.bytes l), length-append front (h.bytes l1), sl, sl1)) e in
-      let one = split front (h.bytes l) front (h.bytes l1) refl two.0 in
-      (exact l l1 one.1, exact r r1 two.1)
+  node_input_is position l r l1 r1 sl sl1 e = node_input_same h exact position l r l1 r1 (sl ∙ sym sl1) e
 
   -- the digests that a node took are the slow nodes of its cover
   abbrev Took : ℕ → ℕ → List D → List D → Type 0
@@ -116,7 +114,7 @@ module _ {D : Type 0} (s : Shape) (h : Hashing D) (inputs : List (List ℕ)) (si
       let both : leaf s h x (item x) ≡ leaf s h x (element_of s h elements x) = first_is (leaf_by s h item x) ds q e ∙ d ∙ sym (leaf_digests-at s h elements x (omega (arith, le))) in
       and_then h inputs size exact one_size
       (same_or_clash h inputs size exact one_size (input_of s h item x) (input_of s h (element_of s h elements) x) (in_first h inputs size exact one_size (input_of s h item x) [] j) (in_first h inputs size exact one_size (input_of s h (element_of s h elements) x) [] i) both)
-      (λ t. let here = leaf_input_is (s.position x 0) (item x) (element_of s h elements x) t in
+      (λ t. let here = leaf_input_same (s.position x 0) (item x) (element_of s h elements x) t in
       inl (λ y le lt my. let same = one_leaf x y le lt in ap item (sym same) ∙ here ∙ ap (element_of s h elements) same, rest_is (leaf_by s h item x) ds q e))
 
   both_took : (x k : ℕ) (ds es fs rest : List D) → Took x k ds es → Took (x + 2 ^ k) k es fs → fs ≡ rest → ds ≡ map (node_of s h leaves) (cover_in met x k ++ cover_in met (x + 2 ^ k) k) ++ rest
@@ -242,14 +240,6 @@ module _ {D : Type 0} (s : Shape) (h : Hashing D) (inputs : List (List ℕ)) (si
 
 -- ---- the whole check
 
-pub all_split : {X : Type 0} (P : X → Type 0) (xs ys : List X) → AllByRecursion P xs → AllByRecursion P ys → AllByRecursion P (xs ++ ys)
-all_split P [] ys a b = b
-all_split P (x ∷ xs) ys a b = (a.0, all_split P xs ys a.1 b)
-
-pub all_reverse : {X : Type 0} (P : X → Type 0) (xs : List X) → AllByRecursion P xs → AllByRecursion P (reverse xs)
-all_reverse P [] a = tt
-all_reverse P (x ∷ xs) a = subst (AllByRecursion P) (sym (reverse-append (x ∷ []) xs)) (all_split P (reverse xs) (x ∷ []) (all_reverse P xs a.1) (a.0, tt))
-
 pub few_peaks : (s : Shape) (cs : List (ℕ × ℕ)) (e : ℕ) (hs : List ℕ) → PeaksStand s cs e hs → length hs ≤ e
 few_peaks s cs e [] p = omega arith
 few_peaks s cs e (k ∷ ks) p = omega (arith, few_peaks s cs (e - 2 ^ k) ks p.2, pow_pos k, p.0)
@@ -323,12 +313,12 @@ module _ {D : Type 0} (s : Shape) (h : Hashing D) (size : ℕ) (exact : (a b : D
       sized_peaks (sized_nodes s h inputs size exact one_size elements met item under (peaks s n)) in_proof_root in_root same_root)
       (λ r. and_then h inputs size exact one_size
       (over_shown s h inputs size exact one_size elements met item under (peaks s n) proof.digests w.0
-      (all_reverse _ (peaks_down n (s.heights n)) (peaks_within s h inputs size exact one_size elements met item under (made s n) n (s.heights n) (omega arith) (stand n)))
+      (all-reverse _ (peaks_down n (s.heights n)) (peaks_within s h inputs size exact one_size elements met item under (made s n) n (s.heights n) (omega arith) (stand n)))
       ss (in_left h inputs size exact one_size _ _ in_tree)
       (subst (λ l. In (rebuilt_over_inputs s h met item (peaks s l) proof.digests)) r.0 in_rebuilt)
       (ap (λ l. rebuilt_over s h met lf (peaks s l) proof.digests) (sym r.0) ∙ w.1)
       (used ∙ r.2))
-      (λ shown. let down = subst (AllByRecursion _) (reverse-reverse (peaks_down n (s.heights n))) (all_reverse _ (peaks s n) shown.0) in
+      (λ shown. let down = subst (AllByRecursion _) (reverse-reverse (peaks_down n (s.heights n))) (all-reverse _ (peaks s n) shown.0) in
       inl (record {
         items_are = items_are elements items a (omega (arith, c.bounds.within, r.0)) (covered s h inputs size exact one_size elements met item under (made s n) n (s.heights n) (stand n) down);
         leaves = r.0;

@@ -5,7 +5,8 @@ use Rattle.tree_shape.specs.Hashing.{Hashing}
 use Rattle.tree_shape.specs.Shape.{Shape, peaks}
 use Rattle.tree_shape.specs.Slow.{node_of}
 
--- whether a walk goes into the node over these leaves, by its first leaf and height: of a cover, where something is to be proved under it
+-- whether a walk goes into the node over these leaves, by its first leaf and height: of a cover, where something is to be
+-- proved under it
 abbrev pub Opened : Type 0
 Opened = ℕ → ℕ → Bool
 

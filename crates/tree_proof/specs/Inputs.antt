@@ -40,7 +40,8 @@ module _ {D : Type 0} (h : Hashing D) where
   abbrev pub fold_inputs : Bagging → ℕ → List D → List (List ℕ)
   fold_inputs b k [] = []
   fold_inputs b zero (p ∷ ps) = bagged_inputs b p ps
-  fold_inputs b (suc k) (p ∷ ps) = forward_inputs p (take k ps) ++ bagged_inputs b (fold_forward h p (take k ps)) (drop k ps)
+  fold_inputs b (suc k) (p ∷ ps) =
+      forward_inputs p (take k ps) ++ bagged_inputs b (fold_forward h p (take k ps)) (drop k ps)
 
   abbrev pub root_inputs : ℕ → ℕ → Bagging → List D → List (List ℕ)
   root_inputs n k b ps = root_input n k b (folded_bytes h b k ps) ∷ fold_inputs b k ps
@@ -60,7 +61,8 @@ module _ {D : Type 0} (s : Shape) (h : Hashing D) where
   slow_inputs elements x zero = input_of (element_of elements) x ∷ []
   slow_inputs elements x (suc k) =
       let leaves = leaf_digests s h elements in
-      node_input h (s.position x (suc k)) (node s h leaves x k) (node s h leaves (x + 2 ^ k) k) ∷ (slow_inputs elements x k ++ slow_inputs elements (x + 2 ^ k) k)
+      node_input h (s.position x (suc k)) (node s h leaves x k) (node s h leaves (x + 2 ^ k) k)
+      ∷ (slow_inputs elements x k ++ slow_inputs elements (x + 2 ^ k) k)
 
   -- all inputs of the elements' tree: leaves, nodes, folds and root
   abbrev pub tree_inputs : List (List ℕ) → ℕ → Bagging → List (List ℕ)
@@ -85,14 +87,16 @@ module _ {D : Type 0} (s : Shape) (h : Hashing D) where
       if met x (suc k)
       then (rebuilt_inputs met item x k ds
       ++ from_some (λ left. rebuilt_inputs met item (x + 2 ^ k) k left.1
-      ++ from_some (λ right. node_input h (s.position x (suc k)) left.0 right.0 ∷ []) (rebuilt s h met (leaf_by item) (x + 2 ^ k) k left.1)) (rebuilt s h met (leaf_by item) x k ds))
+      ++ from_some (λ right. node_input h (s.position x (suc k)) left.0 right.0 ∷ [])
+      (rebuilt s h met (leaf_by item) (x + 2 ^ k) k left.1)) (rebuilt s h met (leaf_by item) x k ds))
       else []
 
   -- in rebuilding these nodes one after another
   unfoldable pub rebuilt_over_inputs : Opened → (ℕ → List ℕ) → List (ℕ × ℕ) → List D → List (List ℕ)
   rebuilt_over_inputs met item [] ds = []
   rebuilt_over_inputs met item (p ∷ ps) ds =
-      rebuilt_inputs met item p.0 p.1 ds ++ from_some (λ first. rebuilt_over_inputs met item ps first.1) (rebuilt s h met (leaf_by item) p.0 p.1 ds)
+      rebuilt_inputs met item p.0 p.1 ds
+      ++ from_some (λ first. rebuilt_over_inputs met item ps first.1) (rebuilt s h met (leaf_by item) p.0 p.1 ds)
 
   -- the item of leaf x, where the items stand from leaf a on
   abbrev pub item_of : ℕ → List (List ℕ) → ℕ → List ℕ
@@ -109,12 +113,17 @@ module _ {D : Type 0} (s : Shape) (h : Hashing D) where
   abbrev pub pin_inputs : {F : Type 0} → Proof F D → ℕ → ℕ → List D → List (List ℕ)
   pin_inputs proof a count pins = rebuilt_over_inputs (above_pins s a) (λ x. []) (left_cover s proof a count) pins
 
--- the items stand from leaf a on among the elements of a tree with so many inactive peaks, or two inputs of the tree and of the proof's check clash
-abbrev pub ShowsElements : {F D : Type 0} → Shape → Hashing D → Bagging → List (List ℕ) → ℕ → Proof F D → ℕ → List (List ℕ) → Type 0
+-- the items stand from leaf a on among the elements of a tree with so many inactive peaks, or two inputs of the tree and of
+-- the proof's check clash
+abbrev pub ShowsElements : {F D : Type 0} → Shape → Hashing D → Bagging → List (List ℕ) → ℕ → Proof F D → ℕ →
+    List (List ℕ) → Type 0
 ShowsElements s h b elements k proof a items =
-    (items ≡ slice_range elements a (a + length items)) ⊎ Clash h (tree_inputs s h elements k b ++ proof_inputs s h b proof a items)
+    (items ≡ slice_range elements a (a + length items))
+    ⊎ Clash h (tree_inputs s h elements k b ++ proof_inputs s h b proof a items)
 
 -- the pins are the peaks of the first a elements, or two inputs of the tree, of the proof's check and of the pins clash
-abbrev pub ShowsPins : {F D : Type 0} → Shape → Hashing D → Bagging → List (List ℕ) → ℕ → Proof F D → ℕ → List (List ℕ) → List D → Type 0
+abbrev pub ShowsPins : {F D : Type 0} → Shape → Hashing D → Bagging → List (List ℕ) → ℕ → Proof F D → ℕ →
+    List (List ℕ) → List D → Type 0
 ShowsPins s h b elements k proof a items pins =
-    (pins ≡ map (node_of s h (leaf_digests s h elements)) (peaks s a)) ⊎ Clash h (tree_inputs s h elements k b ++ (proof_inputs s h b proof a items ++ pin_inputs s h proof a (length items) pins))
+    let inputs = proof_inputs s h b proof a items ++ pin_inputs s h proof a (length items) pins in
+    (pins ≡ map (node_of s h (leaf_digests s h elements)) (peaks s a)) ⊎ Clash h (tree_inputs s h elements k b ++ inputs)

@@ -8,7 +8,11 @@ use Rattle.tree_proof.specs.Cover.{Opened, meets, cover_digests}
 
 -- the proof of what is met in the tree of a list of leaf digests
 abbrev pub proof_of : {F D : Type 0} → Shape → Hashing D → List D → ℕ → Opened → Proof F D
-proof_of s h all inactive met = record { leaves = length all; inactive_peaks = inactive; digests = cover_digests s h all met (length all) }
+proof_of s h all inactive met = record {
+  leaves = length all;
+  inactive_peaks = inactive;
+  digests = cover_digests s h all met (length all);
+}
 
 -- a range of the elements, and a number of their tree's peaks
 pub record IsRange (s : Shape) (elements : List (List ℕ)) (inactive a b : ℕ) : Type 0 where

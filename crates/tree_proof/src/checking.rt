@@ -75,7 +75,8 @@ fn is_shown<F: Family, H: Hasher>(
     elements: &[Bytes],
     root: &H::Digest,
 ) -> Result<bool, AllocError>
-    ensures { IfOk result (λ shown. IsTrue shown ↔ Checks F.shape H.hash hasher.now proof.now start elements.now root.now) }
+    ensures { IfOk result (λ shown. IsTrue shown ↔
+        Checks F.shape H.hash hasher.now proof.now start elements.now root.now) }
 {
     if !is_in_bounds(proof, start, elements.len() as u64) {
         return Ok(false);
@@ -96,13 +97,15 @@ pub fn verify<F: Family, H: Hasher>(
     elements: &[Bytes],
     root: &H::Digest,
 ) -> Result<bool, Error<F>>
-    ensures checks { IfOk result (λ shown. IsTrue shown ↔ Checks F.shape H.hash hasher.now proof.now start elements.now root.now) }
+    ensures checks { IfOk result (λ shown. IsTrue shown ↔
+        Checks F.shape H.hash hasher.now proof.now start elements.now root.now) }
     ensures memory { IsOkUnless result Error.Memory }
 
     // Against the root of any list of elements, they are those of the list, or two different hash inputs have one digest.
     ensures sound { IfOk result (λ shown. IsTrue shown →
         (all : List (List ℕ)) (inactive : ℕ) → length all ≤ 2 ^ 62 → inactive ≤ length (F.shape.heights (length all)) →
-        root.now ≡ root_of F.shape H.hash (leaf_digests F.shape H.hash all) inactive hasher.now → ShowsElements F.shape H.hash hasher.now all inactive proof.now start elements.now) }
+        root.now ≡ root_of F.shape H.hash (leaf_digests F.shape H.hash all) inactive hasher.now →
+        ShowsElements F.shape H.hash hasher.now all inactive proof.now start elements.now) }
 {
     look_at_all(proof.digests.as_slice());
     let shown = is_shown(alloc, hasher, proof, start.as_u64(), elements, root)?;

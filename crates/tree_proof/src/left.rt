@@ -15,7 +15,8 @@ fn push_left(
 ) -> Result<(), AllocError>
     requires few { x + 2 ^ height ≤ 2 ^ 62 }
     requires low { height < 63 }
-    ensures { OnOk result ((end : ℕ) → leaves < end → nodes.new.items ≡ nodes.old.items ++ left_of leaves (cover_in (meets leaves end) x height)) }
+    ensures { OnOk result ((end : ℕ) → leaves < end →
+        nodes.new.items ≡ nodes.old.items ++ left_of leaves (cover_in (meets leaves end) x height)) }
 {
     if x + width(height) <= leaves {
         nodes.push((x, height))?;
@@ -37,7 +38,8 @@ pub(crate) fn left_nodes<F: Family>(
     leaves: u64,
 ) -> Result<Vec<(u64, u32)>, AllocError>
     requires { (start ≤ 2 ^ 62) × (leaves ≤ 2 ^ 62) }
-    ensures nodes { IfOk result (λ nodes. (end : ℕ) → start < end → nodes.items ≡ left_of start (cover F.shape (meets start end) leaves)) }
+    ensures nodes { IfOk result (λ nodes. (end : ℕ) → start < end →
+        nodes.items ≡ left_of start (cover F.shape (meets start end) leaves)) }
     ensures small { IfOk result (λ nodes. All (λ p. (p.0 + 2 ^ p.1 ≤ 2 ^ 62) × (p.1 < 63)) nodes.items) }
 {
     let mut nodes = Vec::new(alloc);

@@ -10,9 +10,11 @@ mod pinned;
 mod pins;
 mod proof;
 mod rebuild;
+mod wanted;
 
 pub use checking::verify;
 pub use known::{Items, Known};
 pub use laws::{cover_count_law, one_root_law, slow_pins_law, slow_proof_law};
 pub use pinned::verify_proof_and_pinned_nodes;
-pub use proof::Proof;
+pub use proof::{Proof, equality_law};
+pub use wanted::{LeafRange, Wanted};

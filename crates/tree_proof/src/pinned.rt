@@ -1,50 +1,20 @@
 //! Whether pins stand left of what a proof shows.
-ghost use Rattle.std.specs.Prelude.{◌≡◌, ◌↔◌, ℕ, ◌≤◌, ◌<◌, ◌+◌, ◌^◌, List, length, take, All, IfOk, IsOkUnless, IsTrue};
-ghost use Rattle.std.specs.Option.{option_map};
+ghost use Rattle.std.specs.Prelude.{◌≡◌, ◌↔◌, ℕ, ◌≤◌, ◌<◌, ◌^◌, List, length, take, IfOk, IsOkUnless, IsTrue};
 ghost use Rattle.tree_shape.specs.Slow.{leaf_digests};
 ghost use Rattle.tree_shape.specs.Root.{root as root_of};
-ghost use Rattle.tree_proof.specs.Check.{Checks, wholly_rebuilt};
+ghost use Rattle.tree_proof.specs.Check.{Checks};
 ghost use Rattle.tree_proof.specs.Inputs.{ShowsElements, ShowsPins};
 ghost use Rattle.tree_proof.specs.Pinned.{HasPins};
 
 use crate::Proof;
 use crate::checking::{is_same, look_at_all, verify};
-use crate::known::Known;
 use crate::left::left_nodes;
+use crate::peaks::rebuild_nodes;
 use crate::pins::PinsOf;
-use crate::rebuild::rebuild;
 use codec_base::Bytes;
 use std::alloc::{AllocError, Global};
 use tree_shape::{Digest, Family, Hasher, Location, Standard};
 use tree_store::Error;
-
-/// These nodes, rebuilt from what is known and all of the digests; none where there are too few or too many of these.
-fn rebuild_nodes<F: Family, H: Hasher, K: Known<F, H>>(
-    alloc: Global,
-    hasher: &Standard<H>,
-    known: &K,
-    nodes: &[(u64, u32)],
-    digests: &[H::Digest],
-) -> Result<Option<Vec<H::Digest>>, AllocError>
-    requires small { All (λ p. (p.0 + 2 ^ p.1 ≤ 2 ^ 62) × (p.1 < 63)) nodes.now }
-    requires ready { K.ready known.now }
-    ensures { IfOk result (λ r. option_map (λ v. v.items) r ≡ wholly_rebuilt F.shape H.hash (K.met known.now) (K.leaf_of known.now) nodes.now digests.now) }
-{
-    let mut rebuilt = Vec::new(alloc);
-    let mut at = 0;
-    for i in 0..nodes.len() {
-        let (x, height) = nodes[i];
-        let Some((node, then)) = rebuild::<F, H, K>(hasher, known, x, height, digests, at) else {
-            return Ok(None);
-        };
-        rebuilt.push(node)?;
-        at = then;
-    }
-    if at < digests.len() {
-        return Ok(None);
-    }
-    Ok(Some(rebuilt))
-}
 
 /// Whether the digests begin with these.
 fn begins_with<D: Digest>(digests: &[D], front: &[D]) -> bool
@@ -70,13 +40,16 @@ fn has_pins<F: Family, H: Hasher>(
     pinned: &[H::Digest],
 ) -> Result<bool, AllocError>
     requires { (start ≤ proof.now.leaves) × (proof.now.leaves ≤ 2 ^ 62) }
-    ensures { IfOk result (λ pins. (count : ℕ) → 0 < count → (IsTrue pins ↔ HasPins F.shape H.hash proof.now start count pinned.now)) }
+    ensures { IfOk result (λ pins. (count : ℕ) → 0 < count →
+        (IsTrue pins ↔ HasPins F.shape H.hash proof.now start count pinned.now)) }
 {
     if pinned.len() as u64 != u64::from(F::peak_count(start)) {
         return Ok(false);
     }
     let nodes = left_nodes::<F>(alloc, start, proof.leaves.as_u64())?;
-    let known = PinsOf { leaves: start };
+    let known = PinsOf::<F> {
+        leaves: Location::new(start),
+    };
     match rebuild_nodes::<F, H, _>(alloc, hasher, &known, &nodes, pinned)? {
         None => Ok(false),
         Some(digests) => Ok(begins_with(proof.digests.as_slice(), &digests)),
@@ -94,14 +67,17 @@ pub fn verify_proof_and_pinned_nodes<F: Family, H: Hasher>(
     pinned: &[H::Digest],
     root: &H::Digest,
 ) -> Result<bool, Error<F>>
-    ensures checks { IfOk result (λ shown. IsTrue shown ↔ (Checks F.shape H.hash hasher.now proof.now start elements.now root.now × HasPins F.shape H.hash proof.now start (length elements.now) pinned.now)) }
+    ensures checks { IfOk result (λ shown. IsTrue shown ↔
+        (Checks F.shape H.hash hasher.now proof.now start elements.now root.now ×
+        HasPins F.shape H.hash proof.now start (length elements.now) pinned.now)) }
     ensures memory { IsOkUnless result Error.Memory }
 
     // Against the root of any list of elements, they are those of the list, or two different hash inputs have one digest; so are the pins.
     ensures sound { IfOk result (λ shown. IsTrue shown →
         (all : List (List ℕ)) (inactive : ℕ) → length all ≤ 2 ^ 62 → inactive ≤ length (F.shape.heights (length all)) →
         root.now ≡ root_of F.shape H.hash (leaf_digests F.shape H.hash all) inactive hasher.now →
-        ShowsElements F.shape H.hash hasher.now all inactive proof.now start elements.now × ShowsPins F.shape H.hash hasher.now all inactive proof.now start elements.now pinned.now) }
+        ShowsElements F.shape H.hash hasher.now all inactive proof.now start elements.now ×
+        ShowsPins F.shape H.hash hasher.now all inactive proof.now start elements.now pinned.now) }
 {
     look_at_all(proof.digests.as_slice());
     look_at_all(pinned);

@@ -1,3 +1,7 @@
+ghost use Rattle.std.specs.Prelude.{◌≡◌, ◌&&◌, nat_eq};
+ghost use Rattle.std.specs.Cmp.Lexicographic.{pointwise};
+ghost use Rattle.tree_proof.specs.declared.proof.Proof.{Proof};
+
 use codec_base::ListOf;
 use tree_shape::Location;
 
@@ -12,3 +16,9 @@ pub struct Proof<F, D> {
     /// The nodes of the cover, from the left.
     pub digests: ListOf<D>,
 }
+
+/// Two proofs are equal where their fields are, and of the digests each pair.
+pub fn equality_law<F, D: PartialEq>()
+    ensures { (p q : Proof F D) → ⟦<Proof<F, D> as PartialEq>⟧.eq p q ≡
+        (nat_eq p.leaves q.leaves && (nat_eq p.inactive_peaks q.inactive_peaks && pointwise D.eq p.digests q.digests)) }
+{}

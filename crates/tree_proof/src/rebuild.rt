@@ -30,8 +30,10 @@ pub(crate) fn rebuild<F: Family, H: Hasher, K: Known<F, H>>(
     requires few { x + 2 ^ height ≤ 2 ^ 62 }
     requires low { height < 63 }
     requires ready { K.ready known.now }
-    ensures some { IfSome result (λ r. rebuilt F.shape H.hash (K.met known.now) (K.leaf_of known.now) x height (drop at digests.now) ≡ Some (r.0, drop r.1 digests.now)) }
-    ensures none { IfNone result (rebuilt F.shape H.hash (K.met known.now) (K.leaf_of known.now) x height (drop at digests.now) ≡ None) }
+    ensures some { let ds = drop at digests.now in IfSome result (λ r.
+        rebuilt F.shape H.hash (K.met known.now) (K.leaf_of known.now) x height ds ≡ Some (r.0, drop r.1 digests.now)) }
+    ensures none { let ds = drop at digests.now in IfNone result
+        (rebuilt F.shape H.hash (K.met known.now) (K.leaf_of known.now) x height ds ≡ None) }
 {
     if !known.is_met(x, height) {
         return next(digests, at);

@@ -3,6 +3,7 @@ pub mod MmbBits
 pub mod Merge
 pub mod NodeLemmas
 pub mod PinLemmas
+pub mod PeakLemmas
 pub mod SizeLemmas
 pub mod TableLemmas
 pub mod NeededLemmas

@@ -1,5 +1,5 @@
 -- Which nodes later appends read: peaks, and what stands behind them.
-use Rattle.std.specs.Prelude.{◌≡◌, ◌⊎◌, ℕ, suc, ◌+◌, ◌-◌, ◌^◌, ◌≤◌, List, [], ◌∷◌, Some, slice_get}
+use Rattle.std.specs.Prelude.{◌≡◌, ◌==◌, ◌⊎◌, ◌&&◌, ◌||◌, ℕ, suc, ◌+◌, ◌-◌, ◌^◌, ◌≤◌, Bool, false, List, [], ◌∷◌, Some, slice_get}
 use Rattle.tree_shape.specs.Shape.{Shape}
 
 -- the node of height h over x is one of these peaks, the newest of which ends at e
@@ -9,6 +9,11 @@ PeakIn e (k ∷ ks) x h = ((x ≡ e - 2 ^ k) × (h ≡ k)) ⊎ PeakIn (e - 2 ^ k
 
 abbrev pub PeakOf : Shape → ℕ → ℕ → ℕ → Type 0
 PeakOf s n x h = PeakIn n (s.heights n) x h
+
+-- the test of it
+abbrev pub is_peak : ℕ → List ℕ → ℕ → ℕ → Bool
+is_peak e [] x k = false
+is_peak e (j ∷ js) x k = ((x == e - 2 ^ j) && (k == j)) || is_peak (e - 2 ^ j) js x k
 
 -- it is a peak of n leaves, or stands behind their nodes
 abbrev pub IsPeakOrLater : Shape → ℕ → ℕ → ℕ → Type 0

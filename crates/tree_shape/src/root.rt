@@ -1,18 +1,14 @@
 ghost use Rattle.std.specs.Prelude.{◌≡◌, ◌≤◌, ◌+◌, ◌∷◌, length};
-ghost use Rattle.tree_shape.specs.Root.{fold_forward, fold_backward, bagged, bagging_byte, root_input, folded_bytes, root_over};
+ghost use Rattle.tree_shape.specs.Root.{fold_forward, fold_backward, bagged, root_input, folded_bytes, root_over};
 
 use crate::{Bagging, Digest, Hasher, Standard, begin, update_number};
 
-fn byte_of(bagging: Bagging) -> u8
-    ensures { result ≡ bagging_byte bagging }
-{
-    match bagging {
-        Bagging::ForwardFold => 0,
-        Bagging::BackwardFold => 1,
-    }
-}
-
-fn forward<H: Hasher>(hasher: &Standard<H>, first: H::Digest, others: &[H::Digest]) -> H::Digest
+/// The first digest and the others folded to one, from the left.
+pub fn forward_fold<H: Hasher>(
+    hasher: &Standard<H>,
+    first: H::Digest,
+    others: &[H::Digest],
+) -> H::Digest
     ensures { result ≡ fold_forward H.hash first others.now }
 {
     let mut folded = first;
@@ -22,7 +18,12 @@ fn forward<H: Hasher>(hasher: &Standard<H>, first: H::Digest, others: &[H::Diges
     folded
 }
 
-fn backward<H: Hasher>(hasher: &Standard<H>, first: H::Digest, others: &[H::Digest]) -> H::Digest
+/// The first digest and the others folded to one, from the right.
+pub fn backward_fold<H: Hasher>(
+    hasher: &Standard<H>,
+    first: H::Digest,
+    others: &[H::Digest],
+) -> H::Digest
     ensures { result ≡ fold_backward H.hash first others.now }
 {
     if others.is_empty() {
@@ -41,8 +42,8 @@ fn bag<H: Hasher>(hasher: &Standard<H>, first: H::Digest, others: &[H::Digest]) 
     ensures { result ≡ bagged H.hash hasher.now first others.now }
 {
     match hasher.root_bagging() {
-        Bagging::ForwardFold => forward(hasher, first, others),
-        Bagging::BackwardFold => backward(hasher, first, others),
+        Bagging::ForwardFold => forward_fold(hasher, first, others),
+        Bagging::BackwardFold => backward_fold(hasher, first, others),
     }
 }
 
@@ -58,12 +59,13 @@ pub fn root_digest<H: Hasher>(
     let mut hasher = begin::<H>(3);
     update_number(&mut hasher, leaves);
     update_number(&mut hasher, inactive);
-    hasher.update(&[byte_of(bagging)]);
+    hasher.update(&[bagging.byte()]);
     hasher.update(folded);
     hasher.finish()
 }
 
-fn fold_peaks<H: Hasher>(
+/// These peaks, the oldest first, folded to one, of which the first `inactive` are folded first.
+pub fn fold_peaks<H: Hasher>(
     hasher: &Standard<H>,
     inactive: usize,
     first: H::Digest,
@@ -75,7 +77,7 @@ fn fold_peaks<H: Hasher>(
     if inactive == 0 {
         bag(hasher, first, others)
     } else {
-        let joined = forward(hasher, first, &others[..inactive - 1]);
+        let joined = forward_fold(hasher, first, &others[..inactive - 1]);
         bag(hasher, joined, &others[inactive - 1..])
     }
 }

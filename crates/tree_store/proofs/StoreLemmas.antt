@@ -1,8 +1,9 @@
 -- Nodes read from a store.
-use Rattle.std.proofs.Common.{◌≡◌, ℕ, zero, suc, ◌<◌, List, [], ◌∷◌, map, take, Some, None, Option, refl, sym, ◌∙◌, ap, subst, arith}
+use Rattle.std.proofs.Common.{◌≡◌, ℕ, zero, suc, ◌+◌, ◌<◌, List, [], ◌∷◌, ◌++◌, map, take, Some, None, Option, refl, sym, ◌∙◌, ap, subst, arith}
 use Rattle.std.specs.Prelude.{slice_get, IsSome}
 use Rattle.std.specs.Option.{option_map}
 use Rattle.std.proofs.lemmas.Option.{slice_get-map, same_Some}
+use Rattle.std.proofs.lemmas.List.{map-append}
 use Rattle.volume_base.specs.Volume.{State, SameContents}
 use Rattle.volume_base.specs.Moments.{present}
 use Rattle.tree_store.specs.declared.error.Error.{Error}
@@ -37,6 +38,20 @@ first_absent {D = D} told ps i p ds e here absent = record {
       let read : slice_get (map told (take i ps)) j ≡ Some (told q) = slice_get-map told (take i ps) j ∙ ap (option_map told) (get-take ps i j lt ∙ at) in
       mapped (slice_get ds j) (told q) (sym (slice_get-map (λ (d : D). Some d) ds j) ∙ ap (λ os. slice_get os j) e ∙ read);
 }
+
+-- the items up to one and that one
+pub take-next : {X : Type 0} (xs : List X) (j : ℕ) (x : X) → slice_get xs j ≡ Some x → take (suc j) xs ≡ take j xs ++ (x ∷ [])
+take-next [] j x e = absurd (cc)
+take-next (y ∷ xs) zero x e = let q : y ≡ x = same_Some y x e in ap (λ z. z ∷ []) q
+take-next (y ∷ xs) (suc j) x e = ap (λ ys. y ∷ ys) (take-next xs j x e)
+
+-- one more node is read
+pub told-next : {D : Type 0} (told : ℕ → Option D) (ds more : List D) (ps : List ℕ) (i p : ℕ) (d : D) → map (λ (d : D). Some d) ds ≡ map told (take i ps) → slice_get ps i ≡ Some p → Some d ≡ told p → more ≡ ds ++ (d ∷ [])
+    → map (λ (d : D). Some d) more ≡ map told (take (i + 1) ps)
+told-next told ds more ps i p d e at here m =
+    let one : i + 1 ≡ suc i = omega arith in
+    ap (map (λ d. Some d)) m ∙ map-append (λ d. Some d) ds (d ∷ []) ∙ ap (λ os. os ++ (Some d ∷ [])) e ∙ ap (λ o. map told (take i ps) ++ (o ∷ [])) here
+    ∙ sym (ap (λ j. map told (take j ps)) one ∙ ap (map told) (take-next ps i p at) ∙ map-append told (take i ps) (p ∷ []))
 
 -- a refusal of one read is one of several
 pub outside_or : {F D : Type 0} (told : ℕ → Option D) (ps : List ℕ) (e : Error F) → IsOutside e → IsOutsideOr told ps e

@@ -17,7 +17,7 @@ use Rattle.tree_shape.specs.Shape.{Shape, made, Stands, PeaksStand, IsLawful}
 use Rattle.tree_shape.specs.Kept.{PeakIn}
 use Rattle.tree_shape.specs.Slow.{node, node_of, nodes}
 use Rattle.tree_shape.proofs.NeededLemmas.{made_le}
-use Rattle.tree_store.specs.Stored.{node_key, boundary_key, size, IsMapOf, StandsFor}
+use Rattle.tree_store.specs.Stored.{node_key, boundary_key, size, IsMapOf, TreeStands}
 
 -- ---- the nodes of the first leaves are those of each longer list
 
@@ -71,7 +71,7 @@ module _ {D : Type 0} (s : Shape) (h : Hashing D) (spelling : D → List ℕ) wh
   }
 
   -- so does what is asked to have less durable, or may be pruned further
-  pub stands_wider : (all : List D) (durable durable' top top' : ℕ) (log : Log) (m : Map) → durable' ≤ durable → top ≤ top' → StandsFor s h spelling all durable top log m → StandsFor s h spelling all durable' top' log m
+  pub stands_wider : (all : List D) (durable durable' top top' : ℕ) (log : Log) (m : Map) → durable' ≤ durable → top ≤ top' → TreeStands s h spelling all durable top log m → TreeStands s h spelling all durable' top' log m
   stands_wider all durable durable' top top' log m less higher stands = record {
     boundary = stands.boundary;
     high = omega (arith, stands.high, higher);
@@ -80,7 +80,7 @@ module _ {D : Type 0} (s : Shape) (h : Hashing D) (spelling : D → List ℕ) wh
   }
 
   -- and the list may be longer
-  pub stands_longer : (all more : List D) (durable top : ℕ) (log : Log) (m : Map) → IsLawful s → StandsFor s h spelling all durable top log m → StandsFor s h spelling (all ++ more) durable top log m
+  pub stands_longer : (all more : List D) (durable top : ℕ) (log : Log) (m : Map) → IsLawful s → TreeStands s h spelling all durable top log m → TreeStands s h spelling (all ++ more) durable top log m
   stands_longer all more durable top log m w stands =
       let on = nodes_on s h all more w in
       let e : map spelling (nodes s h (all ++ more)) ≡ map spelling (nodes s h all) ++ map spelling on.0 = ap (map spelling) on.1 ∙ map-append spelling (nodes s h all) on.0 in
@@ -96,7 +96,7 @@ module _ {D : Type 0} (s : Shape) (h : Hashing D) (spelling : D → List ℕ) wh
   no_peak x k [] p in_ = in_
   no_peak x k (j ∷ hs) p in_ = absurd (let some = pow_pos j in let none = p.0 in omega (arith, some, none))
 
-  pub stands_empty : (all : List D) (top : ℕ) → IsLawful s → StandsFor s h spelling all 0 top no_log finmap.empty
+  pub stands_empty : (all : List D) (top : ℕ) → IsLawful s → TreeStands s h spelling all 0 top no_log finmap.empty
   unfolding made
   stands_empty all top w = record {
     boundary = 0;

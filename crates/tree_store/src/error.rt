@@ -1,6 +1,9 @@
 ghost use Rattle.std.specs.Prelude.{◌≡◌, codes};
+ghost use Rattle.std.specs.Bool.{Decides};
 ghost use Rattle.tree_store.specs.Errors.{from_journal, from_volume};
+ghost use Rattle.tree_store.specs.declared.error.Error.{Error};
 ghost use Rattle.tree_store.specs.declared.error.Error.TheVariants.{Memory};
+ghost use Rattle.tree_store.specs.declared.error.TreeData.{TreeData};
 
 use std::alloc::{AllocError, AllocFailed};
 use tree_shape::{Location, Position};
@@ -103,3 +106,9 @@ impl<F> From<VolumeError> for Error<F> {
         Error::from(JournalError::from(error))
     }
 }
+
+/// Two errors are equal exactly where they are one: one variant with the same fields.
+pub fn equality_laws<F>()
+    ensures error { (a b : Error F) → Decides (⟦<Error<F> as PartialEq>⟧.eq a b) (a ≡ b) }
+    ensures data { (a b : TreeData) → Decides (⟦<TreeData as PartialEq>⟧.eq a b) (a ≡ b) }
+{}

@@ -5,6 +5,6 @@ mod error;
 mod laws;
 mod stores;
 
-pub use error::{Error, TreeData};
+pub use error::{Error, TreeData, equality_laws};
 pub use laws::stored_laws;
-pub use stores::{Readable, Storage};
+pub use stores::{Readable, Storage, nodes_from_memory};

@@ -1,12 +1,13 @@
 //! What has the nodes of a tree: memory alone, or a store beside a volume.
-ghost use Rattle.std.specs.Prelude.{◌≡◌, ℕ, ◌<◌, ◌≤◌, ◌^◌, length, map, Option, Some, All, AllPairs, IfOk, IfErr};
-ghost use Rattle.tree_shape.specs.Shape.{made};
+ghost use Rattle.std.specs.Prelude.{◌≡◌, ℕ, ◌<◌, ◌≤◌, ◌^◌, length, map, Option, Some, All, IfOk, IfErr};
 ghost use Rattle.volume_base.specs.Volume.{Reads};
 ghost use Rattle.volume_base.specs.Moments.{Image, present};
-ghost use Rattle.tree_store.specs.Stores.{IsReadFault, IsReadRefusal, IsOutside, IsOutsideOr};
+ghost use Rattle.tree_shape.specs.Shape.{made};
+ghost use Rattle.tree_store.specs.Stores.{IsReadFault, IsReadRefusal, IsOutside, IsOutsideOr, IsUnread};
 
 use crate::Error;
-use tree_shape::{Digest, Family, Position};
+use std::alloc::Global;
+use tree_shape::{Digest, Family, Location, Position};
 use volume_base::Volume;
 
 /// What memory has of a tree.
@@ -21,6 +22,11 @@ pub trait Readable {
     /// The node at a position, where memory has it.
     ghost told: { Self → ℕ → Option Self.Digest };
 
+    /// The number of leaves, whatever was pruned.
+    fn leaves(&self) -> Location<Self::Family>
+        ensures leaves { result ≡ leaves self.now }
+        ensures few { leaves self.now ≤ 2 ^ 62 };
+
     /// The number of nodes, whatever was pruned.
     fn size(&self) -> Position<Self::Family>
         ensures size { result ≡ length (made Self.Family.shape (leaves self.now)) }
@@ -29,6 +35,27 @@ pub trait Readable {
     /// The node at a position, where memory has it.
     fn get_node(&self, pos: Position<Self::Family>) -> Option<Self::Digest>
         ensures { result ≡ told self.now pos };
+}
+
+/// The nodes that memory has at these positions, in their order. The first without one is named.
+pub fn nodes_from_memory<R: Readable>(
+    alloc: Global,
+    memory: &R,
+    positions: &[Position<R::Family>],
+) -> Result<Vec<R::Digest>, Error<R::Family>>
+    ensures nodes { IfOk result (λ nodes. map Some nodes.items ≡ map (R.told memory.now) positions.now) }
+    ensures counted { IfOk result (λ nodes. length nodes.items ≡ length positions.now) }
+    ensures unread { IfErr result (IsUnread (R.told memory.now) positions.now) }
+{
+    let mut nodes = Vec::new(alloc);
+    for i in 0..positions.len() {
+        let position = positions[i].as_u64();
+        match memory.get_node(Position::new(position)) {
+            Some(node) => nodes.push(node)?,
+            None => return Err(Error::ElementPruned(Position::new(position))),
+        }
+    }
+    Ok(nodes)
 }
 
 /// What has the nodes of a tree, where some may stand in a volume.
@@ -44,6 +71,14 @@ pub trait Storage<F: Family> {
     /// The node at a position, where the store or the volume has it.
     ghost told: { Self → Image → ℕ → Option Self.Digest };
 
+    /// Where its answers take memory.
+    fn allocator(&self) -> Global;
+
+    /// The number of leaves, whatever was pruned.
+    fn leaves(&self) -> Location<F>
+        ensures leaves { result ≡ leaves self.now }
+        ensures few { leaves self.now ≤ 2 ^ 62 };
+
     /// The number of nodes, whatever was pruned.
     fn size(&self) -> Position<F>
         ensures size { result ≡ length (made F.shape (leaves self.now)) }
@@ -55,21 +90,38 @@ pub trait Storage<F: Family> {
         vol: &mut V,
         position: Position<F>,
     ) -> Result<Option<Self::Digest>, Error<F>>
-        ensures node { IfOk result (λ node. V.tells → held self.now (present (V.state vol.old)) → node ≡ told self.now (present (V.state vol.old)) position) }
+        ensures node { let image = present (V.state vol.old) in
+            IfOk result (λ node. V.tells → held self.now image → node ≡ told self.now image position) }
         ensures fault { position < length (made F.shape (leaves self.now)) → IfErr result IsReadFault }
-        ensures outside { position < length (made F.shape (leaves self.now)) → V.tells → held self.now (present (V.state vol.old)) → IfErr result IsOutside }
+        ensures outside { position < length (made F.shape (leaves self.now)) → V.tells →
+            held self.now (present (V.state vol.old)) → IfErr result IsOutside }
         ensures reads { Reads V.tells Error.Volume (V.state vol.old) (V.state vol.new) result };
 
-    /// The nodes at these positions. The first without one is named.
+    /// The nodes at these positions, in their order, each read once. The first without one is named.
     fn get_nodes<V: Volume>(
         &self,
         vol: &mut V,
         positions: &[Position<F>],
     ) -> Result<Vec<Self::Digest>, Error<F>>
-        requires rising { AllPairs (λ p q. p < q) positions.now }
-        ensures nodes { IfOk result (λ nodes. V.tells → held self.now (present (V.state vol.old)) → map Some nodes.items ≡ map (told self.now (present (V.state vol.old))) positions.now) }
-        ensures fault { All (λ p. p < length (made F.shape (leaves self.now))) positions.now → IfErr result IsReadRefusal }
-        ensures outside { All (λ p. p < length (made F.shape (leaves self.now))) positions.now → V.tells → held self.now (present (V.state vol.old)) →
-            IfErr result (IsOutsideOr (told self.now (present (V.state vol.old))) positions.now) }
-        ensures reads { Reads V.tells Error.Volume (V.state vol.old) (V.state vol.new) result };
+        ensures nodes { let image = present (V.state vol.old) in
+            IfOk result (λ nodes. V.tells → held self.now image →
+            map Some nodes.items ≡ map (told self.now image) positions.now) }
+        ensures counted { IfOk result (λ nodes. length nodes.items ≡ length positions.now) }
+        ensures fault { All (λ p. p < length (made F.shape (leaves self.now))) positions.now →
+            IfErr result IsReadRefusal }
+        ensures outside { let image = present (V.state vol.old) in
+            All (λ p. p < length (made F.shape (leaves self.now))) positions.now → V.tells →
+            held self.now image → IfErr result (IsOutsideOr (told self.now image) positions.now) }
+        ensures reads { Reads V.tells Error.Volume (V.state vol.old) (V.state vol.new) result }
+    {
+        let mut nodes = Vec::new(self.allocator());
+        for i in 0..positions.len() {
+            let position = positions[i].as_u64();
+            match self.get_node(vol, Position::new(position))? {
+                Some(node) => nodes.push(node)?,
+                None => return Err(Error::ElementPruned(Position::new(position))),
+            }
+        }
+        Ok(nodes)
+    }
 }

@@ -1,21 +1,13 @@
 -- The nodes of a cover stand in the tree.
-use Rattle.std.proofs.Common.{ℕ, zero, suc, ◌+◌, ◌-◌, ◌^◌, ◌<◌, ◌≤◌, Bool, true, false, cond, List, [], ◌∷◌, ◌++◌, length, map, reverse, sym, subst, arith}
+use Rattle.std.proofs.Common.{ℕ, zero, suc, ◌+◌, ◌-◌, ◌^◌, ◌<◌, ◌≤◌, Bool, true, false, cond, List, [], ◌∷◌, ◌++◌, length, map, arith}
 use Rattle.std.specs.Prelude.{All}
 use Rattle.std.specs.List.{AllByRecursion}
-use Rattle.std.proofs.lemmas.List.{reverse-append}
 use Rattle.std.proofs.lemmas.Option.{slice_get_within}
 use Rattle.tree_shape.specs.Shape.{Shape, made, peaks, peaks_down, Stands, PeaksStand, IsWellMade, IsLawful}
 use Rattle.tree_shape.specs.Pins.{position_of}
 use Rattle.tree_shape.proofs.SizeLemmas.{size_grow}
+use Rattle.tree_shape.proofs.PeakLemmas.{all-append, all-reverse}
 use Rattle.tree_proof.specs.Cover.{Opened, cover_in, cover_over, cover}
-
-pub all-append : {X : Type 0} (P : X → Type 0) (xs ys : List X) → AllByRecursion P xs → AllByRecursion P ys → AllByRecursion P (xs ++ ys)
-all-append P [] ys a b = b
-all-append P (x ∷ xs) ys a b = (a.0, all-append P xs ys a.1 b)
-
-pub all-reverse : {X : Type 0} (P : X → Type 0) (xs : List X) → AllByRecursion P xs → AllByRecursion P (reverse xs)
-all-reverse P [] a = tt
-all-reverse P (x ∷ xs) a = subst (AllByRecursion P) (sym (reverse-append (x ∷ []) xs)) (all-append P (reverse xs) (x ∷ []) (all-reverse P xs a.1) (a.0, tt))
 
 pub all-gives : {X Y : Type 0} (P : X → Type 0) (Q : Y → Type 0) (f : X → Y) → ((x : X) → P x → Q (f x)) → (xs : List X) → AllByRecursion P xs → All Q (map f xs)
 all-gives P Q f g [] a k d lt = absurd (omega arith)

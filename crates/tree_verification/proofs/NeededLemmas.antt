@@ -7,7 +7,8 @@ use Rattle.tree_shape.specs.Shape.{Shape, made, peaks, peaks_down, Stands, Peaks
 use Rattle.tree_shape.specs.Kept.{PeakIn}
 use Rattle.tree_shape.specs.Needed.{IsNeeded}
 use Rattle.tree_proof.specs.Cover.{meets, cover_in, cover_over, cover}
-use Rattle.tree_verification.proofs.CoverLemmas.{all-append, all-reverse, IsPlaced}
+use Rattle.tree_shape.proofs.PeakLemmas.{all-append, all-reverse}
+use Rattle.tree_verification.proofs.CoverLemmas.{IsPlaced}
 
 every : {X : Type 0} (P : X → Type 0) (xs : List X) → AllByRecursion P xs → All P xs
 every P [] a k d lt = absurd (omega arith)

@@ -6,7 +6,7 @@ use Rattle.std.proofs.lemmas.List.{map-append}
 use Rattle.tree_shape.specs.Hashing.{Hashing, node_input}
 use Rattle.tree_shape.specs.Shape.{Shape}
 use Rattle.tree_proof.specs.Cover.{Opened, cover_in, cover_over, cover}
-use Rattle.tree_proof.proofs.PeakLemmas.{peaks_left, all_left, none_left}
+use Rattle.tree_shape.proofs.PeakLemmas.{peaks_left, all_left, none_left}
 use Rattle.tree_proof.proofs.CoverSteps.{cover_in-outside, cover_in-leaf, cover_in-halves}
 use Rattle.tree_verification.specs.Told.{told_in, told_over, told_nodes, in_tree, IsHashed, entries, found, Puts}
 use Rattle.tree_verification.proofs.FoundLemmas.{found-append}

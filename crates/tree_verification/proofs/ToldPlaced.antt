@@ -3,7 +3,8 @@ use Rattle.std.proofs.Common.{ℕ, zero, suc, ◌+◌, ◌^◌, Bool, true, fals
 use Rattle.tree_shape.specs.Shape.{Shape, made, peaks, peaks_down, Stands, IsWellMade, IsLawful}
 use Rattle.tree_proof.specs.Cover.{Opened}
 use Rattle.tree_verification.specs.Told.{told_in, told_over, told_nodes}
-use Rattle.tree_verification.proofs.CoverLemmas.{all-append, all-reverse, IsPlaced, ArePlaced, peaks-placed}
+use Rattle.tree_shape.proofs.PeakLemmas.{all-append, all-reverse}
+use Rattle.tree_verification.proofs.CoverLemmas.{IsPlaced, ArePlaced, peaks-placed}
 
 module _ (s : Shape) (cs : List (ℕ × ℕ)) (met : Opened) where
   halves-placed : (x k : ℕ) → Stands cs (s.position x (suc k)) x (suc k) → ArePlaced s cs (told_in met x k) → ArePlaced s cs (told_in met (x + 2 ^ k) k)

@@ -6,7 +6,9 @@ use Rattle.tree_store.specs.declared.error.Error.TheVariants.{Empty, RangeOutOfB
 -- the first that isn't past the one before it is named
 abbrev pub rising_from : {F : Type 0} → ℕ → List ℕ → Result (Unit {0}) (Error F)
 rising_from l [] = Ok tt
-rising_from l (m ∷ ms) = if nat_lt l m then rising_from m ms else (if nat_lt m l then Err (UnsortedLocation m) else Err (DuplicateLocation m))
+rising_from l (m ∷ ms) =
+    if nat_lt l m then rising_from m ms
+    else (if nat_lt m l then Err (UnsortedLocation m) else Err (DuplicateLocation m))
 
 abbrev pub order_answer : {F : Type 0} → List ℕ → Result (Unit {0}) (Error F)
 order_answer [] = Err Empty

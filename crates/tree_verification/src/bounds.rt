@@ -5,21 +5,9 @@ ghost use Rattle.tree_verification.specs.Ranges.{range_answer};
 ghost use Rattle.tree_verification.specs.Told.{told_answer};
 
 use crate::counting::is_cover_count;
-use crate::wanted::LeafRange;
-use tree_proof::Proof;
+use tree_proof::{LeafRange, Proof};
 use tree_shape::{Digest, Family, Location, MAX_LEAVES};
-use tree_store::{Error, Storage};
-
-/// The number of leaves of a store.
-pub(crate) fn leaves_of<F: Family, S: Storage<F>>(store: &S) -> u64
-    ensures leaves { result ≡ S.leaves store.now }
-    ensures few { S.leaves store.now ≤ 2 ^ 62 }
-{
-    match F::leaves_at(store.size()) {
-        Some(leaves) => leaves.as_u64(),
-        None => unreachable!(),
-    }
-}
+use tree_store::Error;
 
 /// Whether a range can be proved in the tree of so many leaves, where so many are stored.
 pub(crate) fn check_range<F>(stored: u64, leaves: u64, range: &LeafRange) -> Result<(), Error<F>>
@@ -49,7 +37,8 @@ pub(crate) fn check_told<F: Family, D: Digest>(
     ensures answer { result ≡ told_answer F.shape proof.now start count }
     ensures few { OnOk result (proof.now.leaves ≤ 2 ^ 62) }
     ensures within { OnOk result (start + count ≤ proof.now.leaves) }
-    ensures counted { OnOk result (length proof.now.digests ≡ length (cover F.shape (meets start (start + count)) proof.now.leaves)) }
+    ensures counted { OnOk result (length proof.now.digests ≡
+        length (cover F.shape (meets start (start + count)) proof.now.leaves)) }
 {
     if count == 0 {
         return Err(Error::Empty);

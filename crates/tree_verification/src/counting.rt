@@ -2,7 +2,7 @@
 ghost use Rattle.std.specs.Prelude.{◌≡◌, ◌↔◌, ◌+◌, ◌≤◌, ◌<◌, ◌^◌, length, IsTrue, IfSome, IfNone};
 ghost use Rattle.tree_proof.specs.Cover.{cover_in, cover};
 
-use crate::wanted::Wanted;
+use tree_proof::Wanted;
 use tree_shape::{Family, half_width, width};
 
 /// One less, where there is one.

@@ -15,8 +15,11 @@ use tree_shape::{Family, Hasher};
 
 /// The proof of a range of the leaf digests of some elements shows these elements in their tree.
 pub fn range_proofs_check<F: Family, H: Hasher>()
-    ensures { (bagging : Bagging) (elements : List (List ℕ)) (inactive a b : ℕ) → IsRange F.shape elements inactive a b →
-        Checks {F = F} F.shape H.hash bagging (proof_of F.shape H.hash (leaf_digests F.shape H.hash elements) inactive (meets a b)) a (slice_range elements a b) (root F.shape H.hash (leaf_digests F.shape H.hash elements) inactive bagging) }
+    ensures { (bagging : Bagging) (elements : List (List ℕ)) (inactive a b : ℕ) →
+        let leaves = leaf_digests F.shape H.hash elements in
+        let proof = proof_of {F = F} F.shape H.hash leaves inactive (meets a b) in
+        IsRange F.shape elements inactive a b →
+        Checks F.shape H.hash bagging proof a (slice_range elements a b) (root F.shape H.hash leaves inactive bagging) }
 {}
 
 /// The nodes of the cover of a range are needed from each number of leaves on that is at most its start.
@@ -27,8 +30,13 @@ pub fn needed_cover_law<F: Family>()
 /// A proof with as many digests as its cover has nodes tells a tree with any elements. The peaks of such a tree are what
 /// the check rebuilds.
 pub fn told_tree_law<F: Family, H: Hasher>()
-    ensures some { (proof : Proof F H.Digest) (a : ℕ) (items : List (List ℕ)) → length proof.digests ≡ length (cover F.shape (meets a (a + length items)) proof.leaves) →
+    ensures some { (proof : Proof F H.Digest) (a : ℕ) (items : List (List ℕ)) →
+        length proof.digests ≡ length (cover F.shape (meets a (a + length items)) proof.leaves) →
         (tree : ℕ → ℕ → H.Digest) × IsTold F.shape H.hash proof a items tree }
-    ensures rebuilt { (proof : Proof F H.Digest) (a : ℕ) (items : List (List ℕ)) (tree : ℕ → ℕ → H.Digest) → IsTold F.shape H.hash proof a items tree →
-        wholly_rebuilt F.shape H.hash (meets a (a + length items)) (item_leaf F.shape H.hash a items) (peaks F.shape proof.leaves) proof.digests ≡ Some (map (in_tree tree) (peaks F.shape proof.leaves)) }
+    ensures rebuilt { (proof : Proof F H.Digest) (a : ℕ) (items : List (List ℕ)) (tree : ℕ → ℕ → H.Digest) →
+        let ps = peaks F.shape proof.leaves in
+        let met = meets a (a + length items) in
+        IsTold F.shape H.hash proof a items tree →
+        wholly_rebuilt F.shape H.hash met (item_leaf F.shape H.hash a items) ps proof.digests ≡
+        Some (map (in_tree tree) ps) }
 {}

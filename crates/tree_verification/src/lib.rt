@@ -8,7 +8,6 @@ mod memory;
 mod order;
 mod proof_store;
 mod ranges;
-mod reading;
 mod several;
 mod told;
 mod walk;

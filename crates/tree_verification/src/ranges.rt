@@ -1,21 +1,17 @@
 //! Proofs of a range of leaves.
-ghost use Rattle.std.specs.Prelude.{◌≡◌, ℕ, ◌≤◌, ◌^◌, List, length, take, Ok, Err, IfOk, IfErr};
-ghost use Rattle.tree_shape.specs.Hashing.{Hashing};
+ghost use Rattle.std.specs.Prelude.{◌≡◌, ◌≤◌, ◌^◌, length, Ok, Err, IfOk, IfErr};
 ghost use Rattle.volume_base.specs.Volume.{Reads};
 ghost use Rattle.volume_base.specs.Moments.{present};
 ghost use Rattle.tree_store.specs.declared.error.Error.{Error};
-ghost use Rattle.tree_store.specs.Stores.{IsTreeOf, IsReadRefusal, IsOutsideOr};
+ghost use Rattle.tree_store.specs.Stores.{IsReadRefusal, IsOutsideOr};
 ghost use Rattle.tree_proof.specs.Cover.{meets};
-ghost use Rattle.tree_verification.specs.Ranges.{cover_positions, range_answer, HasForm};
-ghost use Rattle.tree_proof.specs.SlowProof.{proof_of};
+ghost use Rattle.tree_verification.specs.Ranges.{cover_positions, range_answer, HasForm, IsProofIn, IsProofAt};
 
-use crate::bounds::{check_range, leaves_of};
-use crate::reading::read_nodes;
+use crate::bounds::check_range;
 use crate::walk::find_cover;
-use crate::wanted::{LeafRange, Wanted};
 use codec_base::ListOf;
 use std::alloc::Global;
-use tree_proof::Proof;
+use tree_proof::{LeafRange, Proof, Wanted};
 use tree_shape::{Family, Location};
 use tree_store::{Error, Storage};
 use volume_base::Volume;
@@ -33,14 +29,18 @@ pub(crate) fn prove<F: Family, S: Storage<F>, V: Volume, W: Wanted>(
     requires few { leaves ≤ 2 ^ 62 }
     requires stored { leaves ≤ S.leaves store.now }
     ensures form { IfOk result (HasForm F.shape leaves inactive_peaks (W.met wanted.now)) }
-    ensures proof { IfOk result (λ proof. V.tells → S.held store.now (present (V.state vol.old)) → (h : Hashing S.Digest) (all : List S.Digest) →
-        IsTreeOf F.shape h all (S.leaves store.now) (S.told store.now (present (V.state vol.old))) → proof ≡ proof_of F.shape h (take leaves all) inactive_peaks (W.met wanted.now)) }
+    ensures proof { let image = present (V.state vol.old) in
+        IfOk result (λ proof. V.tells → S.held store.now image →
+        IsProofAt F.shape (S.told store.now image) (S.leaves store.now) leaves inactive_peaks
+        (W.met wanted.now) proof) }
     ensures fault { IfErr result IsReadRefusal }
-    ensures outside { V.tells → S.held store.now (present (V.state vol.old)) → IfErr result (IsOutsideOr (S.told store.now (present (V.state vol.old))) (cover_positions F.shape (W.met wanted.now) leaves)) }
+    ensures outside { let image = present (V.state vol.old) in
+        V.tells → S.held store.now image →
+        IfErr result (IsOutsideOr (S.told store.now image) (cover_positions F.shape (W.met wanted.now) leaves)) }
     ensures reads { Reads V.tells Error.Volume (V.state vol.old) (V.state vol.new) result }
 {
     let positions = find_cover::<F, W>(alloc, wanted, leaves)?;
-    let digests = read_nodes(alloc, vol, store, &positions)?;
+    let digests = store.get_nodes(vol, &positions)?;
     Ok(Proof {
         leaves: Location::new(leaves),
         inactive_peaks,
@@ -65,11 +65,13 @@ pub fn historical_range_proof<F: Family, S: Storage<F>, V: Volume>(
     ensures uncalled { (e : Error F) → range_answer (S.leaves store.now) leaves start end ≡ Err e → vol.new ≡ vol.old }
     ensures within { IfOk result (λ proof. range_answer {F = F} (S.leaves store.now) leaves start end ≡ Ok tt) }
     ensures form { IfOk result (HasForm F.shape leaves inactive_peaks (meets start end)) }
-    ensures proof { IfOk result (λ proof. V.tells → S.held store.now (present (V.state vol.old)) → (h : Hashing S.Digest) (all : List S.Digest) →
-        IsTreeOf F.shape h all (S.leaves store.now) (S.told store.now (present (V.state vol.old))) → proof ≡ proof_of F.shape h (take leaves all) inactive_peaks (meets start end)) }
+    ensures proof { let image = present (V.state vol.old) in
+        IfOk result (λ proof. V.tells → S.held store.now image →
+        IsProofAt F.shape (S.told store.now image) (S.leaves store.now) leaves inactive_peaks (meets start end) proof) }
     ensures fault { range_answer {F = F} (S.leaves store.now) leaves start end ≡ Ok tt → IfErr result IsReadRefusal }
-    ensures outside { range_answer {F = F} (S.leaves store.now) leaves start end ≡ Ok tt → V.tells → S.held store.now (present (V.state vol.old)) →
-        IfErr result (IsOutsideOr (S.told store.now (present (V.state vol.old))) (cover_positions F.shape (meets start end) leaves)) }
+    ensures outside { let image = present (V.state vol.old) in
+        range_answer {F = F} (S.leaves store.now) leaves start end ≡ Ok tt → V.tells → S.held store.now image →
+        IfErr result (IsOutsideOr (S.told store.now image) (cover_positions F.shape (meets start end) leaves)) }
     ensures reads { Reads V.tells Error.Volume (V.state vol.old) (V.state vol.new) result }
 {
     let leaves = leaves.as_u64();
@@ -77,7 +79,7 @@ pub fn historical_range_proof<F: Family, S: Storage<F>, V: Volume>(
         start: start.as_u64(),
         end: end.as_u64(),
     };
-    check_range::<F>(leaves_of(store), leaves, &range)?;
+    check_range::<F>(store.leaves().as_u64(), leaves, &range)?;
     prove(alloc, vol, store, leaves, &range, inactive_peaks)
 }
 
@@ -92,17 +94,24 @@ pub fn range_proof<F: Family, S: Storage<F>, V: Volume>(
     inactive_peaks: u64,
 ) -> Result<Proof<F, S::Digest>, Error<F>>
     requires { inactive_peaks ≤ length (F.shape.heights (S.leaves store.now)) }
-    ensures refused { (e : Error F) → range_answer (S.leaves store.now) (S.leaves store.now) start end ≡ Err e → result ≡ Err e }
-    ensures uncalled { (e : Error F) → range_answer (S.leaves store.now) (S.leaves store.now) start end ≡ Err e → vol.new ≡ vol.old }
-    ensures within { IfOk result (λ proof. range_answer {F = F} (S.leaves store.now) (S.leaves store.now) start end ≡ Ok tt) }
+    ensures refused { let leaves = S.leaves store.now in
+        (e : Error F) → range_answer leaves leaves start end ≡ Err e → result ≡ Err e }
+    ensures uncalled { let leaves = S.leaves store.now in
+        (e : Error F) → range_answer leaves leaves start end ≡ Err e → vol.new ≡ vol.old }
+    ensures within { let leaves = S.leaves store.now in
+        IfOk result (λ proof. range_answer {F = F} leaves leaves start end ≡ Ok tt) }
     ensures form { IfOk result (HasForm F.shape (S.leaves store.now) inactive_peaks (meets start end)) }
-    ensures proof { IfOk result (λ proof. V.tells → S.held store.now (present (V.state vol.old)) → (h : Hashing S.Digest) (all : List S.Digest) →
-        IsTreeOf F.shape h all (S.leaves store.now) (S.told store.now (present (V.state vol.old))) → proof ≡ proof_of F.shape h all inactive_peaks (meets start end)) }
-    ensures fault { range_answer {F = F} (S.leaves store.now) (S.leaves store.now) start end ≡ Ok tt → IfErr result IsReadRefusal }
-    ensures outside { range_answer {F = F} (S.leaves store.now) (S.leaves store.now) start end ≡ Ok tt → V.tells → S.held store.now (present (V.state vol.old)) →
-        IfErr result (IsOutsideOr (S.told store.now (present (V.state vol.old))) (cover_positions F.shape (meets start end) (S.leaves store.now))) }
+    ensures proof { let image = present (V.state vol.old) in
+        IfOk result (λ proof. V.tells → S.held store.now image →
+        IsProofIn F.shape (S.told store.now image) (S.leaves store.now) inactive_peaks (meets start end) proof) }
+    ensures fault { let leaves = S.leaves store.now in
+        range_answer {F = F} leaves leaves start end ≡ Ok tt → IfErr result IsReadRefusal }
+    ensures outside { let image = present (V.state vol.old) in
+        let leaves = S.leaves store.now in
+        range_answer {F = F} leaves leaves start end ≡ Ok tt → V.tells → S.held store.now image →
+        IfErr result (IsOutsideOr (S.told store.now image) (cover_positions F.shape (meets start end) leaves)) }
     ensures reads { Reads V.tells Error.Volume (V.state vol.old) (V.state vol.new) result }
 {
-    let leaves = Location::new(leaves_of(store));
+    let leaves = store.leaves();
     historical_range_proof(alloc, vol, store, leaves, start, end, inactive_peaks)
 }

@@ -1,16 +1,13 @@
 //! Proofs of several leaves.
-ghost use Rattle.std.specs.Prelude.{◌≡◌, ℕ, ◌≤◌, List, length, Ok, Err, IfOk, IfErr};
-ghost use Rattle.tree_shape.specs.Hashing.{Hashing};
+ghost use Rattle.std.specs.Prelude.{◌≡◌, ◌≤◌, length, Ok, Err, IfOk, IfErr};
 ghost use Rattle.volume_base.specs.Volume.{Reads};
 ghost use Rattle.volume_base.specs.Moments.{present};
 ghost use Rattle.tree_store.specs.declared.error.Error.{Error};
-ghost use Rattle.tree_store.specs.Stores.{IsTreeOf, IsReadRefusal, IsOutsideOr};
+ghost use Rattle.tree_store.specs.Stores.{IsReadRefusal, IsOutsideOr};
 ghost use Rattle.tree_proof.specs.Cover.{holds_one};
-ghost use Rattle.tree_verification.specs.Ranges.{cover_positions, HasForm};
-ghost use Rattle.tree_proof.specs.SlowProof.{proof_of};
+ghost use Rattle.tree_verification.specs.Ranges.{cover_positions, HasForm, IsProofIn};
 ghost use Rattle.tree_verification.specs.Several.{several_answer};
 
-use crate::bounds::leaves_of;
 use crate::order::{check_order, check_within};
 use crate::ranges::prove;
 use crate::wanted::Several;
@@ -35,15 +32,19 @@ pub fn multi_proof<F: Family, S: Storage<F>, V: Volume>(
     ensures uncalled { (e : Error F) → several_answer (S.leaves store.now) locations.now ≡ Err e → vol.new ≡ vol.old }
     ensures within { IfOk result (λ proof. several_answer {F = F} (S.leaves store.now) locations.now ≡ Ok tt) }
     ensures form { IfOk result (HasForm F.shape (S.leaves store.now) inactive_peaks (holds_one locations.now)) }
-    ensures proof { IfOk result (λ proof. V.tells → S.held store.now (present (V.state vol.old)) → (h : Hashing S.Digest) (all : List S.Digest) →
-        IsTreeOf F.shape h all (S.leaves store.now) (S.told store.now (present (V.state vol.old))) → proof ≡ proof_of F.shape h all inactive_peaks (holds_one locations.now)) }
+    ensures proof { let image = present (V.state vol.old) in
+        IfOk result (λ proof. V.tells → S.held store.now image →
+        IsProofIn F.shape (S.told store.now image) (S.leaves store.now) inactive_peaks
+        (holds_one locations.now) proof) }
     ensures fault { several_answer {F = F} (S.leaves store.now) locations.now ≡ Ok tt → IfErr result IsReadRefusal }
-    ensures outside { several_answer {F = F} (S.leaves store.now) locations.now ≡ Ok tt → V.tells → S.held store.now (present (V.state vol.old)) →
-        IfErr result (IsOutsideOr (S.told store.now (present (V.state vol.old))) (cover_positions F.shape (holds_one locations.now) (S.leaves store.now))) }
+    ensures outside { let image = present (V.state vol.old) in
+        let leaves = S.leaves store.now in
+        several_answer {F = F} leaves locations.now ≡ Ok tt → V.tells → S.held store.now image →
+        IfErr result (IsOutsideOr (S.told store.now image) (cover_positions F.shape (holds_one locations.now) leaves)) }
     ensures reads { Reads V.tells Error.Volume (V.state vol.old) (V.state vol.new) result }
 {
     check_order(locations)?;
-    let leaves = leaves_of(store);
+    let leaves = store.leaves().as_u64();
     check_within(locations, leaves)?;
     let several = Several { locations };
     prove(alloc, vol, store, leaves, &several, inactive_peaks)

@@ -18,7 +18,8 @@ fn put<F: Family, D: Digest>(
     digest: D,
 ) -> Result<(), AllocError>
     requires { x + 2 ^ height ≤ 2 ^ 62 }
-    ensures { OnOk result ((p : ℕ) → get nat_cmp nodes.new p ≡ found p (get nat_cmp nodes.old p) ((F.shape.position x height, digest) ∷ [])) }
+    ensures { let place = F.shape.position x height in
+        OnOk result ((p : ℕ) → get nat_cmp nodes.new p ≡ found p (get nat_cmp nodes.old p) ((place, digest) ∷ [])) }
 {
     nodes.insert(F::position(x, height), digest)?;
     Ok(())
@@ -40,9 +41,11 @@ fn tell<F: Family, H: Hasher, K: Known<F, H>>(
     requires ready { K.ready known.now }
     requires enough { at + length (cover_in (K.met known.now) x height) ≤ length digests.now }
     ensures behind { IfOk result (λ r. r.1 ≡ at + length (cover_in (K.met known.now) x height)) }
-    ensures puts { IfOk result (λ r. (tree : ℕ → ℕ → H.Digest) (rest : List H.Digest) → IsHashed F.shape H.hash (K.met known.now) (K.leaf_of known.now) tree →
+    ensures puts { IfOk result (λ r. (tree : ℕ → ℕ → H.Digest) (rest : List H.Digest) →
+        IsHashed F.shape H.hash (K.met known.now) (K.leaf_of known.now) tree →
         drop at digests.now ≡ map (in_tree tree) (cover_in (K.met known.now) x height) ++ rest →
-        Puts F.shape (K.met known.now) tree x height (get nat_cmp nodes.old) (get nat_cmp nodes.new) r.0 (drop r.1 digests.now) rest) }
+        let left = drop r.1 digests.now in
+        Puts F.shape (K.met known.now) tree x height (get nat_cmp nodes.old) (get nat_cmp nodes.new) r.0 left rest) }
 {
     if !known.is_met(x, height) {
         let count = digests.len();
@@ -76,7 +79,8 @@ pub(crate) fn tell_peaks<F: Family, H: Hasher, K: Known<F, H>>(
     requires few { leaves ≤ 2 ^ 62 }
     requires ready { K.ready known.now }
     requires counted { length digests.now ≡ length (cover F.shape (K.met known.now) leaves) }
-    ensures { IfOk result (λ nodes. (tree : ℕ → ℕ → H.Digest) → IsHashed F.shape H.hash (K.met known.now) (K.leaf_of known.now) tree →
+    ensures { IfOk result (λ nodes. (tree : ℕ → ℕ → H.Digest) →
+        IsHashed F.shape H.hash (K.met known.now) (K.leaf_of known.now) tree →
         digests.now ≡ map (in_tree tree) (cover F.shape (K.met known.now) leaves) →
         TellsExactly (get nat_cmp nodes) (entries F.shape tree (told_nodes F.shape (K.met known.now) leaves))) }
 {

@@ -4,9 +4,9 @@ ghost use Rattle.tree_shape.specs.Pins.{position_of};
 ghost use Rattle.tree_proof.specs.Cover.{cover_in};
 ghost use Rattle.tree_verification.specs.Ranges.{cover_positions};
 
-use crate::wanted::Wanted;
 use std::alloc::{AllocError, Global};
-use tree_shape::{Family, Position, half_width, width};
+use tree_proof::Wanted;
+use tree_shape::{Family, Position, half_width, peak_nodes};
 
 /// Adds the position of a node.
 fn push_position<F: Family>(
@@ -31,7 +31,8 @@ fn push_cover<F: Family, W: Wanted>(
     requires ready { W.ready wanted.now }
     requires few { x + 2 ^ height ≤ 2 ^ 62 }
     requires low { height < 63 }
-    ensures { OnOk result (positions.new.items ≡ positions.old.items ++ map (position_of F.shape) (cover_in (W.met wanted.now) x height)) }
+    ensures { OnOk result (positions.new.items ≡ positions.old.items ++
+        map (position_of F.shape) (cover_in (W.met wanted.now) x height)) }
 {
     if wanted.is_whole(x, height) {
         return Ok(());
@@ -59,13 +60,11 @@ pub(crate) fn find_cover<F: Family, W: Wanted>(
     requires few { leaves ≤ 2 ^ 62 }
     ensures { IfOk result (λ positions. positions.items ≡ cover_positions F.shape (W.met wanted.now) leaves) }
 {
+    let peaks = peak_nodes::<F>(alloc, leaves)?;
     let mut positions = Vec::new(alloc);
-    let mut x = 0;
-    let count = F::peak_count(leaves);
-    for i in 0..count {
-        let height = F::peak_height(leaves, count - 1 - i);
+    for i in 0..peaks.len() {
+        let (x, height) = peaks[i];
         push_cover(&mut positions, wanted, x, height)?;
-        x += width(height);
     }
     Ok(positions)
 }

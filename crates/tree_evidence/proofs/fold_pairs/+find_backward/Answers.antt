@@ -6,7 +6,7 @@ pub returns-in-Some : goal.returns-in-Some
 returns-in-Some g t c =
     let h = g.H.Hasher.hash in
     let some : 0 < length c.args.ones.now = search (c.if-is_empty, c.is_empty.ensures, rules) in
-    backward_here h c.args.first.one c.args.first.other c.args.ones.now c.args.others.now _ _ _ _ _ _ some (omega (arith, some, c.requires.counted)) c.index-ones-0.is c.index-others-0.is c.backward.ensures c.backward-2.ensures c.requires.same
+    backward_here h c.args.first.one c.args.first.other c.args.ones.now c.args.others.now _ _ _ _ _ _ some (omega (arith, some, c.requires.counted)) c.index-ones-0.is c.index-others-0.is c.backward_fold.ensures c.backward_fold-2.ensures c.requires.same
     (fold_some h _ _ _ _ c.in-Some.is c.in_ok-clash.ensures)
 
 pub returns-in-None : goal.returns-in-None

@@ -1,5 +1,5 @@
 use Rattle.std.proofs.Common.{rules, length, sym, ◌∙◌, ap}
-use Rattle.tree_evidence.proofs.InputLemmas.{fold_input_same}
+use Rattle.tree_proof.proofs.InputLemmas.{fold_input_same}
 use Rattle.tree_evidence.proofs.fold_pairs.differing_folds.Goals.{else-is_same-via-then-is_same+else-is_same-2, else-is_same-via-else-is_same}
 use Rattle.tree_evidence.proofs.fold_pairs.differing_folds.Goals as goal
 

@@ -7,7 +7,7 @@ returns-in-Some g c =
     let h = g.H.Hasher.hash in
     let some : 0 < length c.args.ones.now = search (c.if-is_empty, c.is_empty.ensures, rules) in
     outer_found h c.args.hasher.now c.args.inactive c.args.ones.now c.args.others.now _ _ _ _ _ _ (omega (arith, c.if-count-eq0.false)) some (omega (arith, some, c.requires.counted)) c.index-ones-0.is c.index-others-0.is
-    c.forward.ensures c.forward-2.ensures (found_some h _ _ _ _ _ c.in-Some.is c.in_ok-clash.ensures)
+    c.forward_fold.ensures c.forward_fold-2.ensures (found_some h _ _ _ _ _ c.in-Some.is c.in_ok-clash.ensures)
 
 pub returns-in-None : goal.returns-in-None
 returns-in-None g c =

@@ -1,7 +1,7 @@
 use Rattle.std.proofs.Common.{rules, ◌≡◌, ◌+◌, ◌-◌, ◌^◌, ◌<◌, [], length, sym, ◌∙◌, ap, subst, arith}
 use Rattle.std.specs.Prelude.{slice_get}
 use Rattle.std.proofs.lemmas.List.{get_or_default}
-use Rattle.tree_evidence.proofs.InputLemmas.{node_input_same}
+use Rattle.tree_proof.proofs.InputLemmas.{node_input_same}
 use Rattle.tree_evidence.proofs.FoldLemmas.{if_ok}
 use Rattle.tree_evidence.proofs.NodeLemmas.{leaf_is, node_is, na, nb, leaves_clash, halves_clash, left_clash, right_clash}
 use Rattle.tree_evidence.proofs.nodes.+find_below.Goals.{then-not-is_same-via-then-not-is_same, then-not-is_same-via-else-not-is_same+then-not-is_same-2}

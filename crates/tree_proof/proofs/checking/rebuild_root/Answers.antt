@@ -2,7 +2,7 @@ use Rattle.std.proofs.Common.{length, sym, ◌∙◌, ap, arith}
 use Rattle.std.specs.Option.{option_map}
 use Rattle.tree_shape.specs.Shape.{peaks}
 use Rattle.tree_proof.proofs.RebuildLemmas.{length-wholly_rebuilt}
-use Rattle.tree_proof.proofs.PeakLemmas.{length-peaks}
+use Rattle.tree_shape.proofs.PeakLemmas.{length-peaks}
 use Rattle.tree_proof.proofs.checking.rebuild_root.Goals as goal
 
 pub root_of_peaks-requires : goal.root_of_peaks-requires

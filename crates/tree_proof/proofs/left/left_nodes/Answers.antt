@@ -1,6 +1,6 @@
 use Rattle.std.proofs.Common.{◌∙◌, arith}
 use Rattle.tree_shape.specs.Shape.{peaks}
-use Rattle.tree_proof.proofs.PeakLemmas.{next_of_left, first_walk}
+use Rattle.tree_shape.proofs.PeakLemmas.{next_of_left, first_walk}
 use Rattle.tree_proof.proofs.LeftLemmas.{of-cover, gone_first, gone_next, gone_all, left-cover, left-small}
 use Rattle.tree_proof.proofs.left.left_nodes.Goals as goal
 

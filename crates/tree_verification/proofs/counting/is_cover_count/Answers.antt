@@ -1,5 +1,5 @@
 use Rattle.std.proofs.Common.{◌≡◌, ◌-◌, length, arith}
-use Rattle.tree_proof.proofs.PeakLemmas.{next_of_left, first_walk}
+use Rattle.tree_shape.proofs.PeakLemmas.{next_of_left, first_walk}
 use Rattle.tree_verification.proofs.ToldLemmas.{count-first, count-next, count-none, all-counted}
 use Rattle.tree_verification.proofs.counting.is_cover_count.Goals as goal
 

@@ -1,7 +1,7 @@
 use Rattle.std.proofs.Common.{◌≡◌, ◌+◌, ◌-◌, length}
 use Rattle.tree_shape.specs.Pins.{IsWalk}
 use Rattle.tree_proof.specs.Cover.{cover, cover_over}
-use Rattle.tree_proof.proofs.PeakLemmas.{peaks_left}
+use Rattle.tree_shape.proofs.PeakLemmas.{peaks_left}
 use Rattle.tree_verification.proofs.counting.is_cover_count.Given as goal
 
 -- what is left, and the cover inside the peaks that are left

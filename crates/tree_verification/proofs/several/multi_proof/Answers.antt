@@ -15,4 +15,4 @@ returns-in_err-check_within-clause-reads g c = reads_of _ _ _ _ _ (only_read_non
 pub returns-clause-proof : goal.returns-clause-proof
 returns-clause-proof g c =
     ok_gives _ _ (λ proof p tells held h all tree.
-    p tells held h all tree ∙ ap (λ ls. proof_of g.F.Family.shape h ls c.args.inactive_peaks (holds_one c.args.locations.now)) (ap (λ m. take m all) (c.leaves_of-leaves.ensures.leaves ∙ tree.count) ∙ take-all all)) c.prove.result c.prove.ensures.proof
+    p tells held h all tree ∙ ap (λ ls. proof_of g.F.Family.shape h ls c.args.inactive_peaks (holds_one c.args.locations.now)) (ap (λ m. take m all) (c.as_u64-leaves.ensures ∙ c.leaves.ensures.leaves ∙ tree.count) ∙ take-all all)) c.prove.result c.prove.ensures.proof

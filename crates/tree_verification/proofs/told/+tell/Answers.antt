@@ -8,20 +8,20 @@ use Rattle.tree_verification.proofs.told.+tell.Goals as goal
 
 pub prove-unreachable-requires : goal.prove-unreachable-requires
 prove-unreachable-requires g t c =
-    let met = g.K.Known.met c.args.known.now in
+    let met = g.K.Wanted.met c.args.known.now in
     let out : met c.args.x c.args.height ≡ false = sym (c.if-not-is_met.ensures {u = tt}) in
     let here : c.args.at < length c.args.digests.now = omega (arith, c.requires.enough, count-outside met c.args.x c.args.height out) in
     search (here, rules)
 
 pub returns-then-not-is_met-clause-behind : goal.returns-then-not-is_met-clause-behind
 returns-then-not-is_met-clause-behind g t c =
-    let met = g.K.Known.met c.args.known.now in
+    let met = g.K.Wanted.met c.args.known.now in
     let out : met c.args.x c.args.height ≡ false = sym (c.if-not-is_met.ensures {u = tt}) in
     omega (arith, count-outside met c.args.x c.args.height out)
 
 pub returns-then-not-is_met-clause-puts : goal.returns-then-not-is_met-clause-puts
 returns-then-not-is_met-clause-puts g t c tree rest hashed told =
-    let met = g.K.Known.met c.args.known.now in
+    let met = g.K.Wanted.met c.args.known.now in
     let x = c.args.x in
     let k = c.args.height in
     let ds = c.args.digests.now in
@@ -31,20 +31,20 @@ returns-then-not-is_met-clause-puts g t c tree rest hashed told =
 
 pub returns-then-height-eq0-clause-behind : goal.returns-then-height-eq0-clause-behind
 returns-then-height-eq0-clause-behind g t c =
-    let met = g.K.Known.met c.args.known.now in
+    let met = g.K.Wanted.met c.args.known.now in
     let inside : met c.args.x c.args.height ≡ true = sym (c.if-not-is_met.ensures {u = tt}) in
     omega (arith, count-leaf met c.args.x c.args.height inside c.if-height-eq0.true)
 
 pub returns-then-height-eq0-clause-puts : goal.returns-then-height-eq0-clause-puts
 returns-then-height-eq0-clause-puts g t c tree rest hashed told =
-    let met = g.K.Known.met c.args.known.now in
+    let met = g.K.Wanted.met c.args.known.now in
     let inside : met c.args.x c.args.height ≡ true = sym (c.if-not-is_met.ensures {u = tt}) in
     puts-leaf g.F.Family.shape g.H.Hasher.hash met (g.K.Known.leaf_of c.args.known.now) tree c.args.x c.args.height c.args.at c.args.digests.now rest (get nat_cmp c.args.nodes.now) (get nat_cmp c.put-then-height-eq0.new.nodes) c.leaf-digest.result hashed inside
     c.if-height-eq0.true c.leaf-digest.ensures (c.in_ok-put-2.ensures {u = tt}) told
 
 pub tell-requires : goal.tell-requires
 tell-requires g t c =
-    let met = g.K.Known.met c.args.known.now in
+    let met = g.K.Wanted.met c.args.known.now in
     let inside : met c.args.x c.args.height ≡ true = sym (c.if-not-is_met.ensures {u = tt}) in
     let halves = count-halves met c.args.x c.args.height c.half_width-half.result inside (omega arith) c.half_width-half.ensures.half in
     let enough : c.args.at + length (cover_in met c.args.x (c.args.height - 1)) ≤ length c.args.digests.now = omega (arith, c.requires.enough, halves) in
@@ -52,7 +52,7 @@ tell-requires g t c =
 
 pub tell-requires-2 : goal.tell-requires-2
 tell-requires-2 g t c =
-    let met = g.K.Known.met c.args.known.now in
+    let met = g.K.Wanted.met c.args.known.now in
     let inside : met c.args.x c.args.height ≡ true = sym (c.if-not-is_met.ensures {u = tt}) in
     let half = c.half_width-half.result in
     let halves = count-halves met c.args.x c.args.height half inside (omega arith) c.half_width-half.ensures.half in
@@ -61,7 +61,7 @@ tell-requires-2 g t c =
 
 pub returns-clause-behind : goal.returns-clause-behind
 returns-clause-behind g t c =
-    let met = g.K.Known.met c.args.known.now in
+    let met = g.K.Wanted.met c.args.known.now in
     let inside : met c.args.x c.args.height ≡ true = sym (c.if-not-is_met.ensures {u = tt}) in
     omega (arith, c.in_ok-left.ensures.behind, c.in_ok-right.ensures.behind, count-halves met c.args.x c.args.height c.half_width-half.result inside (omega arith) c.half_width-half.ensures.half)
 
@@ -69,7 +69,7 @@ pub returns-clause-puts : goal.returns-clause-puts
 returns-clause-puts g t c tree rest hashed told =
     let s = g.F.Family.shape in
     let h = g.H.Hasher.hash in
-    let met = g.K.Known.met c.args.known.now in
+    let met = g.K.Wanted.met c.args.known.now in
     let leaf_of = g.K.Known.leaf_of c.args.known.now in
     let x = c.args.x in
     let k = c.args.height in

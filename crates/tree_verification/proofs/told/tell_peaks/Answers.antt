@@ -4,7 +4,7 @@ use Rattle.std.specs.Ordering.{nat_cmp}
 use Rattle.std.specs.Map.{lookup}
 use Rattle.tree_shape.specs.Shape.{made}
 use Rattle.tree_proof.specs.Cover.{cover_over}
-use Rattle.tree_proof.proofs.PeakLemmas.{peaks_left, next_of_left, first_walk}
+use Rattle.tree_shape.proofs.PeakLemmas.{peaks_left, next_of_left, first_walk}
 use Rattle.tree_verification.specs.Told.{in_tree, told_nodes}
 use Rattle.tree_verification.proofs.FoundLemmas.{tells-exactly}
 use Rattle.tree_verification.proofs.ToldPlaced.{told-placed}
@@ -14,7 +14,7 @@ use Rattle.tree_verification.proofs.told.tell_peaks.Goals as goal
 pub loop-i-init : goal.loop-i-init
 loop-i-init g c =
     let s = g.F.Family.shape in
-    let met = g.K.Known.met c.args.known.now in
+    let met = g.K.Wanted.met c.args.known.now in
     let n = c.args.leaves in
     let all : c.peak_count-count.result - 0 ≡ length (s.heights n) = omega (arith, c.peak_count-count.ensures) in
     record {
@@ -38,7 +38,7 @@ tell-requires-clause-enough g c =
     let s = g.F.Family.shape in
     let n = c.args.leaves in
     let st = next_of_left s n c.loop-i.x c.peak_count-count.result c.loop-i.i c.peak_height-height.result (g.met.F.Family.lawful.peaks n) c.loop-i.invariant.walk c.loop-i-test.true c.peak_height-height.ensures in
-    omega (arith, c.loop-i.invariant.enough, count-next s (g.K.Known.met c.args.known.now) n _ _ _ _ st.are)
+    omega (arith, c.loop-i.invariant.enough, count-next s (g.K.Wanted.met c.args.known.now) n _ _ _ _ st.are)
 
 pub width-x-requires : goal.width-x-requires
 width-x-requires g c =
@@ -56,7 +56,7 @@ pub loop-i-preserved : goal.loop-i-preserved
 loop-i-preserved g c =
     let s = g.F.Family.shape in
     let h = g.H.Hasher.hash in
-    let met = g.K.Known.met c.args.known.now in
+    let met = g.K.Wanted.met c.args.known.now in
     let leaf_of = g.K.Known.leaf_of c.args.known.now in
     let n = c.args.leaves in
     let count = c.peak_count-count.result in
@@ -75,7 +75,7 @@ loop-i-preserved g c =
 pub returns : goal.returns
 returns g c tree hashed digests =
     let s = g.F.Family.shape in
-    let met = g.K.Known.met c.args.known.now in
+    let met = g.K.Wanted.met c.args.known.now in
     let n = c.args.leaves in
     tells-exactly s (made s n) tree _ (told_nodes s met n) (told-placed s met n g.met.F.Family.lawful)
     (left_none s g.H.Hasher.hash met (g.K.Known.leaf_of c.args.known.now) tree n _ _ _ (c.loop-i.invariant.told tree hashed digests) (omega arith))

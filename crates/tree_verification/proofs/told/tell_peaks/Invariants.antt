@@ -3,7 +3,7 @@ use Rattle.std.specs.BTreeMap.{get}
 use Rattle.std.specs.Ordering.{nat_cmp}
 use Rattle.tree_shape.specs.Pins.{IsWalk}
 use Rattle.tree_proof.specs.Cover.{cover, cover_over}
-use Rattle.tree_proof.proofs.PeakLemmas.{peaks_left}
+use Rattle.tree_shape.proofs.PeakLemmas.{peaks_left}
 use Rattle.tree_verification.specs.Told.{in_tree, IsHashed}
 use Rattle.tree_verification.proofs.ToldLemmas.{IsLeft}
 use Rattle.tree_verification.proofs.told.tell_peaks.Given as goal
@@ -12,7 +12,7 @@ abbrev pub invariant-loop-i : goal.invariant-loop-i
 invariant-loop-i g l =
     let s = g.F.Family.shape in
     let h = g.H.Hasher.hash in
-    let met = g.K.Known.met l.known in
+    let met = g.K.Wanted.met l.known in
     let leaf_of = g.K.Known.leaf_of l.known in
     record {
       walk : IsWalk s l.leaves l.x (l.count - l.i);
