@@ -175,7 +175,8 @@ fn push_command(commands: &mut Vec<Command>, number: u64, line: &[u8]) -> Result
 pub fn parse_commands(alloc: Global, input: &[u8]) -> Result<Vec<Command>, LineError>
     ensures read { IfOk result (λ commands. InputSays input.now commands.items) }
     ensures bad { IfErr result (IsCause (lines_of input.now)) }
-    ensures again { (commands : List Command) → InputSays input.now commands → MatchResult result (λ read. read.items ≡ commands) (λ e. e ≡ LineError.Memory) }
+    ensures again { (commands : List Command) → InputSays input.now commands →
+        MatchResult result (λ read. read.items ≡ commands) (λ e. e ≡ LineError.Memory) }
 {
     let mut lines = Lines::new(input);
     let mut commands = Vec::new(alloc);

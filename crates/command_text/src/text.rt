@@ -32,7 +32,8 @@ fn put_titled_value<O: Sink>(
     word: &[u8],
     value: &Option<Bytes>,
 ) -> Result<(), WriteFailed>
-    ensures text { Puts (O.written out.old) piece.old (O.written out.new) piece.new result (text_then word.now (value_text value.now)) }
+    ensures text { Puts (O.written out.old) piece.old (O.written out.new) piece.new result
+        (text_then word.now (value_text value.now)) }
     ensures cause { HasCause (O.faults out.old) (O.faults out.new) result }
 {
     piece.put(out, word)?;
@@ -61,7 +62,8 @@ fn put_titled_values<O: Sink>(
     out: &mut O,
     values: &[Option<Bytes>],
 ) -> Result<(), WriteFailed>
-    ensures text { Puts (O.written out.old) piece.old (O.written out.new) piece.new result (text_then (codes "values") (values_text values.now)) }
+    ensures text { Puts (O.written out.old) piece.old (O.written out.new) piece.new result
+        (text_then (codes "values") (values_text values.now)) }
     ensures cause { HasCause (O.faults out.old) (O.faults out.new) result }
 {
     piece.put(out, b"values")?;
@@ -74,7 +76,8 @@ fn put_operations<O: Sink>(
     out: &mut O,
     operations: &[Bytes],
 ) -> Result<(), WriteFailed>
-    ensures text { Puts (O.written out.old) piece.old (O.written out.new) piece.new result (listed bytes_text operations.now) }
+    ensures text { Puts (O.written out.old) piece.old (O.written out.new) piece.new result
+        (listed bytes_text operations.now) }
     ensures cause { HasCause (O.faults out.old) (O.faults out.new) result }
 {
     match operations {
@@ -91,7 +94,8 @@ fn put_some_operations<O: Sink>(
     first: &Bytes,
     others: &[Bytes],
 ) -> Result<(), WriteFailed>
-    ensures text { Puts (O.written out.old) piece.old (O.written out.new) piece.new result (text_then (bytes_text first.now) (flat_map (λ op. text_then (codes ",") (bytes_text op)) others.now)) }
+    ensures text { Puts (O.written out.old) piece.old (O.written out.new) piece.new result
+        (text_then (bytes_text first.now) (flat_map (λ op. text_then (codes ",") (bytes_text op)) others.now)) }
     ensures cause { HasCause (O.faults out.old) (O.faults out.new) result }
 {
     put_bytes(piece, out, first)?;
@@ -104,7 +108,8 @@ fn put_more_operations<O: Sink>(
     out: &mut O,
     operations: &[Bytes],
 ) -> Result<(), WriteFailed>
-    ensures text { Puts (O.written out.old) piece.old (O.written out.new) piece.new result (flat_map (λ op. text_then (codes ",") (bytes_text op)) operations.now) }
+    ensures text { Puts (O.written out.old) piece.old (O.written out.new) piece.new result
+        (flat_map (λ op. text_then (codes ",") (bytes_text op)) operations.now) }
     ensures cause { HasCause (O.faults out.old) (O.faults out.new) result }
 {
     for operation in operations {
@@ -116,7 +121,8 @@ fn put_more_operations<O: Sink>(
 /// Puts bytes behind a comma.
 #[tactic(auto, using(line_text::specs::Pending::putting))]
 fn put_another<O: Sink>(piece: &mut Piece, out: &mut O, bytes: &Bytes) -> Result<(), WriteFailed>
-    ensures text { Puts (O.written out.old) piece.old (O.written out.new) piece.new result (text_then (codes ",") (bytes_text bytes.now)) }
+    ensures text { Puts (O.written out.old) piece.old (O.written out.new) piece.new result
+        (text_then (codes ",") (bytes_text bytes.now)) }
     ensures cause { HasCause (O.faults out.old) (O.faults out.new) result }
 {
     piece.put(out, b",")?;
@@ -129,7 +135,8 @@ fn put_digests<O: Sink>(
     out: &mut O,
     digests: &[Sha256Digest],
 ) -> Result<(), WriteFailed>
-    ensures text { Puts (O.written out.old) piece.old (O.written out.new) piece.new result (listed digest_text digests.now) }
+    ensures text { Puts (O.written out.old) piece.old (O.written out.new) piece.new result
+        (listed digest_text digests.now) }
     ensures cause { HasCause (O.faults out.old) (O.faults out.new) result }
 {
     match digests {
@@ -146,7 +153,8 @@ fn put_some_digests<O: Sink>(
     first: &Sha256Digest,
     others: &[Sha256Digest],
 ) -> Result<(), WriteFailed>
-    ensures text { Puts (O.written out.old) piece.old (O.written out.new) piece.new result (text_then (titled (codes "") first.now) (flat_map (titled (codes ",")) others.now)) }
+    ensures text { Puts (O.written out.old) piece.old (O.written out.new) piece.new result
+        (text_then (titled (codes "") first.now) (flat_map (titled (codes ",")) others.now)) }
     ensures cause { HasCause (O.faults out.old) (O.faults out.new) result }
 {
     put_digest(piece, out, b"", first)?;
@@ -159,7 +167,8 @@ fn put_more_digests<O: Sink>(
     out: &mut O,
     digests: &[Sha256Digest],
 ) -> Result<(), WriteFailed>
-    ensures text { Puts (O.written out.old) piece.old (O.written out.new) piece.new result (flat_map (titled (codes ",")) digests.now) }
+    ensures text { Puts (O.written out.old) piece.old (O.written out.new) piece.new result
+        (flat_map (titled (codes ",")) digests.now) }
     ensures cause { HasCause (O.faults out.old) (O.faults out.new) result }
 {
     for digest in digests {
@@ -228,7 +237,8 @@ fn put_sealed<O: Sink>(
     size: u64,
     root: &Sha256Digest,
 ) -> Result<(), WriteFailed>
-    ensures text { Puts (O.written out.old) piece.old (O.written out.new) piece.new result (text_then (numbered (codes "sealed ") size) (titled (codes " ") root.now)) }
+    ensures text { Puts (O.written out.old) piece.old (O.written out.new) piece.new result
+        (text_then (numbered (codes "sealed ") size) (titled (codes " ") root.now)) }
     ensures cause { HasCause (O.faults out.old) (O.faults out.new) result }
 {
     put_number(piece, out, b"sealed ", size)?;
@@ -244,7 +254,9 @@ fn put_size<O: Sink>(
     start: u64,
     floor: u64,
 ) -> Result<(), WriteFailed>
-    ensures text { Puts (O.written out.old) piece.old (O.written out.new) piece.new result (text_then (numbered (codes "size ") size) (text_then (numbered (codes " start ") start) (numbered (codes " floor ") floor))) }
+    ensures text { Puts (O.written out.old) piece.old (O.written out.new) piece.new result
+        (text_then (numbered (codes "size ") size)
+        (text_then (numbered (codes " start ") start) (numbered (codes " floor ") floor))) }
     ensures cause { HasCause (O.faults out.old) (O.faults out.new) result }
 {
     put_number(piece, out, b"size ", size)?;
@@ -255,7 +267,8 @@ fn put_size<O: Sink>(
 /// Puts the answer of a refused command.
 #[tactic(auto, using(line_text::specs::Pending::putting))]
 fn put_refused<O: Sink>(piece: &mut Piece, out: &mut O, refusal: Refusal) -> Result<(), WriteFailed>
-    ensures text { Puts (O.written out.old) piece.old (O.written out.new) piece.new result (text_then (codes "refused ") (refusal_text refusal)) }
+    ensures text { Puts (O.written out.old) piece.old (O.written out.new) piece.new result
+        (text_then (codes "refused ") (refusal_text refusal)) }
     ensures cause { HasCause (O.faults out.old) (O.faults out.new) result }
 {
     piece.put(out, b"refused ")?;

@@ -149,7 +149,8 @@ impl<F: Family, V: Codec> Read for Operation<F, V> {
 
     ghost reads = { λ cfg. through_at of_parts (V.Codec.reads cfg) };
 
-    ghost lawful = { λ cfg. through_lawful parts of_parts of_parts_of (parts_of_parts _ _ _ _) V.Codec.spelling (V.Codec.admits cfg) (V.Codec.reads cfg) (V.Codec.lawful cfg) };
+    ghost lawful = { λ cfg. through_lawful parts of_parts of_parts_of (parts_of_parts _ _ _ _) V.Codec.spelling
+        (V.Codec.admits cfg) (V.Codec.reads cfg) (V.Codec.lawful cfg) };
 
     fn read(alloc: Global, buf: &mut Cursor<'_>, cfg: &V::ReadCfg) -> Result<Self, CodecError> {
         V::read_operation(alloc, buf, cfg)

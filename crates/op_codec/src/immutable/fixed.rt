@@ -27,7 +27,8 @@ impl<K: Key + FixedSize, V: Write + EncodeSize + FixedSize + Read + Duplicate + 
 
     ghost reads = { λ cfg. fixed_at K.width V.width (K.reads cfg.0) (V.reads cfg.1) };
 
-    ghost lawful = { λ cfg. fixed_lawful K.spelling (K.admits cfg.0) (K.reads cfg.0) (K.lawful cfg.0) V.spelling (V.admits cfg.1) (V.reads cfg.1) (V.lawful cfg.1) K.width V.width (K.one_width cfg.0) (V.one_width cfg.1) };
+    ghost lawful = { λ cfg. fixed_lawful K.spelling (K.admits cfg.0) (K.reads cfg.0) (K.lawful cfg.0) V.spelling
+        (V.admits cfg.1) (V.reads cfg.1) (V.lawful cfg.1) K.width V.width (K.one_width cfg.0) (V.one_width cfg.1) };
 
     fn write_operation<F: Family>(
         op: &Operation<F, K, Self>,
@@ -110,7 +111,8 @@ fn set_of<K: Key + FixedSize, V: Read + Drop>(
     value_cfg: &V::Cfg,
 ) -> Result<(K, V), CodecError>
     requires { K.width < 2 ^ 64 - 1 }
-    ensures { Takes result buf.new (padded_at (set_padding K.width) (pair_at (K.reads key_cfg.now) (V.reads value_cfg.now)) buf.old) }
+    ensures { let reads = pair_at (K.reads key_cfg.now) (V.reads value_cfg.now) in
+        Takes result buf.new (padded_at (set_padding K.width) reads buf.old) }
 {
     let key = K::read(alloc, buf, key_cfg)?;
     let value = V::read(alloc, buf, value_cfg)?;
@@ -126,7 +128,8 @@ fn padded_commit_of<F: Family, K: FixedSize, V: FixedSize + Drop>(
 ) -> Result<(Option<V>, Location<F>), CodecError>
     requires key { K.width < 2 ^ 64 - 1 }
     requires value { V.width < 2 ^ 64 - 1 }
-    ensures { Takes result buf.new (padded_at (commit_padding K.width) (fixed_commit_at V.width (V.reads cfg.now)) buf.old) }
+    ensures { let reads = fixed_commit_at V.width (V.reads cfg.now) in
+        Takes result buf.new (padded_at (commit_padding K.width) reads buf.old) }
 {
     let (metadata, floor) = read_commit_fixed(alloc, buf, cfg)?;
     read_zeros(buf, behind_a_commit(K::size()))?;
@@ -140,7 +143,9 @@ impl<
 > FixedSize for Operation<F, K, FixedEncoding<V>> {
     ghost width = { fixed_width K.width V.width };
 
-    ghost one_width = { λ cfg op h. fixed_length K.spelling (K.admits cfg.0) (K.reads cfg.0) (K.lawful cfg.0) V.spelling (V.admits cfg.1) (V.reads cfg.1) (V.lawful cfg.1) K.width V.width (K.one_width cfg.0) (V.one_width cfg.1) (parts op) h };
+    ghost one_width = { λ cfg op h. fixed_length K.spelling (K.admits cfg.0) (K.reads cfg.0) (K.lawful cfg.0)
+        V.spelling (V.admits cfg.1) (V.reads cfg.1) (V.lawful cfg.1) K.width V.width (K.one_width cfg.0)
+        (V.one_width cfg.1) (parts op) h };
 
     fn size() -> u64 {
         let set = K::size().saturating_add(V::size());

@@ -14,7 +14,9 @@ use tree_shape::Family;
 pub fn variable_laws<F: Family, K: Key, V: Write + EncodeSize + Read + Duplicate + Drop>(
     cfg: &(K::Cfg, V::Cfg),
 )
-    ensures { IsExact (IsAllowed (K.admits cfg.now.0) (V.admits cfg.now.1)) (⟦<Operation<F, K, VariableEncoding<V>> as Spelled>⟧.spelling) (⟦<Operation<F, K, VariableEncoding<V>> as Read>⟧.reads cfg.now) }
+    ensures { IsExact (IsAllowed (K.admits cfg.now.0) (V.admits cfg.now.1))
+        (⟦<Operation<F, K, VariableEncoding<V>> as Spelled>⟧.spelling)
+        (⟦<Operation<F, K, VariableEncoding<V>> as Read>⟧.reads cfg.now) }
 {}
 
 /// An operation of one length is decoded from its encoding, and nothing is from any other byte string.
@@ -23,7 +25,9 @@ pub fn fixed_laws<
     K: Key + FixedSize,
     V: Write + EncodeSize + FixedSize + Read + Duplicate + Drop,
 >(cfg: &(K::Cfg, V::Cfg))
-    ensures { IsExact (IsAllowed (K.admits cfg.now.0) (V.admits cfg.now.1)) (⟦<Operation<F, K, FixedEncoding<V>> as Spelled>⟧.spelling) (⟦<Operation<F, K, FixedEncoding<V>> as Read>⟧.reads cfg.now) }
+    ensures { IsExact (IsAllowed (K.admits cfg.now.0) (V.admits cfg.now.1))
+        (⟦<Operation<F, K, FixedEncoding<V>> as Spelled>⟧.spelling)
+        (⟦<Operation<F, K, FixedEncoding<V>> as Read>⟧.reads cfg.now) }
 {}
 
 /// Operations are equal where their variants and their fields are, whether or not equal keys or equal values are one.

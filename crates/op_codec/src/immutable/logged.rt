@@ -28,5 +28,13 @@ where
     ghost use Rattle.std.specs.Prelude.{refl};
     ghost use Rattle.op_codec.specs.ImmutableMeanings.{fieldwise_decides};
 
-    ghost decides = { fieldwise_decides K.eq V.Value.eq _ (record { sets = λ k l v w. refl; commits = λ f g. refl; with_metadata = λ v w f g. refl; one_has = λ v f g. refl; other_has = λ w f g. refl; set_first = λ k v n g. refl; commit_first = λ m f l w. refl }) K.decides V.Value.decides };
+    ghost decides = { fieldwise_decides K.eq V.Value.eq _ (record {
+      sets = λ k l v w. refl;
+      commits = λ f g. refl;
+      with_metadata = λ v w f g. refl;
+      one_has = λ v f g. refl;
+      other_has = λ w f g. refl;
+      set_first = λ k v n g. refl;
+      commit_first = λ m f l w. refl;
+    }) K.decides V.Value.decides };
 }

@@ -16,7 +16,8 @@ impl<K: Key, V: Write + EncodeSize + Read + Duplicate + Drop> Codec<K> for Varia
 
     ghost reads = { λ cfg. variable_at (K.reads cfg.0) (V.reads cfg.1) };
 
-    ghost lawful = { λ cfg. variable_lawful K.spelling (K.admits cfg.0) (K.reads cfg.0) (K.lawful cfg.0) V.spelling (V.admits cfg.1) (V.reads cfg.1) (V.lawful cfg.1) };
+    ghost lawful = { λ cfg. variable_lawful K.spelling (K.admits cfg.0) (K.reads cfg.0) (K.lawful cfg.0) V.spelling
+        (V.admits cfg.1) (V.reads cfg.1) (V.lawful cfg.1) };
 
     fn write_operation<F: Family>(
         op: &Operation<F, K, Self>,

@@ -25,7 +25,8 @@ impl<V: Write + EncodeSize + FixedSize + Read + Duplicate + Drop> Codec for Fixe
 
     ghost reads = { λ cfg. fixed_at V.width (V.reads cfg) };
 
-    ghost lawful = { λ cfg. fixed_lawful V.spelling (V.admits cfg) (V.reads cfg) (V.lawful cfg) V.width (V.one_width cfg) };
+    ghost lawful = { λ cfg. fixed_lawful V.spelling (V.admits cfg) (V.reads cfg) (V.lawful cfg) V.width
+        (V.one_width cfg) };
 
     fn write_operation<F: Family>(
         op: &Operation<F, Self>,
@@ -97,7 +98,8 @@ impl<F: Family, V: Write + EncodeSize + FixedSize + Read + Duplicate + Drop> Fix
     for Operation<F, FixedEncoding<V>> {
     ghost width = { fixed_width V.width };
 
-    ghost one_width = { λ cfg op h. fixed_length V.spelling (V.admits cfg) (V.reads cfg) (V.lawful cfg) V.width (V.one_width cfg) (parts op) h };
+    ghost one_width = { λ cfg op h. fixed_length V.spelling (V.admits cfg) (V.reads cfg) (V.lawful cfg) V.width
+        (V.one_width cfg) (parts op) h };
 
     fn size() -> u64 {
         V::size().saturating_add(1 + PADDING)

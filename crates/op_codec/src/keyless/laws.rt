@@ -12,14 +12,16 @@ use tree_shape::Family;
 
 /// An operation of any length is decoded from its encoding, and nothing is from any other byte string.
 pub fn variable_laws<F: Family, V: Write + EncodeSize + Read + Duplicate + Drop>(cfg: &V::Cfg)
-    ensures { IsExact (IsAllowed (V.admits cfg.now)) (⟦<Operation<F, VariableEncoding<V>> as Spelled>⟧.spelling) (⟦<Operation<F, VariableEncoding<V>> as Read>⟧.reads cfg.now) }
+    ensures { IsExact (IsAllowed (V.admits cfg.now)) (⟦<Operation<F, VariableEncoding<V>> as Spelled>⟧.spelling)
+        (⟦<Operation<F, VariableEncoding<V>> as Read>⟧.reads cfg.now) }
 {}
 
 /// An operation of one length is decoded from its encoding, and nothing is from any other byte string.
 pub fn fixed_laws<F: Family, V: Write + EncodeSize + FixedSize + Read + Duplicate + Drop>(
     cfg: &V::Cfg,
 )
-    ensures { IsExact (IsAllowed (V.admits cfg.now)) (⟦<Operation<F, FixedEncoding<V>> as Spelled>⟧.spelling) (⟦<Operation<F, FixedEncoding<V>> as Read>⟧.reads cfg.now) }
+    ensures { IsExact (IsAllowed (V.admits cfg.now)) (⟦<Operation<F, FixedEncoding<V>> as Spelled>⟧.spelling)
+        (⟦<Operation<F, FixedEncoding<V>> as Read>⟧.reads cfg.now) }
 {}
 
 /// Operations are equal where their variants and their fields are, whether or not equal values are one.

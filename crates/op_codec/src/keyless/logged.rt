@@ -28,5 +28,13 @@ where
     ghost use Rattle.std.specs.Prelude.{refl};
     ghost use Rattle.op_codec.specs.Meanings.{fieldwise_decides};
 
-    ghost decides = { fieldwise_decides V.Value.eq _ (record { appends = λ v w. refl; commits = λ f g. refl; with_metadata = λ v w f g. refl; one_has = λ v f g. refl; other_has = λ w f g. refl; append_first = λ v n g. refl; commit_first = λ m f w. refl }) V.Value.decides };
+    ghost decides = { fieldwise_decides V.Value.eq _ (record {
+      appends = λ v w. refl;
+      commits = λ f g. refl;
+      with_metadata = λ v w f g. refl;
+      one_has = λ v f g. refl;
+      other_has = λ w f g. refl;
+      append_first = λ v n g. refl;
+      commit_first = λ m f w. refl;
+    }) V.Value.decides };
 }
