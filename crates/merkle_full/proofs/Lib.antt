@@ -7,3 +7,14 @@ pub mod OpeningLemmas
 pub mod RepinLemmas
 pub mod ReopenLemmas
 pub mod ProvedLemmas
+pub mod OrphanLemmas
+pub mod PrepareLemmas
+pub mod SettleLemmas
+pub mod FlushLemmas
+pub mod StandLemmas
+pub mod RunLemmas
+pub mod PinnedLemmas
+pub mod PruneLemmas
+pub mod RemoveLemmas
+pub mod StartLemmas
+pub mod PruneRun

@@ -13,7 +13,7 @@ use Rattle.tree_shape.specs.Sizes.{IsNearest, HasSize}
 use Rattle.tree_shape.proofs.NeededLemmas.{made_le}
 use Rattle.tree_core.proofs.BuiltLemmas.{sizes_apart}
 use Rattle.merkle_full.specs.Opening.{IsMost, IsLeast}
-use Rattle.tree_store.specs.Stored.{node_key, StandsFor}
+use Rattle.tree_store.specs.Stored.{node_key, TreeStands}
 use Rattle.merkle_full.proofs.ListLemmas.{get_behind, mapped_some, taken}
 
 pub fewer : (s : Shape) (m n : ℕ) → length (made s m) ≤ length (made s n) → m ≤ n
@@ -59,7 +59,7 @@ same_digest spelling xs p d bytes exact is spelled =
     m.1 ∙ ap Some (exact m.0 d (sym m.2 ∙ spelled))
 
 pub node_in_map : {D : Type 0} (s : Shape) (h : Hashing D) (spelling : D → List ℕ) (all : List D) (durable top p : ℕ) (log : Log) (m : Map) (d : D) → ((a b : D) → spelling a ≡ spelling b → a ≡ b) → p < 2 ^ 64
-    → StandsFor s h spelling all durable top log m
+    → TreeStands s h spelling all durable top log m
     → ((bytes : List ℕ) → fin.get m (node_key p) ≡ Some bytes → (x : D) × (Some d ≡ Some x) × (bytes ≡ spelling x)) → (fin.get m (node_key p) ≡ None → Some d ≡ None) → slice_get (nodes s h all) p ≡ Some d
 node_in_map {D = D} s h spelling all durable top p log m d exact fits stands pin none = by (fin.get m (node_key p)) refl
   where
@@ -74,7 +74,7 @@ node_in_map {D = D} s h spelling all durable top p log m d exact fits stands pin
     by None is = absurd (let bad = none is in cc)
 
 pub node_in_log : {D : Type 0} (s : Shape) (h : Hashing D) (spelling : D → List ℕ) (all : List D) (durable top p : ℕ) (log : Log) (m : Map) (d : D) → ((a b : D) → spelling a ≡ spelling b → a ≡ b)
-    → StandsFor s h spelling all durable top log m → IsItemAt log p (spelling d) → slice_get (nodes s h all) p ≡ Some d
+    → TreeStands s h spelling all durable top log m → IsItemAt log p (spelling d) → slice_get (nodes s h all) p ≡ Some d
 node_in_log s h spelling all durable top p log m d exact stands item =
     let place : log.start + (p - log.start) ≡ p = omega (arith, item.low) in
     let part : slice_get (take (length log.items) (drop log.start (map spelling (nodes s h all)))) (p - log.start) ≡ Some (spelling d) = ap (λ l. slice_get l (p - log.start)) (sym stands.nodes.items) ∙ item.here in

@@ -1,5 +1,5 @@
 -- Proofs made of what memory and log tell.
-use Rattle.std.proofs.Common.{◌≡◌, inl, inr, ℕ, ◌+◌, ◌-◌, ◌^◌, ◌<◌, ◌≤◌, Bool, true, false, List, length, map, take, Some, None, Option, Ok, Err, refl, sym, ◌∙◌, ap, subst, arith}
+use Rattle.std.proofs.Common.{◌≡◌, inl, inr, ℕ, ◌^◌, ◌<◌, ◌≤◌, Bool, true, false, List, length, Some, Option, Ok, Err, refl, sym, ◌∙◌, ap, arith}
 use Rattle.std.specs.Prelude.{◌||◌, nat_le, slice_get, is_some, Result, IfOk, IfErr, OnOk}
 use Rattle.std.proofs.lemmas.Bool.Decides.{leb_tells}
 use Rattle.std.proofs.lemmas.Option.{slice_get-map}
@@ -12,10 +12,8 @@ use Rattle.tree_shape.specs.Kept.{KeepsPeaks}
 use Rattle.tree_shape.specs.Needed.{IsNeeded}
 use Rattle.tree_shape.specs.Pins.{position_of}
 use Rattle.tree_shape.proofs.NeededLemmas.{made_le, needed_from}
-use Rattle.tree_proof.specs.declared.proof.Proof.{Proof}
 use Rattle.tree_proof.specs.Cover.{meets, cover}
-use Rattle.tree_proof.specs.SlowProof.{proof_of}
-use Rattle.tree_store.specs.Stores.{IsOutside, IsOutsideOr, IsFirstAbsent}
+use Rattle.tree_store.specs.Stores.{IsOutside, IsOutsideOr}
 use Rattle.tree_store.specs.declared.error.Error.{Error}
 use Rattle.tree_store.specs.declared.error.Error.TheVariants.{RangeOutOfBounds, ElementPruned, Volume, Memory}
 use Rattle.tree_verification.specs.Ranges.{cover_positions, range_answer}

@@ -20,7 +20,7 @@ use Rattle.tree_shape.specs.Pins.{pins, position_of}
 use Rattle.tree_shape.specs.Places.{get-append}
 use Rattle.tree_shape.specs.Slow.{nodes, node_of}
 use Rattle.tree_core.proofs.PrunedLemmas.{peak_stands}
-use Rattle.tree_store.specs.Stored.{StandsFor}
+use Rattle.tree_store.specs.Stored.{TreeStands}
 use Rattle.merkle_full.proofs.FullLemmas.{length-nodes}
 use Rattle.merkle_full.proofs.ListLemmas.{same_lists}
 use Rattle.tree_verification.proofs.NodeLemmas.{stands-later, node-take}
@@ -65,7 +65,7 @@ peaks_are {D = D} s h all ds positions n m w le within are counted each = same_l
         let front : node_of s h (take m all) c ≡ node_of s h all c = node-take s h all m peak.start peak.height (omega (arith, under, le)) in
         slice_get-map (node_of s h (take m all)) (peaks s n) i ∙ ap (option_map (node_of s h (take m all))) peak.place ∙ ap Some front ∙ sym slow ∙ each i p d here is
 
-pub stands_long : {D : Type 0} (s : Shape) (h : Hashing D) (spelling : D → List ℕ) (all : List D) (durable top n : ℕ) (log : Log) (m : Map) → StandsFor s h spelling all durable top log m → length (made s n) ≤ end_of log → n ≤ length all
+pub stands_long : {D : Type 0} (s : Shape) (h : Hashing D) (spelling : D → List ℕ) (all : List D) (durable top n : ℕ) (log : Log) (m : Map) → TreeStands s h spelling all durable top log m → length (made s n) ≤ end_of log → n ≤ length all
 stands_long s h spelling all durable top n log m stands le = fewer s n (length all) (omega (arith, le, stands.nodes.within, length-map (nodes s h all) spelling, length-nodes s h all))
 
 -- ---- why it isn't made

@@ -5,3 +5,7 @@ pub mod Opening
 pub mod Recovering
 pub mod Pinning
 pub mod Proving
+pub mod Preparing
+pub mod Flushing
+pub mod Pruning
+pub mod Removing

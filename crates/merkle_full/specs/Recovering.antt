@@ -64,6 +64,11 @@ pub record IsFirstLost {F D : Type 0} (known : Type 0) (source : Source D) (ps :
 abbrev pub NotAllRecovered : {F D : Type 0} → Type 0 → Source D → List ℕ → Error F → Type 0
 NotAllRecovered known source ps e = IsOutside e ⊎ IsFirstLost known source ps e
 
+-- Each peak of the leaves is recovered, and each of those at which the tree is pruned.
+pub record ArePeaksRecovered {D : Type 0} (known : Type 0) (source : Source D) (s : Shape) (leaves boundary : ℕ) : Type 0 where
+  pub of_leaves : AllRecovered known source (pins s leaves)
+  pub of_boundary : AllRecovered known source (pins s boundary)
+
 -- Memory isn't made again: a peak of the leaves isn't recovered; or each of these is, and one of the boundary isn't.
 abbrev pub NotReopened : {F D : Type 0} → Type 0 → Source D → Shape → ℕ → ℕ → Error F → Type 0
 NotReopened known source s leaves boundary e =

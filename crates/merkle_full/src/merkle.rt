@@ -37,13 +37,14 @@ impl<F: Family, D: Digest> Model for Merkle<F, D> {
 }
 
 impl<F: Family, D: Digest> Merkle<F, D> {
-    ghost use Rattle.std.specs.Prelude.{◌≡◌, ◌≤◌, ◌++◌, ◌^◌, ℕ, List, length, drop, IsOk, IfOk, IfErr, OnOk, IsOkUnless};
+    ghost use Rattle.std.specs.Prelude.{◌≡◌, ◌≤◌, ◌++◌, ◌^◌, ℕ, List, length, reverse, drop, IsOk, IfOk, IfErr, OnOk, IsOkUnless};
     ghost use Rattle.tree_shape.specs.Hashing.{Hashing};
-    ghost use Rattle.tree_shape.specs.Root.{root};
+    ghost use Rattle.tree_shape.specs.Root.{root, root_over};
     ghost use Rattle.tree_shape.specs.Shape.{made};
-    ghost use Rattle.tree_core.specs.Applied.{IsLonger, IsMarkOf, FitsTree, RefusedByTree, Refused};
-    ghost use Rattle.tree_core.specs.Batches.{BeginsAt, IsUnsealedOf, IsSealedOf};
-    ghost use Rattle.tree_core.specs.Tree.{IsOf, IsSound};
+    ghost use Rattle.tree_core.specs.Applied.{IsLonger, IsMarkOf, FitsTree, EndsAtTree, RefusedByTree, Refused};
+    ghost use Rattle.tree_core.specs.Batches.{BeginsAt, IsUnsealedOf, IsSealedOf, sealed_node};
+    ghost use Rattle.tree_core.specs.Reading.{ArePeaks};
+    ghost use Rattle.tree_core.specs.Tree.{IsOf, IsSound, node_at};
     ghost use Rattle.volume_base.specs.Moments.{Image};
     ghost use Rattle.merkle_full.specs.Full.{IsBeside};
     ghost use Rattle.merkle_full.specs.Lists.{AreDigests, IsFullOf};
@@ -91,6 +92,11 @@ impl<F: Family, D: Digest> Merkle<F, D> {
         ensures ok { IsOk result }
         ensures root { IfOk result (λ d. (all : List D) → IsOf F.shape H.hash all self.now.tree →
             d ≡ root F.shape H.hash all inactive_peaks hasher.now) }
+        ensures peaks { let tree = self.now.tree in IfOk result (λ d. (ds : List D) →
+            ArePeaks F.shape tree.leaves (λ x k. node_at tree (F.shape.position x k)) ds →
+            d ≡ root_over H.hash tree.leaves ds inactive_peaks hasher.now) }
+        ensures marked { let tree = self.now.tree in IfOk result (λ d. (ps : List D) → IsMarkOf F.shape tree tree.leaves ps →
+            d ≡ root_over H.hash tree.leaves (reverse ps) inactive_peaks hasher.now) }
     {
         self.mem.root(hasher, inactive_peaks)
     }
@@ -111,6 +117,9 @@ impl<F: Family, D: Digest> Merkle<F, D> {
     /// with `AncestorDropped` where the batch's chain began at it, and else with `StaleBatch`.
     pub fn apply_batch(self, batch: &MerkleizedBatch<F, D>) -> Result<Self, Error<F>>
         ensures longer { IfOk result (λ t. IsLonger F.shape batch.now.leaves self.tree t.tree) }
+        ensures since { IfOk result (λ t. (p : ℕ) → length (made F.shape self.tree.leaves) ≤ p →
+            node_at t.tree p ≡ sealed_node F.shape batch.now p) }
+        ensures behind { IfOk result (λ t. EndsAtTree F.shape batch.now t.tree) }
         ensures beside { IfOk result (λ t. IsBeside self t) }
         ensures marked { OnOk result ((i : ℕ) × FitsTree F.shape self.tree batch.now i) }
         ensures full { IfOk result (λ t. (h : Hashing D) (all made : List D) (image : Image) →
@@ -145,6 +154,10 @@ impl<F: Family, D: Digest> Readable for Merkle<F, D> {
     ghost leaves = { λ t. t.tree.leaves };
 
     ghost told = { λ t p. node_at t.tree p };
+
+    fn leaves(&self) -> Location<F> {
+        self.mem.leaves()
+    }
 
     fn size(&self) -> Position<F> {
         self.mem.size()

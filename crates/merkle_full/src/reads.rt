@@ -6,9 +6,9 @@ use tree_core::{Digest, Error, Family, Location, MAX_LEAVES, Position};
 use volume_base::Volume;
 
 impl<F: Family, D: Digest> Merkle<F, D> {
-    ghost use Rattle.std.specs.Prelude.{◌≡◌, ◌+◌, ◌<◌, ◌≤◌, List, length, map, Some, Ok, Err, IfOk, IfErr, OnOk};
+    ghost use Rattle.std.specs.Prelude.{◌≡◌, ◌+◌, ◌<◌, ◌≤◌, List, length, map, None, Some, IsSomeAnd, Ok, Err, IfOk, IfErr, OnOk};
     ghost use Rattle.std.specs.Result.{IsErrAnd};
-    ghost use Rattle.journal_base.specs.Items.{items_of};
+    ghost use Rattle.journal_base.specs.Items.{items_of, Holds};
     ghost use Rattle.tree_shape.specs.Hashing.{Hashing};
     ghost use Rattle.tree_shape.specs.Pins.{pins};
     ghost use Rattle.tree_shape.specs.Shape.{made, peaks};
@@ -17,6 +17,7 @@ impl<F: Family, D: Digest> Merkle<F, D> {
     ghost use Rattle.volume_base.specs.Volume.{Reads};
     ghost use Rattle.tree_store.specs.Stores.{IsReadFault, IsReadRefusal, IsOutside, IsOutsideOr};
     ghost use Rattle.tree_store.specs.declared.error.Error.{Error};
+    ghost use Rattle.tree_core.specs.Tree.{node_at};
     ghost use Rattle.merkle_full.specs.Full.{IsHeld, told_at};
     ghost use Rattle.merkle_full.specs.Lists.{IsFullOf, IsNodeOf};
     ghost use Rattle.merkle_full.specs.Reading.{IsUnreadAt, IsUnreadAmong, IsPast, IsFirstUnread, peaks_answer};
@@ -37,6 +38,15 @@ impl<F: Family, D: Digest> Merkle<F, D> {
             IsFullOf F.shape h D.spelling (D.Read.admits tt) all self.now image →
             position < length (made F.shape self.now.tree.leaves) →
             IsNodeOf F.shape h all self.now.boundary position node) }
+        // Memory goes first, whatever the volume holds.
+        ensures memory { (d : D) → node_at self.now.tree position ≡ Some d →
+            (result ≡ Ok (Some d)) × (vol.new ≡ vol.old) }
+        ensures below { node_at self.now.tree position ≡ None → position < self.now.log.start →
+            (result ≡ Ok None) × (vol.new ≡ vol.old) }
+        // Else it is what the log has there, whatever else the volume holds.
+        ensures logged { let items = items_of D.spelling D.Read.admits self.now.log (V.state vol.old) in
+            IfOk result (λ node. V.tells → node_at self.now.tree position ≡ None → self.now.log.start ≤ position →
+            IsSomeAnd node (Holds items position)) }
         ensures past { length (made F.shape self.now.tree.leaves) ≤ position → V.tells →
             IsHeld F.shape D.spelling (D.Read.admits tt) self.now (present (V.state vol.old)) →
             IsErrAnd result (IsPast position) }
@@ -106,6 +116,9 @@ impl<F: Family, D: Digest> Merkle<F, D> {
         ensures nodes { IfOk result (λ nodes. V.tells → (h : Hashing D) (all : List D) →
             IsFullOf F.shape h D.spelling (D.Read.admits tt) all self.now (present (V.state vol.old)) →
             leaves ≤ length all → nodes.items ≡ map (node_of F.shape h all) (peaks F.shape leaves)) }
+        ensures told { let image = present (V.state vol.old) in
+            IfOk result (λ nodes. V.tells → IsHeld F.shape D.spelling (D.Read.admits tt) self.now image →
+            map Some nodes.items ≡ map (told_at (D.Read.reads tt) self.now image) positions.now) }
         ensures counted { IfOk result (λ nodes. length nodes.items ≡ length positions.now) }
         // Those from the boundary on are there.
         ensures outside { V.tells → (h : Hashing D) (all : List D) →
@@ -117,6 +130,7 @@ impl<F: Family, D: Digest> Merkle<F, D> {
         ensures refused { let items = items_of D.spelling D.Read.admits self.now.log (V.state vol.old) in
             IfErr result (IsUnreadAmong V.tells items positions.now) }
         ensures reads { Reads V.tells Error.Volume (V.state vol.old) (V.state vol.new) result }
+        ensures count { (V.state vol.new).reads ≤ (V.state vol.old).reads + length positions.now }
     {
         // Its leaves tell that memory is sound.
         let _leaves = self.mem.leaves();
@@ -125,7 +139,8 @@ impl<F: Family, D: Digest> Merkle<F, D> {
     }
 
     /// The peaks of a number of leaves, the oldest first. It refuses, in this order: `LocationOverflow` above `MAX_LEAVES`,
-    /// `RangeOutOfBounds` past the leaves, and `ElementPruned` the first peak that isn't there.
+    /// `RangeOutOfBounds` past the leaves, and `ElementPruned` the first peak that isn't there. It reads the log at most once for
+    /// each peak.
     pub fn pinned_nodes_at<V: Volume>(
         &self,
         vol: &mut V,
@@ -137,6 +152,10 @@ impl<F: Family, D: Digest> Merkle<F, D> {
         ensures nodes { IfOk result (λ nodes. V.tells → (h : Hashing D) (all : List D) →
             IsFullOf F.shape h D.spelling (D.Read.admits tt) all self.now (present (V.state vol.old)) →
             nodes.items ≡ map (node_of F.shape h all) (peaks F.shape loc)) }
+        ensures told { let image = present (V.state vol.old) in
+            IfOk result (λ nodes. V.tells → IsHeld F.shape D.spelling (D.Read.admits tt) self.now image →
+            map Some nodes.items ≡ map (told_at (D.Read.reads tt) self.now image) (pins F.shape loc)) }
+        ensures counted { IfOk result (λ nodes. length nodes.items ≡ length (pins F.shape loc)) }
         // Those from the boundary on are there.
         ensures kept { self.now.boundary ≤ loc → peaks_answer {F = F} self.now.tree.leaves loc ≡ Ok tt →
             V.tells → (h : Hashing D) (all : List D) →
@@ -150,6 +169,7 @@ impl<F: Family, D: Digest> Merkle<F, D> {
             peaks_answer {F = F} self.now.tree.leaves loc ≡ Ok tt →
             IfErr result (IsUnreadAmong V.tells items (pins F.shape loc)) }
         ensures reads { Reads V.tells Error.Volume (V.state vol.old) (V.state vol.new) result }
+        ensures count { (V.state vol.new).reads ≤ (V.state vol.old).reads + length (pins F.shape loc) }
     {
         let leaves = loc.as_u64();
         if leaves > MAX_LEAVES {

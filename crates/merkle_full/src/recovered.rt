@@ -4,7 +4,7 @@ ghost use Rattle.std.specs.FinMap as finmap;
 ghost use Rattle.journal_base.specs.View.{IsWithin};
 ghost use Rattle.tree_shape.specs.Hashing.{Hashing};
 ghost use Rattle.tree_shape.specs.Slow.{nodes};
-ghost use Rattle.tree_store.specs.Stored.{node_key, StandsFor};
+ghost use Rattle.tree_store.specs.Stored.{node_key, TreeStands};
 ghost use Rattle.volume_base.specs.Volume.{Reads};
 ghost use Rattle.merkle_full.specs.Recovering.{source_of, IsRecovered, AllRecovered, NotRecovered, NotAllRecovered};
 
@@ -64,7 +64,7 @@ pub(crate) fn recovered_node<F: Family, D: Digest, R: BackingRecovery<Item = D>,
     ensures node { let source = source_of D.spelling D.Read.admits map.now (R.view log.now) (V.state vol.old) in
         IfOk result (IsRecovered V.tells source position) }
     ensures list { IfOk result (λ d. V.tells → (h : Hashing D) (all : List D) (durable top : ℕ) →
-        StandsFor F.shape h D.spelling all durable top ((V.state vol.old).log (R.view log.now).name) map.now →
+        TreeStands F.shape h D.spelling all durable top ((V.state vol.old).log (R.view log.now).name) map.now →
         slice_get (nodes F.shape h all) position ≡ Some d) }
     ensures refused { let source = source_of D.spelling D.Read.admits map.now (R.view log.now) (V.state vol.old) in
         IfErr result (NotRecovered (V.tells × IsWithin (R.view log.now) (V.state vol.old)) source position) }
@@ -93,7 +93,7 @@ pub(crate) fn recovered_nodes<F: Family, D: Digest, R: BackingRecovery<Item = D>
 ) -> Result<Vec<D>, Error<F>>
     ensures counted { IfOk result (λ found. length found.items ≡ length positions.now) }
     ensures list { IfOk result (λ found. V.tells → (h : Hashing D) (all : List D) (durable top : ℕ) →
-        StandsFor F.shape h D.spelling all durable top ((V.state vol.old).log (R.view log.now).name) map.now →
+        TreeStands F.shape h D.spelling all durable top ((V.state vol.old).log (R.view log.now).name) map.now →
         (i p : ℕ) (d : D) → slice_get positions.now i ≡ Some p → slice_get found.items i ≡ Some d →
         slice_get (nodes F.shape h all) p ≡ Some d) }
     ensures recovered { let source = source_of D.spelling D.Read.admits map.now (R.view log.now) (V.state vol.old) in

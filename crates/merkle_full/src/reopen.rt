@@ -1,13 +1,13 @@
 //! Memory of a tree that is being opened.
-ghost use Rattle.std.specs.Prelude.{◌≡◌, ◌≤◌, ◌^◌, ℕ, List, length, take, is_some, IfOk, IfErr};
+ghost use Rattle.std.specs.Prelude.{◌≡◌, ◌≤◌, ◌^◌, ℕ, List, length, take, is_some, IfOk, IfErr, OnOk};
 ghost use Rattle.journal_base.specs.View.{IsWithin};
 ghost use Rattle.tree_shape.specs.Hashing.{Hashing};
 ghost use Rattle.tree_shape.specs.Shape.{made};
-ghost use Rattle.tree_store.specs.Stored.{StandsFor};
+ghost use Rattle.tree_store.specs.Stored.{TreeStands};
 ghost use Rattle.volume_base.specs.Log.{end_of};
 ghost use Rattle.volume_base.specs.Volume.{Reads};
 ghost use Rattle.tree_core.specs.Tree.{IsOf, IsSound, node_at, rests};
-ghost use Rattle.merkle_full.specs.Recovering.{source_of, NotReopened};
+ghost use Rattle.merkle_full.specs.Recovering.{source_of, ArePeaksRecovered, NotReopened};
 
 use crate::pins::pin_positions;
 use crate::recovered::recovered_nodes;
@@ -36,8 +36,11 @@ pub(crate) fn reopened<F: Family, D: Digest, R: BackingRecovery<Item = D>, V: Vo
     // For each list that map and log stand for, it is the tree of its first leaves.
     ensures list { let log = (V.state vol.old).log (R.view log.now).name in
         IfOk result (λ m. V.tells → (h : Hashing D) (all : List D) (durable top : ℕ) →
-        StandsFor F.shape h D.spelling all durable top log map.now → length (made F.shape complete) ≤ end_of log →
+        TreeStands F.shape h D.spelling all durable top log map.now → length (made F.shape complete) ≤ end_of log →
         IsOf F.shape h (take complete all) m) }
+    ensures peaks { let source = source_of D.spelling D.Read.admits map.now (R.view log.now) (V.state vol.old) in
+        let known = V.tells × IsWithin (R.view log.now) (V.state vol.old) in
+        OnOk result (ArePeaksRecovered known source F.shape complete pruned) }
     ensures refused { let source = source_of D.spelling D.Read.admits map.now (R.view log.now) (V.state vol.old) in
         let known = V.tells × IsWithin (R.view log.now) (V.state vol.old) in
         IfErr result (NotReopened known source F.shape complete pruned) }

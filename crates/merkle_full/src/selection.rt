@@ -9,6 +9,7 @@ use tree_core::{Error, Family, Location, MAX_LEAVES, Position, TreeData};
 use volume_base::{JournalError, MetaMap};
 
 /// How many leaves a tree is opened at, and at how many it is pruned.
+#[derive(Drop)]
 pub(crate) struct Selection {
     pub(crate) complete: u64,
     pub(crate) pruned: u64,

@@ -3,7 +3,7 @@ use Rattle.std.proofs.lemmas.Bool.{cases_lt}
 use Rattle.std.proofs.lemmas.Option.{slice_get_read, slice_get_within, same_Some}
 use Rattle.std.specs.Prelude.{slice_get}
 use Rattle.tree_shape.specs.Slow.{nodes}
-use Rattle.tree_store.specs.Stored.{StandsFor}
+use Rattle.tree_store.specs.Stored.{TreeStands}
 use Rattle.volume_base.specs.Log.{Log}
 use Rattle.volume_base.proofs.ReadLemmas.{only_read_joins}
 use Rattle.journal_base.specs.View.{IsWithin}
@@ -27,7 +27,7 @@ loop-i-preserved g c =
       counted = omega (arith, ap length pushed, length-append c.loop-i.found.items (c.in_ok-node.node ∷ []), c.loop-i.invariant.counted);
       list = λ told h all durable top stands.
           let log = (c.loop-i.invariant.so_far.contents told).logs view.name in
-          let now = subst (λ (l : Log). StandsFor g.F.Family.shape h g.D.Spelled.spelling all durable top l c.args.map.now) (sym log) stands in
+          let now = subst (λ (l : Log). TreeStands g.F.Family.shape h g.D.Spelled.spelling all durable top l c.args.map.now) (sym log) stands in
           nodes_more (nodes g.F.Family.shape h all) c.args.positions.now c.loop-i.found.items _ c.loop-i.i c.as_u64-position.result c.in_ok-node.node c.loop-i.invariant.counted pushed (at ∙ ap Some (sym place))
           (did.list told h all durable top now) (c.loop-i.invariant.list told h all durable top stands);
       recovered = λ i p lt is. elim (cases_lt i c.loop-i.i) [

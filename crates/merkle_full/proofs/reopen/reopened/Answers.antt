@@ -4,14 +4,13 @@ use Rattle.tree_shape.specs.Shape.{made, peaks}
 use Rattle.tree_shape.specs.Slow.{node_of}
 use Rattle.volume_base.specs.Log.{Log}
 use Rattle.tree_core.specs.Pruned.{nodes_from}
-use Rattle.tree_core.specs.Tree.{rests}
+use Rattle.tree_core.specs.Tree.{rests, NotBuilt}
 use Rattle.tree_core.proofs.Since.{nothing_since}
-use Rattle.tree_store.specs.Stored.{StandsFor}
-use Rattle.merkle_full.proofs.ReopenLemmas.{same_size, peaks_are, stands_long, built_outside, first_before}
+use Rattle.tree_store.specs.Stored.{TreeStands}
+use Rattle.merkle_full.proofs.ReopenLemmas.{same_size, peaks_are, stands_long, built_outside, first_before, all_before}
 use Rattle.merkle_full.proofs.GrownLemmas.{err_same, memory_alone, reads_ok}
 use Rattle.merkle_full.proofs.PeakLemmas.{pin_count}
 use Rattle.volume_base.proofs.ReadLemmas.{only_read_none, only_read_joins, reads_of}
-use Rattle.tree_core.specs.Tree.{NotBuilt}
 use Rattle.merkle_full.specs.Recovering.{source_of, AllRecovered, NotAllRecovered, NotReopened}
 use Rattle.journal_base.specs.View.{IsWithin}
 use Rattle.merkle_full.proofs.reopen.reopened.Goals as goal
@@ -43,7 +42,7 @@ returns-clause-list g c tells h all durable top stands fits =
     let second = c.in_ok-pins.ensures {u = tt} in
     let one = peaks_are s h all c.in_ok-peaks.peaks.items c.deref.result.now n n g.met.F.Family.lawful (omega arith) long (c.deref.ensures.value ∙ c.in_ok-leaf_positions.ensures {u = tt}) first.counted (first.list tells h all durable top stands) in
     let log = (first.reads.contents tells).logs (g.R.BackingRecovery.view c.args.log.now).name in
-    let later = subst (λ (l : Log). StandsFor s h spelling all durable top l c.args.map.now) (sym log) stands in
+    let later = subst (λ (l : Log). TreeStands s h spelling all durable top l c.args.map.now) (sym log) stands in
     let two = peaks_are s h all c.in_ok-pins.pins.items c.deref-2.result.now c.args.pruned n g.met.F.Family.lawful c.requires.within long (c.deref-2.ensures.value ∙ c.in_ok-positions.ensures {u = tt}) second.counted (second.list tells h all durable top later) in
     let none : c.in_ok-mem.mem.leaves - c.new-2.result ≡ 0 = omega (arith, leaves, c.new-2.ensures) in
     let built = (c.in_ok-mem.ensures {u = tt}).tree h front (leaves ∙ sym count) (one ∙ ap (λ b. map (node_of s h front) (peaks s b)) (sym c.new-2.ensures))
@@ -107,3 +106,18 @@ returns-clause-reads g c =
     let one = only_read_joins _ _ _ _ _ _ (only_read_none g.V.Volume.tells old) (c.in_ok-peaks.ensures {u = tt}).reads in
     let two = only_read_joins _ _ _ _ _ _ one (c.in_ok-pins.ensures {u = tt}).reads in
     reads_ok _ _ _ _ _ two
+
+pub returns-clause-peaks : goal.returns-clause-peaks
+returns-clause-peaks g c =
+    let view = g.R.BackingRecovery.view c.args.log.now in
+    let old = g.V.Volume.state c.args.vol.now in
+    let new = g.V.Volume.state c.recovered_nodes.new.vol in
+    let known = g.V.Volume.tells × IsWithin view old in
+    let source = source_of g.D.Spelled.spelling g.D.Read.admits c.args.map.now view old in
+    let first = c.in_ok-peaks.ensures {u = tt} in
+    let second = c.in_ok-pins.ensures {u = tt} in
+    let then = all_before g.V.Volume.tells g.D.Spelled.spelling g.D.Read.admits c.args.map.now view old new first.reads.contents c.deref-2.result.now second.recovered in
+    record {
+      of_leaves = subst (λ (ps : List ℕ). AllRecovered known source ps) (c.deref.ensures.value ∙ c.in_ok-leaf_positions.ensures {u = tt}) first.recovered;
+      of_boundary = subst (λ (ps : List ℕ). AllRecovered known source ps) (c.deref-2.ensures.value ∙ c.in_ok-positions.ensures {u = tt}) then;
+    }

@@ -1,7 +1,7 @@
 use Rattle.std.proofs.Common.{◌≡◌, ◌≤◌, ◌<◌, ◌-◌, ℕ, length, Some, None, Err, refl, sym, ◌∙◌, ap, subst, arith}
 use Rattle.std.specs.String.{string_bytes}
 use Rattle.std.proofs.lemmas.Option.{slice_get_within}
-use Rattle.journal_base.specs.Items.{items_of, IsCorrupt}
+use Rattle.journal_base.specs.Items.{items_of, Holds, IsCorrupt}
 use Rattle.journal_base.specs.View.{view_of}
 use Rattle.tree_shape.specs.Shape.{made}
 use Rattle.tree_shape.proofs.NeededLemmas.{made_le}
@@ -83,3 +83,8 @@ returns-clause-past g c le tells held =
     let log : Log = (g.V.Volume.state c.args.vol.now).log (string_bytes c.self.inside.nodes.name) in
     let within : c.as_u64-place.result - log.start < length log.items = slice_get_within log.items (c.as_u64-place.result - log.start) (g.D.Spelled.spelling c.in_ok-node.node) item.here in
     absurd (omega (arith, here.end_is, made_le s _ _ c.self.invariant.sound.within, past, c.as_u64-place.ensures, item.low, within))
+
+pub returns-clause-logged : goal.returns-clause-logged
+returns-clause-logged g c tells none low =
+    let here = subst (λ (p : ℕ). Holds (items_of g.D.Spelled.spelling g.D.Read.admits (view_of c.self.inside.nodes) (g.V.Volume.state c.args.vol.now)) p c.in_ok-node.node) c.as_u64-place.ensures ((c.in_ok-node.ensures {u = tt}).item tells) in
+    subst (λ (t : Full g.row.D.Denot). Holds (items_of g.D.Spelled.spelling g.D.Read.admits t.log (g.V.Volume.state c.args.vol.now)) c.args.position c.in_ok-node.node) c.self.view_is here

@@ -5,8 +5,7 @@ use Rattle.volume_base.specs.Moments.{Image, present}
 use Rattle.volume_base.proofs.ReadLemmas.{only_read_joins}
 use Rattle.journal_base.specs.Items.{items_of}
 use Rattle.tree_shape.specs.Shape.{made}
-use Rattle.tree_store.proofs.StoreLemmas.{same_present, first_absent}
-use Rattle.tree_verification.proofs.NodeLemmas.{told-next}
+use Rattle.tree_store.proofs.StoreLemmas.{same_present, first_absent, told-next}
 use Rattle.tree_core.specs.Tree.{IsSound}
 use Rattle.merkle_full.specs.Full.{Full, IsHeld, told_at}
 use Rattle.merkle_full.specs.Reading.{IsUnreadAt, IsUnreadAmong, IsFirstUnread}

@@ -1,11 +1,9 @@
-use Rattle.std.proofs.Common.{◌≡◌, ◌<◌, ◌≤◌, ℕ, List, Ok, Err, length, sym, ◌∙◌, ap, subst, arith}
-use Rattle.std.specs.Prelude.{Result}
+use Rattle.std.proofs.Common.{◌≡◌, ◌<◌, ◌≤◌, ℕ, Err, sym, ◌∙◌, ap, subst, arith}
 use Rattle.volume_base.specs.Moments.{present}
 use Rattle.tree_proof.specs.Cover.{meets}
-use Rattle.tree_store.specs.declared.error.Error.{Error}
-use Rattle.tree_verification.specs.Ranges.{cover_positions, range_answer}
+use Rattle.tree_verification.specs.Ranges.{cover_positions}
 use Rattle.merkle_full.specs.Full.{Full, IsKept, told_at}
-use Rattle.merkle_full.specs.Proving.{history_answer, IsProved}
+use Rattle.merkle_full.specs.Proving.{history_answer}
 use Rattle.merkle_full.proofs.FullLemmas.{held_of_full, told_tree}
 use Rattle.merkle_full.proofs.ProvedLemmas.{history_past, history_within, range_in, cover_told, if_outside, on_answer, proved_refused}
 use Rattle.tree_verification.proofs.NodeLemmas.{ok_gives}

@@ -1,0 +1,29 @@
+use Rattle.std.proofs.Common.{◌≡◌, ◌++◌, ◌∷◌, [], List, subst, sym, arith}
+use Rattle.tree_core.specs.Batches.{Unsealed, IsUnsealedOf, IsSealedFrom, with_digests}
+use Rattle.tree_core.specs.Tree.{IsOf}
+use Rattle.tree_core.proofs.ChainLemmas.{own_fits, refused_fitting}
+use Rattle.merkle_full.proofs.GrownLemmas.{err_same}
+use Rattle.merkle_full.proofs.OrphanLemmas.{leaf_joined}
+use Rattle.tree_store.specs.declared.error.Error.TheVariants.{Memory}
+use Rattle.merkle_full.proofs.orphan.with_leaf.Goals as goal
+
+pub returns-in_err-apply_batch-clause-memory : goal.returns-in_err-apply_batch-clause-memory
+returns-in_err-apply_batch-clause-memory g c =
+    let s = g.F.Family.shape in
+    let e = c.in_err-apply_batch.field-0.0 in
+    let b = c.in_ok-batch.batch in
+    let from = subst (λ (u : Unsealed _). IsSealedFrom u 0 c.in_ok-sealed.sealed) (c.in_ok-add_leaf_digest.ensures {u = tt}).ok (c.in_ok-sealed.ensures {u = tt}).sealed in
+    let fits = own_fits s c.args.mem (with_digests b (c.args.leaf ∷ [])) 0 c.in_ok-sealed.sealed (omega arith) from (c.in_ok-batch.ensures {u = tt}).marked.1 in
+    err_same _ e (λ d. d ≡ Memory) c.from_residual-in_err-apply_batch.ensures.1 (refused_fitting s c.args.mem c.in_ok-sealed.sealed 0 e fits c.in_err-apply_batch.ensures.answer)
+
+pub returns-clause-tree : goal.returns-clause-tree
+returns-clause-tree g c all tree =
+    let s = g.F.Family.shape in
+    let h = g.H.Hasher.hash in
+    let b = c.in_ok-batch.batch in
+    let grown = (c.in_ok-add_leaf_digest.ensures {u = tt}).ok in
+    let begun = (c.in_ok-batch.ensures {u = tt}).batch h all tree in
+    let more : IsUnsealedOf s h all (with_digests b (c.args.leaf ∷ [])) = record { batch = begun.batch; base = begun.base } in
+    let sealed = (c.in_ok-sealed.ensures {u = tt}).batch all (subst (λ (u : Unsealed _). IsUnsealedOf s h all u) (sym grown) more) in
+    let made = (c.in_ok-apply_batch.ensures {u = tt}).tree h all (all ++ c.add_leaf_digest.new.self.digests) tree sealed in
+    subst (λ (l : List _). IsOf s h l c.apply_batch.new.self) (leaf_joined all b c.add_leaf_digest.new.self c.args.leaf grown (c.in_ok-batch.ensures {u = tt}).begins.digests) made

@@ -1,0 +1,35 @@
+use Rattle.std.proofs.Common.{◌≡◌, ℕ, List, Err, length, take, subst, sym, ◌∙◌, ap, arith}
+use Rattle.journal_base.specs.Items.{items_of}
+use Rattle.tree_core.specs.Tree.{IsOf}
+use Rattle.tree_shape.specs.Shape.{made}
+use Rattle.merkle_full.specs.Preparing.{NotReached}
+use Rattle.merkle_full.proofs.OpeningLemmas.{node_in_log}
+use Rattle.merkle_full.proofs.OrphanLemmas.{ok_both, orphan_next, not_reached}
+use Rattle.merkle_full.proofs.orphan.with_orphan.Goals as goal
+
+pub returns-in-Ok-clause-list : goal.returns-in-Ok-clause-list
+returns-in-Ok-clause-list g c = ok_both _ _ _ c.with_leaf.result
+    (λ m leaves tree told all durable top pins stands first.
+    let s = g.F.Family.shape in
+    let h = g.H.Hasher.hash in
+    let n = c.args.mem.leaves in
+    let place : c.size-position.result ≡ length (made s n) = c.size-position.ensures ∙ ap (λ (k : ℕ). length (made s k)) (c.as_u64-leaves.ensures ∙ c.leaves.ensures.leaves) in
+    let here = node_in_log s h g.D.Spelled.spelling all durable top c.size-position.result _ pins c.in-Ok.leaf
+    (λ a b same. g.met.D.Digest.exact a b (sym (g.met.D.Digest.spelled a) ∙ same ∙ g.met.D.Digest.spelled b)) stands (c.in-Ok.ensures.item told) in
+    let next = orphan_next s h all n c.size-position.result c.in-Ok.leaf place here in
+    subst (λ (l : List _). IsOf s h l m) (sym (ap (λ (k : ℕ). take k all) leaves ∙ next)) (tree (take n all) first))
+    c.with_leaf.ensures.leaves c.with_leaf.ensures.tree
+
+pub returns-in-Err-clause-refused : goal.returns-in-Err-clause-refused
+returns-in-Err-clause-refused g c told within low =
+    let s = g.F.Family.shape in
+    let n = c.args.mem.leaves in
+    let view = g.R.BackingRecovery.view c.args.log.now in
+    let leaves : c.as_u64-leaves.result ≡ n = c.as_u64-leaves.ensures ∙ c.leaves.ensures.leaves in
+    let place : c.size-position.result ≡ length (made s n) = c.size-position.ensures ∙ ap (λ (k : ℕ). length (made s k)) leaves in
+    let items = items_of g.D.Spelled.spelling g.D.Read.admits view (g.V.Volume.state c.args.vol.now) in
+    subst (NotReached items s c.args.cap view.end n) (sym c.from.ensures)
+    (not_reached items s c.args.cap view.start view.end n c.size-position.result c.in-Err.error place (omega (arith, leaves)) (omega (arith, c.bounds-end.ensures.end)) low
+    (λ p is. (c.in-Err.ensures.pruned p (ap Err is)).1 told within)
+    (λ p is. (c.in-Err.ensures.out_of_range p (ap Err is)).1 told within)
+    (λ p is. let bad = c.in-Err.ensures.corrupt p (ap Err is) in (bad.0, bad.3 told)) c.in-Err.ensures.errors)

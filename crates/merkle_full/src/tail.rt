@@ -1,0 +1,35 @@
+//! The nodes that memory has from a position on.
+ghost use Rattle.std.specs.Prelude.{◌≡◌, ◌⊎◌, ℕ, ◌-◌, ◌<◌, ◌≤◌, List, length, drop, None, IsOk, IfOk, IfErr};
+ghost use Rattle.tree_shape.specs.Hashing.{Hashing};
+ghost use Rattle.tree_shape.specs.Shape.{made};
+ghost use Rattle.tree_shape.specs.Slow.{nodes};
+ghost use Rattle.tree_core.specs.Tree.{node_at, IsOf};
+
+use std::alloc::Global;
+use tree_core::{Digest, Error, Family, Mem, Position};
+
+/// The nodes of a tree in memory from a position to its end. It refuses the first that memory doesn't have with `MissingNode`.
+pub(crate) fn nodes_from<F: Family, D: Digest>(
+    alloc: Global,
+    mem: &Mem<F, D>,
+    first: u64,
+) -> Result<Vec<D>, Error<F>>
+    ensures counted { IfOk result (λ tail. length tail.items ≡ length (made F.shape mem.now.leaves) - first) }
+    ensures tree { IfOk result (λ tail. (h : Hashing D) (all : List D) → IsOf F.shape h all mem.now →
+        tail.items ≡ drop first (nodes F.shape h all)) }
+    ensures missing { IfErr result (λ e. (e ≡ Error.Memory)
+        ⊎ ((p : ℕ) × (first ≤ p) × (p < length (made F.shape mem.now.leaves))
+        × (node_at mem.now p ≡ None) × (e ≡ Error.MissingNode p))) }
+    // Of no nodes it takes no memory.
+    ensures idle { length (made F.shape mem.now.leaves) ≤ first → IsOk result }
+{
+    let size = mem.size().as_u64();
+    let mut tail = Vec::new(alloc);
+    for position in first..size {
+        match mem.get_node(Position::new(position)) {
+            Some(node) => tail.push(node)?,
+            None => return Err(Error::MissingNode(Position::new(position))),
+        }
+    }
+    Ok(tail)
+}
