@@ -28,7 +28,7 @@ module _ {F D : Type 0} where
     pub before : IsBefore items start found.position size found.before
     pub here : IsHere items end found.position size found.here
 
--- Of so many items it has looked at no more than a search by halving does, once at each.
+-- Of so many items it has read no more than a search by halving does.
 pub record LooksFew (items : ℕ) (old new : State) : Type 0 where
   pub looks : ℕ
   pub counted : new.reads ≤ old.reads + looks

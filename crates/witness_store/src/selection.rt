@@ -1,5 +1,5 @@
 //! The witness at which a log is opened.
-ghost use Rattle.std.specs.Prelude.{◌≡◌, ◌<◌, ◌-◌, ℕ, List, MatchOption, IfOk, IfErr, IsErrOf};
+ghost use Rattle.std.specs.Prelude.{◌<◌, ◌-◌, ℕ, List, MatchOption, IfOk, IfErr, IsErrOf};
 ghost use Rattle.journal_base.specs.Answers.{IsOfRead};
 ghost use Rattle.journal_base.specs.Items.{IsCorrupt};
 ghost use Rattle.journal_base.specs.View.{IsHeld, IsWithin};
@@ -13,8 +13,8 @@ use crate::{Found, Witness, Witnesses, first_at_or_above};
 use tree_shape::{Digest, Family, Location, MAX_LEAVES};
 use volume_base::{JournalError, Volume};
 
-/// The last witness of at most so many operations, or without a cap the last of all, and the end behind it. Nothing, where
-/// the first is of more.
+/// A witness of at most so many operations, behind which one of more stands, or the end; without a cap the last of all; and the
+/// end behind it. Where sizes rise it is the last within the cap. Nothing only where the first witness is of more.
 pub fn select<F: Family, D: Digest, R: Witnesses<F, D>, V: Volume>(
     reader: &R,
     vol: &mut V,

@@ -4,7 +4,8 @@ use Rattle.journal_base.proofs.ItemLemmas.{corrupt_here}
 use Rattle.journal_base.proofs.MatchLemmas.{within_later}
 use Rattle.witness_store.specs.Searched.{LooksFew}
 use Rattle.witness_store.specs.Witness.{text_of, IsAllowed}
-use Rattle.witness_store.proofs.SearchLemmas.{none_looked, one_looked, looked, witness_here, is_first}
+use Rattle.witness_store.proofs.KeptLemmas.{kept_first}
+use Rattle.witness_store.proofs.SearchLemmas.{none_looked, one_looked, looked, witness_here, is_first, within_of_held}
 use Rattle.witness_store.proofs.search.first_at_or_above.Goals as goal
 
 pub loop-low-init : goal.loop-low-init
@@ -94,6 +95,10 @@ returns-clause-found g c told within =
     let ordered : c.span-start.result.0 ≤ c.span-start.result.1 = omega (arith, start, end, within.low) in
     let met : c.loop-low.high ≡ c.loop-low.low = omega (arith, c.loop-low.invariant.between ordered) in
     is_first _ _ _ _ _ _ _ _ start end met c.loop-low.invariant.low c.loop-low.invariant.high (c.loop-low.invariant.before told) (c.loop-low.invariant.here told)
+
+pub returns-clause-listed : goal.returns-clause-listed
+returns-clause-listed g c told held ws keeps =
+    kept_first g.D.Spelled.spelling (g.D.Read.admits tt) (g.D.Read.reads tt) (g.met.D.Read.lawful tt) _ _ ws held keeps c.args.size _ (returns-clause-found g c told (within_of_held _ _ held))
 
 pub returns-clause-answers : goal.returns-clause-answers
 returns-clause-answers g c = reads_of _ _ _ _ _ c.loop-low.invariant.so_far (λ is. search rules)
