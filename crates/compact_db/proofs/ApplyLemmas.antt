@@ -1,0 +1,50 @@
+-- The last operation of a batch, and what an apply may build on.
+use Rattle.std.proofs.Common.{◌≡◌, ℕ, zero, suc, ◌-◌, ◌<◌, ◌≤◌, List, [], ◌∷◌, length, drop, get_or, Option, Some, sym, ◌∙◌, ap, arith}
+use Rattle.std.specs.Prelude.{slice_get, Result, Ok, Err, IfOk}
+
+-- what holds whatever is answered
+pub always : {A E X : Type 0} (r : Result A E) → X → IfOk r (λ a. X)
+always (Ok a) x = x
+always (Err e) x = tt
+
+-- what two facts of an answer give
+pub both : {A E : Type 0} (r : Result A E) (P Q R : A → Type 0) → IfOk r P → IfOk r Q → ((a : A) → P a → Q a → R a) → IfOk r R
+both (Ok a) P Q R p q give = give a p q
+both (Err e) P Q R p q give = tt
+
+-- one thing stands in one place
+pub one_item : {X : Type 0} (o : Option X) (x y : X) → o ≡ Some x → o ≡ Some y → x ≡ y
+one_item o x y p q = let e : Some x ≡ Some y = sym p ∙ q in cc
+
+pub read_some : {X : Type 0} (xs : List X) (i : ℕ) (x d : X) → i < length xs → x ≡ get_or xs i d → slice_get xs i ≡ Some x
+read_some [] i x d lt e = absurd (omega (arith, lt))
+read_some (y ∷ xs) zero x d lt e = ap Some (sym e)
+read_some (y ∷ xs) (suc i) x d lt e = read_some xs i x d (omega (arith, lt)) e
+
+none_left : (X : Type 0) (k : ℕ) → 0 < length (let xs : List X = drop k [] in xs) → ⊥
+none_left X zero lt = omega (arith, lt)
+none_left X (suc k) lt = omega (arith, lt)
+
+-- the last of a rest is the last of all
+pub last_of_rest : {X : Type 0} (n : ℕ) (xs : List X) (x : X) → 0 < length (drop n xs) → slice_get (drop n xs) (length (drop n xs) - 1) ≡ Some x
+    → slice_get xs (length xs - 1) ≡ Some x
+last_of_rest zero xs x some e = e
+last_of_rest (suc n) [] x some e = absurd (omega (arith, some))
+last_of_rest {X} (suc n) (y ∷ []) x some e = absurd (none_left X n some)
+last_of_rest (suc n) (y ∷ z ∷ xs) x some e =
+    let k : length (y ∷ z ∷ xs) - 1 ≡ suc (length (z ∷ xs) - 1) = omega arith in
+    rw k (last_of_rest n (z ∷ xs) x some e)
+
+-- what is read last of a rest is the last of all
+pub last_read : {X : Type 0} (xs list : List X) (n : ℕ) (x d : X) → xs ≡ drop n list → 1 ≤ length xs → x ≡ get_or xs (length xs - 1) d
+    → slice_get list (length list - 1) ≡ Some x
+last_read xs list n x d rest some is =
+    let count : length xs ≡ length (drop n list) = ap length rest in
+    let read : slice_get xs (length xs - 1) ≡ Some x = read_some xs (length xs - 1) x d (omega (arith, some)) is in
+    last_of_rest n list x (omega (arith, count, some))
+    (sym (ap (λ k. slice_get xs (k - 1)) count ∙ ap (λ ys. slice_get ys (length (drop n list) - 1)) rest)
+    ∙ read)
+
+pub for_each : {A E : Type 0} (r : Result A E) (R : A → Type 0) → ((a : A) → R a) → IfOk r R
+for_each (Ok a) R give = give a
+for_each (Err e) R give = tt

@@ -1,0 +1,9 @@
+pub mod PinLemmas
+pub mod WitnessLemmas
+pub mod ListLemmas
+pub mod SealLemmas
+pub mod PlaceLemmas
+pub mod RebuildLemmas
+pub mod DbLemmas
+pub mod HeldLemmas
+pub mod ApplyLemmas

@@ -1,0 +1,67 @@
+use Rattle.std.proofs.Common.{◌≡◌, ◌+◌, refl, List, ◌++◌, length, sym, ◌∙◌, ap, subst}
+use Rattle.tree_core.specs.Batches.{IsSealedOf, IsUnsealedOf}
+use Rattle.log_model.specs.Operations.{floor_of, leaves_from, root_of}
+use Rattle.chain_core.specs.declared.commitment.Commitment.{Commitment}
+use Rattle.compact_db.specs.Batches.{UnmerkleizedView}
+use Rattle.compact_db.specs.Sealing.{IsEnded, StandsAt}
+use Rattle.compact_db.proofs.PlaceLemmas.{told_by, may_here, sealed_with}
+use Rattle.compact_db.proofs.batch.UnmerkleizedBatch.seal.Goals as goal
+
+pub returns-in-Err-clause-refused : goal.returns-in-Err-clause-refused
+returns-in-Err-clause-refused g c =
+    let at : StandsAt c.args.pool.now c.args.self c.args.below c.in-Ok.place =
+    subst (λ (b : UnmerkleizedView g.row.F.Denot g.row.H-Digest.Denot g.row.O.Denot). StandsAt c.args.pool.now b c.args.below c.in-Ok.place)
+    c.self.view_is c.in-Ok.ensures.place in
+    told_by g.H.Digest.Digest.bytes c.args.pool.now c.args.self c.args.current.now c.args.below c.args.floor _ _
+    c.in-Ok.place c.in-Err.error at (c.as_u64-size.ensures ∙ c.size.ensures.size) (c.new.ensures ∙ c.as_u64.ensures)
+    c.in-Err.ensures.refused
+
+pub returns-clause-sealed : goal.returns-clause-sealed
+returns-clause-sealed g c =
+    let size = c.as_u64-size.ensures ∙ c.size.ensures.size in
+    let at : StandsAt c.args.pool.now c.args.self c.args.below c.in-Ok.place =
+    subst (λ (b : UnmerkleizedView g.row.F.Denot g.row.H-Digest.Denot g.row.O.Denot). StandsAt c.args.pool.now b c.args.below c.in-Ok.place)
+    c.self.view_is c.in-Ok.ensures.place in
+    record {
+      place = c.in-Ok.place;
+      place_of = at;
+      may = may_here g.H.Digest.Digest.bytes c.args.current.now c.in-Ok.place _ _ _ _ size (c.new.ensures ∙ c.as_u64.ensures)
+          c.in-Ok-check.ensures.refused;
+      base = ap (λ (b : UnmerkleizedView g.row.F.Denot g.row.H-Digest.Denot g.row.O.Denot). b.base) c.self.view_is;
+      db = refl;
+      ancestors = refl;
+      size = c.new-3.ensures.size ∙ c.new-2.ensures ∙ c.in-Ok-check.ensures.tip ∙ ap (λ n. n + 1) size;
+      floor_is = refl;
+    }
+
+pub returns-clause-list : goal.returns-clause-list
+returns-clause-list g c list of chain =
+    let s = g.F.Family.shape in
+    let h = g.H.Hasher.hash in
+    let m = g.O.Logged.meaning in
+    let size = c.as_u64-size.ensures ∙ c.size.ensures.size in
+    let at : StandsAt c.args.pool.now c.args.self c.args.below c.in-Ok.place =
+    subst (λ (b : UnmerkleizedView g.row.F.Denot g.row.H-Digest.Denot g.row.O.Denot). StandsAt c.args.pool.now b c.args.below c.in-Ok.place)
+    c.self.view_is c.in-Ok.ensures.place in
+    let base : c.self.inside.base ≡ c.args.self.base =
+    ap (λ (b : UnmerkleizedView g.row.F.Denot g.row.H-Digest.Denot g.row.O.Denot). b.base) c.self.view_is in
+    let begins : c.self.inside.tree.base ≡ length list =
+    c.self.invariant.base_is ∙ ap (λ (b : Commitment g.row.F.Denot g.row.H-Digest.Denot). b.size) (base ∙ of.base) in
+    let goes : IsUnsealedOf s h (leaves_from s h m 0 list) c.self.inside.tree =
+    subst (IsUnsealedOf s h (leaves_from s h m 0 list))
+    (sym (ap (λ (b : UnmerkleizedView g.row.F.Denot g.row.H-Digest.Denot g.row.O.Denot). b.tree) c.self.view_is)) of.tree in
+    let ops = c.in-Ok-ended.operations.items in
+    let ended : IsEnded m c.args.self.pending c.args.metadata c.args.floor ops =
+    subst (λ n. IsEnded m c.args.self.pending c.args.metadata n ops) c.as_u64-2.ensures
+    (subst (λ (b : UnmerkleizedView g.row.F.Denot g.row.H-Digest.Denot g.row.O.Denot). IsEnded m b.pending c.args.metadata c.as_u64-2.result ops)
+    c.self.view_is c.in-Ok-ended.ensures.ended) in
+    let tree : IsSealedOf s h (leaves_from s h m 0 (list ++ ops)) c.in_ok-tree.tree =
+    subst (λ (os : List g.row.O.Denot). IsSealedOf s h (leaves_from s h m 0 (list ++ os)) c.in_ok-tree.tree) c.deref.ensures.value
+    (c.in_ok-tree.ensures.tree list begins goes) in
+    sealed_with s h m list c.args.pool.now c.args.self c.args.below c.in-Ok.place at of chain g.H.Digest.Digest.bytes c.args.current.now
+    _ _ c.args.floor c.in-Ok-check.ensures.refused size ops c.args.metadata ended c.in_ok-tree.tree c.new-3.result
+    (c.new-3.ensures.size ∙ c.new-2.ensures ∙ c.in-Ok-check.ensures.tip) tree
+    (λ last. c.new-3.ensures.root ∙ c.in_ok-tree.ensures.root list begins goes
+    (c.new-below_tip.ensures ∙ c.as_u64-3.ensures ∙ last ∙ ap (λ (os : List g.row.O.Denot). floor_of m (list ++ os)) (sym c.deref.ensures.value))
+    ∙ ap (λ (os : List g.row.O.Denot). root_of s h m (list ++ os)) c.deref.ensures.value)
+    c.self.inside.base c.from_vec.result base c.from_vec.ensures

@@ -1,0 +1,42 @@
+use Rattle.std.proofs.Common.{ℕ, ◌+◌, List, [], ◌∷◌, ◌++◌, length, map, refl, sym, ◌∙◌, ap, subst, arith}
+use Rattle.log_model.specs.Operations.{floor_of, leaves_from}
+use Rattle.log_model.proofs.OperationLemmas.{leaves_from-append}
+use Rattle.tree_core.specs.Batches.{IsSealedOf}
+use Rattle.tree_core.specs.Tree.{Tree, IsOf}
+use Rattle.compact_db.specs.DbView.{DbView, seen_log}
+use Rattle.compact_db.specs.Held.{IsHeldFor}
+use Rattle.compact_db.specs.StateOf.{IsRestored}
+use Rattle.compact_db.specs.WitnessOf.{witness_of}
+use Rattle.compact_db.proofs.DbLemmas.{size_of_list}
+use Rattle.compact_db.proofs.HeldLemmas.{grown_state, grown_held, allowed_tip, last_below, ends_some}
+use Rattle.compact_db.proofs.database.CompactDb.grown.Goals as goal
+
+pub returns-clause-list : goal.returns-clause-list
+returns-clause-list g c ops more told sealed ends few at =
+    let s = g.F.Family.shape in
+    let h = g.H.Hasher.hash in
+    let m = g.O.Logged.meaning in
+    let whole = leaves_from-append s h m 0 ops more in
+    let tree : IsOf s h (leaves_from s h m 0 ops) c.self.inside.merkle =
+    subst (λ (t : Tree g.row.H-Digest.Denot). IsOf s h (leaves_from s h m 0 ops) t)
+    (sym (ap (λ (d : DbView g.row.F.Denot g.row.H-Digest.Denot g.row.O.Denot g.row.O-Cfg.Denot). d.tree) c.self.view_is)) told.tree_of in
+    grown_state s h m ops more c.args.commit c.in_ok-tip.tip c.in_ok-tip.merkle ends few at
+    (subst (λ ds. IsRestored s h ds (m.encoding c.args.commit) (floor_of m (c.args.commit ∷ [])) (c.in_ok-tip.tip, c.in_ok-tip.merkle)) (sym whole)
+    (c.in_ok-tip.ensures.list (leaves_from s h m 0 ops) (leaves_from s h m (0 + length ops) more) tree
+    (subst (λ ds. IsSealedOf s h ds c.args.batch.now) whole sealed)))
+
+pub returns-clause-held : goal.returns-clause-held
+returns-clause-held g c told ops more sizes was is lt =
+    let s = g.F.Family.shape in
+    let h = g.H.Hasher.hash in
+    let m = g.O.Logged.meaning in
+    let hashed = λ (bytes : List ℕ). g.met.H.Digest.Digest.allowed (h.digest bytes)
+    (ap length (sym (g.met.H.Hasher.same_bytes (h.digest bytes))) ∙ g.met.H.Hasher.one_size bytes) in
+    let allowed = allowed_tip s h m g.met.F.Family.lawful g.met.F.Family.few_peaks (g.H.Digest.Read.admits tt) hashed (ops ++ more) c.in_ok-tip.tip c.in_ok-tip.merkle c.args.commit is c.in_ok-tip.ensures.short in
+    let was2 = subst (λ (d : DbView g.row.F.Denot g.row.H-Digest.Denot g.row.O.Denot g.row.O-Cfg.Denot). IsHeldFor s h m g.H.Digest.Spelled.spelling (g.H.Digest.Read.admits tt) ops sizes d (g.V.Volume.state c.args.vol.now))
+    (sym c.self.view_is) was in
+    let size = size_of_list s h m (ops ++ more) c.in_ok-tip.tip c.in_ok-tip.merkle c.args.commit is in
+    let below = last_below g.row.F.Denot s h m ops sizes (seen_log c.self.inside.log).start c.in_ok-tip.tip.witness.size was.last (omega (arith, size, lt)) in
+    grown_held s h m g.met.F.Family.lawful g.H.Digest.Spelled.spelling (g.H.Digest.Read.admits tt) _ (g.V.Volume.state c.extended.new.vol) (seen_log c.self.inside.log)
+    c.in_ok-store.ensures.same refl (c.in_ok-store.ensures.held told) ops more sizes (ends_some m ops was.list.ends) is was.within
+    (c.in_ok-store.ensures.keeps was2.opened told was2.bounds (map (witness_of s h m ops) sizes) was2.witnesses allowed below)

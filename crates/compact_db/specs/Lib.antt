@@ -1,0 +1,10 @@
+pub mod WitnessOf
+pub mod Verified
+pub mod Keyless
+pub mod Rebuild
+pub mod StateOf
+pub mod Batches
+pub mod Sealing
+pub mod DbView
+pub mod Held
+pub mod Import

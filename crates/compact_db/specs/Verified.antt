@@ -1,0 +1,23 @@
+-- What is derived from a witness: the root, and the proof of the commit.
+use Rattle.std.specs.Prelude.{ℕ, ◌-◌, List, length, map}
+use Rattle.tree_shape.specs.Hashing.{Hashing}
+use Rattle.tree_shape.specs.Shape.{Shape, peaks, inactive}
+use Rattle.tree_shape.specs.Slow.{node_of}
+use Rattle.tree_shape.specs.Root.{root}
+use Rattle.tree_shape.specs.declared.bagging.Bagging.TheVariants.{ForwardFold}
+use Rattle.tree_proof.specs.Cover.{meets}
+use Rattle.tree_proof.specs.SlowProof.{proof_of}
+use Rattle.compact_db.specs.declared.verified.VerifiedWitness.{VerifiedWitness}
+
+module _ {F D : Type 0} (s : Shape) (h : Hashing D) where
+  -- Of the leaves of a list that a commit of these bytes and this floor ends.
+  abbrev pub verified_leaves : List D → List ℕ → ℕ → VerifiedWitness F D
+  verified_leaves all bytes floor = record {
+    witness = record {
+      op_bytes = bytes;
+      size = length all;
+      pinned_nodes = map (node_of s h all) (peaks s (length all - 1));
+    };
+    root = root s h all (inactive s (length all) floor) ForwardFold;
+    proof = proof_of s h all (inactive s (length all) floor) (meets (length all - 1) (length all));
+  }

@@ -1,0 +1,63 @@
+//! How a batch is applied to a compact database.
+ghost use Rattle.std.specs.Prelude.{◌≡◌, ◌⊎◌, ◌<◌, ◌≤◌, ◌^◌, ◌++◌, ◌∷◌, [], ℕ, List, length, Some, true, false, Ok, IfOk, IfErr, IsErrOf, Contains};
+ghost use Rattle.tree_core.specs.Applied.{FitsTree};
+ghost use Rattle.tree_core.specs.Batches.{IsSealedOf};
+ghost use Rattle.tree_core.specs.Tree.{IsOf};
+ghost use Rattle.tree_store.specs.declared.error.Error.TheVariants as tree_error;
+ghost use Rattle.log_model.specs.Operations.{floor_of};
+ghost use Rattle.merkle_compact.specs.Frontier.{IsFrontier};
+ghost use Rattle.compact_db.specs.StateOf.{IsRestored};
+
+use crate::{CompactOperation, VerifiedWitness, build_witness};
+use chain_core::Error;
+use codec_base::encode;
+use merkle_compact::Merkle;
+use std::alloc::Global;
+use tree_core::{Family, Hasher, Location, MerkleizedBatch};
+
+/// A tree's refusal of a batch, as a database's.
+fn as_stale<F>(error: tree_core::Error<F>) -> Error<F>
+    ensures memory { error ≡ tree_error.Memory → result ≡ Error.Memory }
+    ensures stale { (error ≡ tree_error.Memory → ⊥) → result ≡ Error.StaleBatch }
+{
+    match error {
+        tree_core::Error::Memory => Error::Memory,
+        _ => Error::StaleBatch,
+    }
+}
+
+/// The tree with what a batch has behind it, which this commit ends, and what is derived of it. It refuses with `StaleBatch` where the tree takes
+/// the batch at no mark, and with `Memory`.
+pub(crate) fn applied<F: Family, O: CompactOperation, H: Hasher>(
+    alloc: Global,
+    mut merkle: Merkle<F, H::Digest>,
+    batch: &MerkleizedBatch<F, H::Digest>,
+    commit: &O,
+) -> Result<(VerifiedWitness<F, H::Digest>, Merkle<F, H::Digest>), Error<F>>
+    requires longer { merkle.leaves < batch.now.leaves }
+    ensures leaves { IfOk result (λ r. r.1.leaves ≡ batch.now.leaves) }
+    ensures size { IfOk result (λ r. r.0.witness.size ≡ batch.now.leaves) }
+    ensures frontier { IfOk result (λ r. IsFrontier F.shape r.1) }
+    ensures short { IfOk result (λ r. length r.0.witness.op_bytes < 2 ^ 64) }
+    ensures list { IfOk result (λ r. (all more : List H.Digest) → IsOf F.shape H.hash all merkle →
+        IsSealedOf F.shape H.hash (all ++ more) batch.now →
+        IsRestored F.shape H.hash (all ++ more) (O.meaning.encoding commit.now) (floor_of O.meaning (commit.now ∷ [])) (r.0, r.1)) }
+    ensures stale { IsErrOf result Error.StaleBatch → (i : ℕ) → FitsTree F.shape merkle batch.now i → ⊥ }
+    ensures errors { IfErr result (λ e. (e ≡ Error.StaleBatch) ⊎ (e ≡ Error.Memory)) }
+{
+    let Ok(op_bytes) = encode(alloc, commit) else {
+        return Err(Error::Memory);
+    };
+    // Its length tells that it is one of 64 bits.
+    let _short = op_bytes.len();
+    // Its leaves tell that the tree is sound.
+    let _sound = merkle.leaves();
+    match merkle.apply_batch(batch) {
+        Ok(()) => {}
+        Err(error) => return Err(as_stale(error)),
+    }
+    let floor = Location::new(commit.commit_floor().unwrap_or(0));
+    let tip = build_witness::<F, H>(alloc, &merkle, floor, op_bytes)?;
+    merkle.prune_to_frontier();
+    Ok((tip, merkle))
+}

@@ -1,0 +1,23 @@
+//! Databases that keep of a list of operations the frontier of its tree, and a witness of each applied state. A database begins by an import;
+//! its opening from a log, its prune and what it serves aren't there yet.
+#![tactic(auto)]
+
+mod applying;
+mod batch;
+mod database;
+mod durable;
+mod keeping;
+pub mod keyless;
+mod laws;
+mod opening;
+mod operation;
+mod rebuilding;
+mod sealing;
+mod verified;
+
+pub use batch::{MerkleizedBatch, UnmerkleizedBatch};
+pub use database::{CompactConfig, CompactDb, WitnessLog};
+pub use laws::witness_laws;
+pub use operation::CompactOperation;
+pub use rebuilding::{Rebuilt, rebuild};
+pub use verified::{VerifiedWitness, build_witness};

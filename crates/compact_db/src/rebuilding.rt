@@ -1,0 +1,123 @@
+//! The state of a database, made of its witness.
+ghost use Rattle.std.specs.Prelude.{◌≡◌, ◌+◌, ◌-◌, ◌^◌, ◌<◌, ◌≤◌, ◌++◌, ◌∷◌, [], List, length, map, Ok, Err, Some, IfOk, IsOkUnless};
+ghost use Rattle.std.specs.List.{AllByRecursion};
+ghost use Rattle.codec_base.specs.Parts.{whole};
+ghost use Rattle.tree_shape.specs.Shape.{peaks};
+ghost use Rattle.tree_shape.specs.Slow.{leaf, node_of};
+ghost use Rattle.log_model.specs.Good.{EndsWithCommit};
+ghost use Rattle.merkle_compact.specs.Frontier.{IsFrontier};
+ghost use Rattle.compact_db.specs.Rebuild.{operation_answer, rebuild_answer, OnlyRefusedBy};
+ghost use Rattle.compact_db.specs.StateOf.{IsRestored, IsStateOf};
+ghost use Rattle.compact_db.specs.WitnessOf.{witness_of};
+
+use crate::{CompactOperation, VerifiedWitness, build_witness};
+use chain_core::{DataFault, Error};
+use codec_base::{Bytes, CodecError, decode};
+use merkle_compact::Merkle;
+use std::alloc::Global;
+use tree_core::{Bagging, Family, Hasher, Location, MAX_LEAVES, Standard};
+use witness_store::Witness;
+
+/// What a witness rebuilds: the state, its tree and its commit.
+#[derive(Drop)]
+pub struct Rebuilt<F: Family, O, D: tree_core::Digest> {
+    pub tip: VerifiedWitness<F, D>,
+    pub merkle: Merkle<F, D>,
+    pub commit: O,
+}
+
+/// The tree of these peaks with the leaf of a commit behind them, and what is derived of it. It refuses with `Memory` alone.
+pub(crate) fn restored<F: Family, H: Hasher>(
+    alloc: Global,
+    before: u64,
+    pins: Vec<H::Digest>,
+    op_bytes: Bytes,
+    floor: Location<F>,
+) -> Result<(VerifiedWitness<F, H::Digest>, Merkle<F, H::Digest>), Error<F>>
+    requires few { before < 2 ^ 62 }
+    requires counted { length pins.items ≡ length (F.shape.heights before) }
+    ensures leaves { IfOk result (λ r. r.1.leaves ≡ before + 1) }
+    ensures size { IfOk result (λ r. r.0.witness.size ≡ before + 1) }
+    ensures frontier { IfOk result (λ r. IsFrontier F.shape r.1) }
+    ensures list { IfOk result (λ r. (all : List H.Digest) → before ≡ length all →
+        pins.items ≡ map (node_of F.shape H.hash all) (peaks F.shape before) →
+        IsRestored F.shape H.hash (all ++ leaf F.shape H.hash (length all) op_bytes ∷ []) op_bytes floor (r.0, r.1)) }
+    ensures memory { IsOkUnless result Error.Memory }
+{
+    let hasher = Standard::<H>::new(Bagging::ForwardFold);
+    let Ok(mut merkle) = Merkle::from_compact_state(alloc, Location::new(before), pins) else {
+        return Err(Error::Memory);
+    };
+    // Its leaves tell that the tree is sound.
+    let _sound = merkle.leaves();
+    let Ok(()) = merkle.append_leaf(&hasher, op_bytes.as_slice()) else {
+        return Err(Error::Memory);
+    };
+    let tip = build_witness::<F, H>(alloc, &merkle, floor, op_bytes)?;
+    merkle.prune_to_frontier();
+    Ok((tip, merkle))
+}
+
+/// The operation of these bytes.
+fn operation_of<F: Family, O: CompactOperation>(
+    alloc: Global,
+    codec: &O::Cfg,
+    bytes: &Bytes,
+) -> Result<O, Error<F>>
+    ensures operation { IfOk result (λ op. operation_answer {F = F} (whole (O.reads codec.now bytes.now)) ≡ Ok op) }
+    ensures allowed { IfOk result (O.admits codec.now) }
+    ensures only { IfOk result (λ op. (x : O) → O.admits codec.now x → bytes.now ≡ O.spelling x → op ≡ x) }
+    ensures refused { OnlyRefusedBy (operation_answer {F = F} (whole (O.reads codec.now bytes.now))) result }
+{
+    match decode::<O>(alloc, bytes.as_slice(), codec) {
+        Ok(operation) => Ok(operation),
+        Err(CodecError::Memory) => Err(Error::Memory),
+        Err(_) => Err(Error::DataCorrupted(DataFault::CommitOperation)),
+    }
+}
+
+/// The state of a witness, and its commit. Refuses, in this order: `DataCorrupted` of `Witness`, where its size is that of no
+/// list that ends with a commit; of `CommitOperation`, where its bytes are no operation's; of `NotACommit`; of `Witness`, where the commit is
+/// earlier than its floor, or the pins are more or fewer than the peaks before it; or with `Memory`.
+pub fn rebuild<F: Family, O: CompactOperation, H: Hasher>(
+    alloc: Global,
+    codec: &O::Cfg,
+    witness: Witness<F, H::Digest>,
+) -> Result<Rebuilt<F, O, H::Digest>, Error<F>>
+    ensures answer { IfOk result (λ r. rebuild_answer F.shape O.meaning (λ bytes. whole (O.reads codec.now bytes)) witness ≡ Ok r.commit) }
+    ensures refused { OnlyRefusedBy (rebuild_answer F.shape O.meaning (λ bytes. whole (O.reads codec.now bytes)) witness) result }
+    ensures leaves { IfOk result (λ r. r.merkle.leaves ≡ witness.size) }
+    ensures size { IfOk result (λ r. r.tip.witness.size ≡ witness.size) }
+    ensures frontier { IfOk result (λ r. IsFrontier F.shape r.merkle) }
+    // Of the witness of a list, whose operations are allowed, it makes the list's state.
+    ensures list { IfOk result (λ r. (ops : List O) → EndsWithCommit O.meaning ops → length ops ≤ 2 ^ 62 → AllByRecursion (O.admits codec.now) ops →
+        witness ≡ witness_of F.shape H.hash O.meaning ops (length ops) →
+        IsStateOf F.shape H.hash O.meaning ops r.tip r.merkle r.commit) }
+{
+    let size = witness.size.as_u64();
+    if size == 0 || size > MAX_LEAVES {
+        return Err(Error::DataCorrupted(DataFault::Witness));
+    }
+    let commit = operation_of::<F, O>(alloc, codec, &witness.op_bytes)?;
+    let Some(floor) = commit.commit_floor() else {
+        return Err(Error::DataCorrupted(DataFault::NotACommit));
+    };
+    let before = size - 1;
+    let peaks = u64::from(F::peak_count(before));
+    if floor > before || witness.pinned_nodes.len() != peaks {
+        return Err(Error::DataCorrupted(DataFault::Witness));
+    }
+    let pins = witness.pinned_nodes.into_vec();
+    let (tip, merkle) = restored::<F, H>(
+        alloc,
+        before,
+        pins,
+        witness.op_bytes,
+        Location::new(floor),
+    )?;
+    Ok(Rebuilt {
+        tip,
+        merkle,
+        commit,
+    })
+}
