@@ -1,0 +1,112 @@
+use Rattle.std.proofs.Common.{◌≡◌, Global, List, ◌++◌, length, map, drop, refl, sym, ◌∙◌, ap, subst, arith, Ok, Err}
+use Rattle.std.specs.declared.rc.Rc.{Rc}
+use Rattle.codec_base.specs.declared.list.ListOf.{ListOf}
+use Rattle.journal_base.specs.View.{log_of}
+use Rattle.tree_core.specs.Batches.{IsSealedOf}
+use Rattle.volume_base.specs.Log.{end_of}
+use Rattle.volume_base.specs.Moments.{present}
+use Rattle.volume_base.specs.declared.error.JournalError.TheVariants as journal
+use Rattle.merkle_full.specs.Lists.{AreDigests}
+use Rattle.auth_journal.specs.Appending.{Appends, unapplied}
+use Rattle.auth_journal.specs.Batched.{SealedItems, joined_items}
+use Rattle.auth_journal.specs.Joined.{Joined, IsJoinedOf, leaves_of}
+use Rattle.auth_journal.specs.declared.error.Error.TheVariants as joined
+use Rattle.auth_journal.proofs.AppendLemmas.{appends_refused, appends_below, appends_ok}
+use Rattle.auth_journal.proofs.BatchLemmas.{unapplied_from, unapplied_of}
+use Rattle.auth_journal.proofs.ErrorLemmas.{answered_size, unwritten_below}
+use Rattle.auth_journal.proofs.JoinedLemmas.{appended_joined}
+use Rattle.auth_journal.proofs.LeafLemmas.{length-leaves_of, leaves_rest, all_digests}
+use Rattle.auth_journal.proofs.journal.Journal.apply_batch.Goals as goal
+
+pub returns-in_err-place-clause-appends : goal.returns-in_err-place-clause-appends
+returns-in_err-place-clause-appends g c =
+    let a = g.V.Volume.state c.args.vol.now in
+    appends_refused g.V.Volume.tells g.C.Item.Spelled.spelling c.args.self.items (unapplied c.args.batch.now c.args.self.tree.tree.leaves) a a g.F.Family.shape c.mem.result.now c.batch.inside.nodes _ c.in_err-place.field-0.0 _ c.from_residual.ensures.1 (c.in_err-place.ensures {u = tt}).answer
+
+pub returns-in_err-merkle-clause-appends : goal.returns-in_err-merkle-clause-appends
+returns-in_err-merkle-clause-appends g c =
+    let a = g.V.Volume.state c.args.vol.now in
+    appends_refused g.V.Volume.tells g.C.Item.Spelled.spelling c.args.self.items (unapplied c.args.batch.now c.args.self.tree.tree.leaves) a a g.F.Family.shape c.self.inside.merkle.tree c.batch.inside.nodes _ c.in_err-merkle.field-0.0 _ c.from_residual-in_err-merkle.ensures.1 (c.in_err-merkle.ensures {u = tt}).answer
+
+pub returns-in_err-journal-clause-overflow : goal.returns-in_err-journal-clause-overflow
+returns-in_err-journal-clause-overflow g c e at =
+    let f : Rc (ListOf g.row.C-Item.Denot) Global → List g.row.C-Item.Denot = λ r. r.value in
+    let state = g.V.Volume.state c.args.vol.now in
+    let b : SealedItems g.row.H-Digest.Denot g.row.C-Item.Denot = record { nodes = c.batch.inside.nodes; bagging = c.batch.inside.bagging; items = map f c.batch.inside.items.items } in
+    let tree : c.mem.result.now ≡ c.args.self.tree.tree = c.mem.ensures ∙ ap (λ (j : Joined g.row.H-Digest.Denot g.row.C-Item-Cfg.Denot). j.tree.tree) c.self.view_is in
+    let un = unapplied_from g.F.Family.shape c.mem.result.now c.args.self.tree.tree b c.args.batch.now c.in_ok-place.place c.leaves-leaves.ensures.sound c.batch.invariant (c.in_ok-place.ensures {u = tt}).place tree c.batch.view_is in
+    let items : joined_items (drop c.in_ok-place.place (map f c.deref.result.now)) ≡ unapplied c.args.batch.now c.args.self.tree.tree.leaves =
+    ap (λ ls. joined_items (drop c.in_ok-place.place (map f ls))) c.deref.ensures.value ∙ un.items in
+    let size = answered_size _ c.in_err-journal.field-0.0 e c.from_residual-in_err-journal.ensures.1 (c.in_err-journal.ensures {u = tt}).errors at in (
+      size.1,
+      λ told.
+          let past = c.append_from.ensures.overflow told (c.in_err-journal.was {u = tt} ∙ ap Err size.0) in
+          let ends = ap (λ (j : Joined g.row.H-Digest.Denot g.row.C-Item-Cfg.Denot). end_of (log_of j.items state)) c.self.view_is in
+          omega (arith, past, ap length items, un.counted, ends),
+    )
+
+pub returns-in_err-journal-clause-unwritten : goal.returns-in_err-journal-clause-unwritten
+returns-in_err-journal-clause-unwritten g c =
+    unwritten_below (g.V.Volume.state c.args.vol.now) (g.V.Volume.state c.append_from.new.vol) c.append_from.result c.in_err-journal.field-0.0 _ (c.in_err-journal.was {u = tt}) c.from_residual-in_err-journal.ensures.1 c.append_from.ensures.refused
+
+pub returns-in_err-journal-clause-appends : goal.returns-in_err-journal-clause-appends
+returns-in_err-journal-clause-appends g c =
+    let f : Rc (ListOf g.row.C-Item.Denot) Global → List g.row.C-Item.Denot = λ r. r.value in
+    let tells = g.V.Volume.tells in
+    let spelling = g.C.Item.Spelled.spelling in
+    let old = g.V.Volume.state c.args.vol.now in
+    let new = g.V.Volume.state c.append_from.new.vol in
+    let view = g.C.Contiguous.view c.self.inside.journal in
+    let b : SealedItems g.row.H-Digest.Denot g.row.C-Item.Denot = record { nodes = c.batch.inside.nodes; bagging = c.batch.inside.bagging; items = map f c.batch.inside.items.items } in
+    let tree : c.mem.result.now ≡ c.args.self.tree.tree = c.mem.ensures ∙ ap (λ (j : Joined g.row.H-Digest.Denot g.row.C-Item-Cfg.Denot). j.tree.tree) c.self.view_is in
+    let un = unapplied_from g.F.Family.shape c.mem.result.now c.args.self.tree.tree b c.args.batch.now c.in_ok-place.place c.leaves-leaves.ensures.sound c.batch.invariant (c.in_ok-place.ensures {u = tt}).place tree c.batch.view_is in
+    let left = unapplied c.args.batch.now c.args.self.tree.tree.leaves in
+    let items : joined_items (drop c.in_ok-place.place (map f c.deref.result.now)) ≡ left = ap (λ ls. joined_items (drop c.in_ok-place.place (map f ls))) c.deref.ensures.value ∙ un.items in
+    let did = subst (λ (xs : List g.row.C-Item.Denot). Appends tells journal.Volume spelling view (λ made. g.C.Contiguous.view made) xs old new c.append_from.result) items c.append_from.ensures.appends in
+    let here = subst (λ (j : Joined g.row.H-Digest.Denot g.row.C-Item-Cfg.Denot). Appends tells journal.Volume spelling j.items (λ made. g.C.Contiguous.view made) left old new c.append_from.result) c.self.view_is did in
+    appends_below tells spelling c.args.self.items left old new (λ made. g.C.Contiguous.view made) _ c.append_from.result c.in_err-journal.field-0.0 c.from_residual-in_err-journal.result (c.in_err-journal.was {u = tt}) c.from_residual-in_err-journal.ensures.1 here
+
+pub returns-clause-appends : goal.returns-clause-appends
+returns-clause-appends g c =
+    let f : Rc (ListOf g.row.C-Item.Denot) Global → List g.row.C-Item.Denot = λ r. r.value in
+    let tells = g.V.Volume.tells in
+    let spelling = g.C.Item.Spelled.spelling in
+    let old = g.V.Volume.state c.args.vol.now in
+    let new = g.V.Volume.state c.append_from.new.vol in
+    let view = g.C.Contiguous.view c.self.inside.journal in
+    let b : SealedItems g.row.H-Digest.Denot g.row.C-Item.Denot = record { nodes = c.batch.inside.nodes; bagging = c.batch.inside.bagging; items = map f c.batch.inside.items.items } in
+    let tree : c.mem.result.now ≡ c.args.self.tree.tree = c.mem.ensures ∙ ap (λ (j : Joined g.row.H-Digest.Denot g.row.C-Item-Cfg.Denot). j.tree.tree) c.self.view_is in
+    let un = unapplied_from g.F.Family.shape c.mem.result.now c.args.self.tree.tree b c.args.batch.now c.in_ok-place.place c.leaves-leaves.ensures.sound c.batch.invariant (c.in_ok-place.ensures {u = tt}).place tree c.batch.view_is in
+    let left = unapplied c.args.batch.now c.args.self.tree.tree.leaves in
+    let items : joined_items (drop c.in_ok-place.place (map f c.deref.result.now)) ≡ left = ap (λ ls. joined_items (drop c.in_ok-place.place (map f ls))) c.deref.ensures.value ∙ un.items in
+    let did = subst (λ (xs : List g.row.C-Item.Denot). Appends tells journal.Volume spelling view (λ made. g.C.Contiguous.view made) xs old new (Ok c.in_ok-journal.journal)) items (c.in_ok-journal.ensures {u = tt}).appends in
+    let here = subst (λ (j : Joined g.row.H-Digest.Denot g.row.C-Item-Cfg.Denot). Appends tells journal.Volume spelling j.items (λ made. g.C.Contiguous.view made) left old new (Ok c.in_ok-journal.journal)) c.self.view_is did in
+    appends_ok tells spelling c.args.self.items left old new journal.Volume joined.Volume (λ made. g.C.Contiguous.view made) _ c.in_ok-journal.journal _ here refl
+
+pub returns-clause-joined : goal.returns-clause-joined
+returns-clause-joined g c tells list more joined of =
+    let f : Rc (ListOf g.row.C-Item.Denot) Global → List g.row.C-Item.Denot = λ r. r.value in
+    let s = g.F.Family.shape in
+    let h = g.H.Hasher.hash in
+    let digest = g.H.Digest.Spelled.spelling in
+    let admits = g.H.Digest.Read.admits tt in
+    let spelling = g.C.Item.Spelled.spelling in
+    let old = g.V.Volume.state c.args.vol.now in
+    let new = g.V.Volume.state c.append_from.new.vol in
+    let j : Joined g.row.H-Digest.Denot g.row.C-Item-Cfg.Denot = record { items = g.C.Contiguous.view c.self.inside.journal; tree = c.self.inside.merkle; bagging = c.self.inside.hasher; failed = c.self.inside.failed } in
+    let k : Joined g.row.H-Digest.Denot g.row.C-Item-Cfg.Denot = record { items = g.C.Contiguous.view c.in_ok-journal.journal; tree = c.in_ok-merkle.merkle; bagging = c.self.inside.hasher; failed = c.self.inside.failed } in
+    let here = subst (λ (j : Joined g.row.H-Digest.Denot g.row.C-Item-Cfg.Denot). IsJoinedOf s h digest admits spelling list j (present old)) (sym c.self.view_is) joined in
+    let b : SealedItems g.row.H-Digest.Denot g.row.C-Item.Denot = record { nodes = c.batch.inside.nodes; bagging = c.batch.inside.bagging; items = map f c.batch.inside.items.items } in
+    let tree : c.mem.result.now ≡ c.args.self.tree.tree = c.mem.ensures ∙ ap (λ (j : Joined g.row.H-Digest.Denot g.row.C-Item-Cfg.Denot). j.tree.tree) c.self.view_is in
+    let un = unapplied_from s c.mem.result.now c.args.self.tree.tree b c.args.batch.now c.in_ok-place.place c.leaves-leaves.ensures.sound c.batch.invariant (c.in_ok-place.ensures {u = tt}).place tree c.batch.view_is in
+    let leaves : c.args.self.tree.tree.leaves ≡ length list = joined.tree.tree.count ∙ length-leaves_of s h spelling list in
+    let put = joined_items (drop c.in_ok-place.place (map f c.deref.result.now)) in
+    let is : put ≡ drop (length list) more =
+    ap (λ ls. joined_items (drop c.in_ok-place.place (map f ls))) c.deref.ensures.value ∙ un.items ∙ unapplied_of s h spelling more c.args.batch.now c.args.self.tree.tree.leaves of un.past ∙ ap (λ n. drop n more) leaves in
+    let sealed = subst (λ (d : SealedItems g.row.H-Digest.Denot g.row.C-Item.Denot). IsSealedOf s h (leaves_of s h spelling more) d.nodes) (sym c.batch.view_is) of.nodes in
+    let digests = subst (AreDigests s h admits) (sym (leaves_rest s h spelling list more)) (all_digests s h admits (map spelling (list ++ drop (length list) more)) (λ m. g.met.H.Digest.Digest.allowed (h.digest m) (ap length (sym (g.met.H.Hasher.same_bytes (h.digest m))) ∙ g.met.H.Hasher.one_size m))) in
+    let applied = c.in_ok-merkle.ensures {u = tt} in
+    let grown = applied.full h (leaves_of s h spelling list) (leaves_of s h spelling more) (present old) here.tree sealed digests in
+    let did = (c.in_ok-journal.ensures {u = tt}).appends in
+    subst (λ (xs : List g.row.C-Item.Denot). IsJoinedOf s h digest admits spelling (list ++ xs) k (present new)) is
+    (appended_joined s h digest admits spelling list more put j k old new here c.self.invariant (did.appended tells) did.made (did.held tells (record { start_is = here.start_is; end_is = here.end_is })) (did.log tells).others applied.beside is grown)

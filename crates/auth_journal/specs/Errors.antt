@@ -1,0 +1,38 @@
+-- What the errors of the layers below become.
+use Rattle.std.specs.Prelude.{◌≡◌, Result, Ok, Err}
+use Rattle.volume_base.specs.declared.error.JournalError.{JournalError}
+use Rattle.volume_base.specs.declared.error.JournalError.TheVariants as journal
+use Rattle.tree_store.specs.declared.error.Error as tree_error
+use Rattle.tree_store.specs.declared.error.Error.TheVariants as tree
+use Rattle.auth_journal.specs.declared.error.Error.{Error}
+use Rattle.auth_journal.specs.declared.error.Error.TheVariants as joined
+
+-- want of memory and a failure of the volume stay what they are, and every other error is wrapped
+abbrev pub from_journal : {F : Type 0} → JournalError → Error F
+from_journal journal.Volume = joined.Volume
+from_journal journal.Memory = joined.Memory
+from_journal error = joined.Journal error
+
+abbrev pub from_tree : {F : Type 0} → tree_error.Error F → Error F
+from_tree tree.Volume = joined.Volume
+from_tree tree.Memory = joined.Memory
+from_tree error = joined.Merkle error
+
+-- for want of memory, or by the volume
+abbrev pub IsOutside : {F : Type 0} → Error F → Type 0
+IsOutside joined.Volume = Unit {0}
+IsOutside joined.Memory = Unit {0}
+IsOutside _ = ⊥
+
+-- ---- answers of the tree
+
+-- a tree's answer, with its errors as these
+abbrev pub lifted : {F T : Type 0} → Result T (tree_error.Error F) → Result T (Error F)
+lifted (Ok made) = Ok made
+lifted (Err e) = Err (from_tree e)
+
+-- It is an answer of the tree, of which this holds.
+pub record Lifts {F T : Type 0} (P : Result T (tree_error.Error F) → Type 0) (result : Result T (Error F)) : Type 0 where
+  pub below : Result T (tree_error.Error F)
+  pub is : result ≡ lifted below
+  pub says : P below

@@ -1,0 +1,58 @@
+//! Lists of items that batches share, one for each segment of nodes.
+ghost use Rattle.std.specs.Prelude.{◌≡◌, ◌≤◌, List, ◌++◌, length, map, drop, IfOk, OnOk, IsOkUnless};
+ghost use Rattle.auth_journal.specs.Batched.{joined_items};
+
+use codec_base::{CodecError, Duplicate, ListOf};
+use std::alloc::{AllocError, Global};
+use std::rc::Rc;
+
+/// Another handle to each of these lists.
+pub(crate) fn share_all<T: Drop>(
+    alloc: Global,
+    lists: &[Rc<ListOf<T>>],
+) -> Result<Vec<Rc<ListOf<T>>>, AllocError>
+    ensures { IfOk result (λ v. map {B = List T} (λ l. l.value) v.items ≡ map (λ l. l.value) lists.now) }
+{
+    let mut shared = Vec::new(alloc);
+    for i in 0..lists.len() {
+        shared.push(lists[i].clone()?)?;
+    }
+    Ok(shared)
+}
+
+/// Keeps what stands from this place on, and lets go of what stands before it.
+pub(crate) fn keep_from<X: Drop>(kept: &mut Vec<X>, place: usize)
+    requires { place ≤ length kept.old.items }
+    ensures { kept.new.items ≡ drop place kept.old.items }
+{
+    let left = kept.len() - place;
+    kept.rotate_left(place);
+    kept.truncate(left);
+}
+
+/// Puts copies of these items behind others.
+fn push_copies<T: Drop + Duplicate>(copies: &mut Vec<T>, items: &[T]) -> Result<(), CodecError>
+    ensures copies { OnOk result (copies.new.items ≡ copies.old.items ++ items.now) }
+    ensures memory { IsOkUnless result CodecError.Memory }
+{
+    for item in items {
+        copies.push(item.duplicate()?)?;
+    }
+    Ok(())
+}
+
+/// Copies of the items of the lists from this one on, one list after another.
+pub(crate) fn copies_from<T: Drop + Duplicate>(
+    alloc: Global,
+    lists: &[Rc<ListOf<T>>],
+    place: usize,
+) -> Result<Vec<T>, CodecError>
+    ensures copies { IfOk result (λ v. v.items ≡ joined_items (drop place (map (λ l. l.value) lists.now))) }
+    ensures memory { IsOkUnless result CodecError.Memory }
+{
+    let mut copies = Vec::new(alloc);
+    for i in place..lists.len() {
+        push_copies(&mut copies, lists[i].as_slice())?;
+    }
+    Ok(copies)
+}
