@@ -3,6 +3,7 @@
 
 usage: tools/expected.py roots          the roots of the example elements, for each inactive count and bagging
        tools/expected.py run            reads command lines, writes the reply lines of a run on a fresh volume
+       tools/expected.py script         reads a script of crates/run_calls, writes what its cases answer
        tools/expected.py check          compares the stored files of the repository with what is computed here
 
 Everything is made from hashlib's SHA-256 and the rules in docs/MODEL.md. Nothing is taken from the product's output.
@@ -218,33 +219,100 @@ def run(lines, limit=VALUE_LIMIT):
     return "".join(out)
 
 
+# ---- the cases of a script
+
+SCRIPT = Path(__file__).resolve().parent.parent / "crates" / "run_calls" / "stdin"
+NUMBER, BYTES = "(0|[1-9][0-9]*)", r"(\.|([0-9a-fA-F][0-9a-fA-F])+)"
+COMMAND = re.compile(f"new( {NUMBER})?|append {NUMBER} {BYTES}|seal {NUMBER} (-|{BYTES}) {NUMBER}"
+                     f"|(apply|hold|release) {NUMBER}|snapshot|size|metadata")
+LOGS, MAP = ("log", "nodes", "witness"), "metadata"
+OPENING_CALLS = len(LOGS) + 1   # of the volume, of which the opening asks the bounds of each log, and the map
+STATUSES = {0: "", 2: "twins: usage: twins [FOLDER] [--gen NUMBER COUNT]", 3: "twins: line {}: not a command", 4: "twins: cannot read input",
+            5: "twins: cannot write output", 6: "twins: volume failed", 10: "twins: volume is not fresh"}
+
+
+def is_command(line):
+    name, *words = line.split(" ")
+    numbers = words[0::2] if name == "seal" else words[:1]
+    return COMMAND.fullmatch(line) is not None and all(int(word) < 2**64 for word in numbers)
+
+
+def first_bad(lines):
+    """The first line that is no command, counted from 1, and none where each is one or is skipped."""
+    return next((at for at, line in enumerate(lines, 1) if line and line[0] != "#" and not is_command(line)), None)
+
+
+def said(data):
+    """What an input alone says."""
+    lines = data.decode("latin-1").split("\n")
+    bad = first_bad(lines)
+    return f"bad line {bad}" if bad else f"{sum(1 for line in lines if line and line[0] != '#')} commands"
+
+
+def cases(text):
+    """The comments between the cases of a script, each alone, and the cases: kind, settings and lines."""
+    lines = iter(text.split("\n")[:-1])
+    for line in lines:
+        if line.startswith("#"):
+            yield line, {}, []
+        else:
+            kind, *words = line.split(" ")
+            yield kind, dict(zip(words[::2], words[1::2])), list(iter(lambda: next(lines), "end"))
+
+
+def fault(settings):
+    """What stops an opening, as a status."""
+    if 1 <= int(settings.get("call", 0)) <= OPENING_CALLS:
+        return 6
+    return 10 if settings.get("log") in LOGS or settings.get("map") == MAP else 0
+
+
+def top_call(settings, lines):
+    """What is written, the status, and the line that isn't one."""
+    if "word" in settings:
+        return "", 2, None
+    if settings.get("read") in ("1", "2"):
+        return "", 4, None
+    if first_bad(lines):
+        return "", 3, first_bad(lines)
+    if fault(settings):
+        return "", fault(settings), None
+    whole, room = run(lines), int(settings["room"])
+    if settings.get("write") == "1" or len(whole) > room:
+        return "" if settings.get("write") == "1" else whole[:room], 5, None
+    return whole, 5 if settings.get("write") == "2" else 0, None
+
+
+def answered(kind, settings, lines):
+    if kind.startswith("#"):
+        return kind + "\n"
+    if kind == "run":
+        stopped = {6: "stopped Volume\n", 10: "stopped NotFresh\n"}
+        return stopped.get(fault(settings)) or run(lines, int(settings["limit"]))
+    if kind == "main":
+        written, status, bad = top_call(settings, lines)
+        return f"{written}/ status {status} {STATUSES[status].format(bad)}\n"
+    inputs = {"lines": lambda line: line.encode(), "hex": bytes.fromhex}[kind]
+    return "".join(said(inputs(line)) + "\n" for line in lines)
+
+
+def script(text):
+    return "".join(answered(*case) for case in cases(text))
+
+
+def runs():
+    """The names, limits and commands of the runs on fresh volumes."""
+    name = ""
+    for kind, settings, lines in cases(SCRIPT.read_text(encoding="utf-8")):
+        if kind == "run" and list(settings) == ["limit"]:
+            yield name, int(settings["limit"]), [line for line in lines if line and line[0] != "#"]
+        name = kind.removeprefix("# ")
+
+
 # ---- what the tests compare with
 
 # The elements whose roots the tests of the trees compare with.
 ELEMENTS = [bytes.fromhex(text) for text in ("000000", "010161", "010162", "000000", "0101ff", "01020304", "00")]
-
-# The runs whose digests the tests of the run compare with: name, value limit, lines.
-FIRST_BATCH = ["new", "append 0 61", "append 0 62", "seal 0 - 0", "apply 0"]
-TWO_BATCHES = ["new", "append 0 61", "seal 0 - 0", "new 0", "append 1 62", "seal 1 - 0"]
-RUNS = [
-    ("fresh opening", VALUE_LIMIT, []),
-    ("first batch", VALUE_LIMIT, FIRST_BATCH + ["size", "size", "size"]),
-    ("unequal siblings", VALUE_LIMIT, ["new", "new", "append 0 61", "append 1 62", "seal 0 - 0", "seal 1 - 0", "apply 0", "apply 1"]),
-    ("apply again", VALUE_LIMIT, FIRST_BATCH + ["apply 0"]),
-    ("value limit", 4, ["new", "append 0 0102030405", "append 0 01020304", "seal 0 0102030405 0", "seal 0 - 0", "apply 0"]),
-    ("floors and metadata", VALUE_LIMIT, ["new", "append 0 61", "append 0 62", "seal 0 - 4", "seal 0 - 3", "new", "append 1 61", "append 1 62",
-                                          "seal 1 6d 3", "metadata", "apply 1", "size", "metadata", "new", "seal 2 - 2", "new", "seal 3 . 4", "apply 3", "metadata"]),
-    ("snapshot", VALUE_LIMIT, FIRST_BATCH + ["apply 0", "snapshot", "apply 1", "apply 1"]),
-    ("two-batch chain", VALUE_LIMIT, TWO_BATCHES + ["apply 1", "apply 0", "apply 1"]),
-    ("chain applied one by one", VALUE_LIMIT, TWO_BATCHES + ["apply 0", "apply 1"]),
-    ("equal siblings", VALUE_LIMIT, ["new", "new", "append 0 61", "append 1 61", "seal 0 - 0", "seal 1 - 0", "apply 0", "new 1", "append 2 62", "seal 2 - 0", "apply 2"]),
-    ("released ancestor", VALUE_LIMIT, TWO_BATCHES + ["release 0", "new 1", "append 2 63", "seal 2 - 0", "seal 2 - 0"]),
-    ("released ancestor that was applied", VALUE_LIMIT, TWO_BATCHES + ["apply 0", "release 0", "new 1", "append 2 63", "seal 2 - 0", "apply 2"]),
-    ("child that keeps its parent alive", VALUE_LIMIT, TWO_BATCHES + ["new 0", "release 0", "new 0", "new 1", "append 3 63", "seal 3 - 0", "release 2", "new 1", "seal 4 - 0", "apply 3"]),
-    ("seal that loses its hold", VALUE_LIMIT, TWO_BATCHES + ["new 0", "release 0", "seal 2 - 9", "new 1", "seal 3 - 0"]),
-    ("floors of a chain", VALUE_LIMIT, ["new", "seal 0 - 1", "new 0", "new 0", "seal 1 - 0", "seal 2 - 1", "apply 2", "size"]),
-    ("holds", VALUE_LIMIT, ["new", "append 0 61", "hold 0", "seal 0 - 0", "hold 0", "release 0", "release 0", "release 0", "hold 0", "apply 0", "new", "release 1", "append 1 61", "release 2"]),
-]
 
 
 # The floors of the lists of commits without metadata whose roots the tests of lists compare with.
@@ -272,24 +340,21 @@ def known_digests():
         known.add(node(Mmr, ELEMENTS, leaves, 0).hex())
     known.update(one for _, one in proofs.rows())
     for family in (Mmr, Mmb):
-        for leaves in (8, 11):
+        for leaves in (1, 2, 8, 11):
             known.add(trees.root(family, [bytes([leaf]) for leaf in range(leaves)], 0, True).hex())
     for floors in FLOORS:
         known.add(list_root([commit(None, floor) for floor in floors], floors[-1] if floors else 0))
-    for _, limit, lines in RUNS:
-        known.update(re.findall(r"\b[0-9a-f]{64}\b", run(lines, limit)))
     return known
 
 
 def check(top):
     """Compares the stored files with what is computed here; answers what differs."""
     wrong = []
-    for program in ("twins",):
+    for program, replies in (("twins", lambda text: run(text.splitlines())), ("run_calls", script)):
         home = top / "crates" / program
         stdin, stdout = home / "stdin", home / "stdout"
         if stdin.exists() and stdout.exists():
-            wanted = run(stdin.read_text(encoding="ascii").splitlines())
-            if stdout.read_text(encoding="ascii") != wanted:
+            if stdout.read_text(encoding="ascii") != replies(stdin.read_text(encoding="ascii")):
                 wrong.append(f"{stdout.relative_to(top)}: not the replies to {stdin.relative_to(top)}")
     known = known_digests()
     for path in sorted((top / "crates").glob("*/src/**/*.rt")):
@@ -305,6 +370,8 @@ def main(words):
             print(f"{one}  {name}")
     elif words == ["run"]:
         sys.stdout.write(run(sys.stdin.read().splitlines()))
+    elif words == ["script"]:
+        sys.stdout.write(script(sys.stdin.read()))
     elif words == ["check"]:
         wrong = check(Path(__file__).resolve().parent.parent)
         for line in wrong:

@@ -1,5 +1,5 @@
 #!/usr/bin/env python3
-"""Lets each allocation of the program fail in turn, on each run of expected.py at the program's own value limit.
+"""Lets each allocation of the program fail in turn, on each run of crates/run_calls/stdin at the program's own value limit.
 
 usage: tools/fail_alloc.py PROGRAM
 
@@ -99,16 +99,16 @@ def begun(words, usage):
         print(usage.strip(), file=sys.stderr)
         return 2
     if not sys.platform.startswith("linux") or shutil.which("cc") is None:
-        print("skipped: no C compiler, so no allocation is made to fail")
+        print("skipped: no C compiler, so nothing is made to fail")
         return 0
     return None
 
 
-def library_in(folder):
-    """Makes the library by which one allocation fails, and gives its path."""
-    library = f"{folder}/fail_alloc.so"
-    source = Path(__file__).with_name("fail_alloc.c")
-    subprocess.run(["cc", "-O1", "-shared", "-fPIC", "-o", library, source], check=True)
+def library_in(folder, name="fail_alloc"):
+    """Makes the library by which an allocation fails, or another of these, and gives its path."""
+    library = f"{folder}/{name}.so"
+    source = Path(__file__).with_name(f"{name}.c")
+    subprocess.run(["cc", "-O1", "-shared", "-fPIC", "-o", library, source, "-ldl"], check=True)
     return library
 
 
@@ -118,7 +118,7 @@ def main(words):
         return ended
     with tempfile.TemporaryDirectory() as scratch:
         program = Program(words[0], library_in(scratch), f"{scratch}/told")
-        runs = [(name, lines) for name, limit, lines in expected.RUNS if limit == expected.VALUE_LIMIT]
+        runs = [(name, lines) for name, _, lines in expected.runs()]
         results = [faults_of(program, name, lines) for name, lines in runs]
         unwritten = faults_without_output(program, *runs[1]) if os.path.exists(FULL) else []
     wrong = [line for _, _, lines in results for line in lines] + unwritten

@@ -1,6 +1,7 @@
 //! Chains of batches on a tree whose pins came from elsewhere, so that no list of leaves is told of it.
 ghost use Rattle.std.specs.Prelude.{◌≡◌, ℕ, ◌+◌, ◌≤◌, ◌^◌, IsOkUnless};
 
+use crate::batches::{answers, dropped};
 use std::alloc::Global;
 use std::test::Fail;
 use tree_core::{
@@ -82,47 +83,62 @@ fn child(parent: &Batch, keeps: bool) -> Result<Batch, Error<Mmb>> {
     sealed(batch, &hasher(), digest(4), reached)
 }
 
-/// What the belt with peaks 1 and 2 answers to these batches in turn, and the leaves that it then has.
-fn answers(alloc: Global, batches: &[&Batch]) -> Result<(Option<Error<Mmb>>, u64), Error<Mmb>> {
+/// The belt with peaks 1 and 2, and two leaves more.
+fn grown(alloc: Global) -> Result<Belt, Fail> {
     let mut tree = imported(alloc, [1, 2])?;
-    let mut refused = None;
-    for batch in batches {
-        refused = tree.apply_batch(batch).err();
+    if tree.leaves().as_u64() != 3 {
+        return Err("other leaves".into());
     }
-    Ok((refused, tree.leaves().as_u64()))
+    append_two(&mut tree, &hasher(), digest(3), digest(4))?;
+    Ok(tree)
+}
+
+/// Whether a tree and a batch have the same leaves, root and node at 6.
+fn agree<F: Family, H: Hasher>(
+    tree: &Mem<F, H::Digest>,
+    batch: &MerkleizedBatch<F, H::Digest>,
+    hasher: &Standard<H>,
+) -> Result<bool, Error<F>> {
+    let have_node = tree.get_node(Position::new(6)) == batch.get_node(Position::new(6));
+    let have_leaves = tree.leaves() == batch.leaves();
+    Ok(have_leaves && have_node && tree.root(hasher, 0)? == batch.root(hasher, 0)?)
 }
 
 #[test]
 fn a_child_goes_on_from_its_parent_on_any_pins(rt: HostRuntime) -> Result<(), Fail> {
-    let mut tree = imported(rt.alloc(), [1, 2])?;
-    assert!(rt; tree.leaves().as_u64() == 3);
-    append_two(&mut tree, &hasher(), digest(3), digest(4))?;
+    let tree = grown(rt.alloc())?;
     let parent = parent(rt.alloc(), [1, 2])?;
     let child = child(&parent, false)?;
-    assert!(rt; tree.leaves() == child.leaves());
-    assert!(rt; tree.root(&hasher(), 0)? == child.root(&hasher(), 0)?);
-    assert!(rt; tree.get_node(Position::new(6)) == child.get_node(Position::new(6)));
+    assert!(rt; agree(&tree, &child, &hasher())?);
     Ok(())
+}
+
+/// A batch on the belt with peaks 1 and 2, two children of it, of which the first has no nodes of its parent and the second has,
+/// and a batch on another belt.
+fn family(alloc: Global) -> Result<[Batch; 4], Error<Mmb>> {
+    let first = parent(alloc, [1, 2])?;
+    let bare = child(&first, false)?;
+    let whole = child(&first, true)?;
+    let other = parent(alloc, [2, 1])?;
+    Ok([first, bare, whole, other])
 }
 
 #[test]
 fn batches_on_any_pins_are_applied_in_order(rt: HostRuntime) -> Result<(), Fail> {
-    let alloc = rt.alloc();
-    let parent = parent(alloc, [1, 2])?;
-    let bare = child(&parent, false)?;
-    let whole = child(&parent, true)?;
-    let other = self::parent(alloc, [2, 1])?;
-    let stale = Some(Error::StaleBatch);
-    let dropped = Some(Error::AncestorDropped {
-        expected: parent.size(),
-        actual: Position::new(4),
-    });
-    // The answer to the last of each, and the number of leaves.
-    assert!(rt; answers(alloc, &[&parent, &bare])? == (None, 5));
-    assert!(rt; answers(alloc, &[&whole])? == (None, 5));
-    assert!(rt; answers(alloc, &[&bare])? == (dropped, 3));
-    assert!(rt; answers(alloc, &[&whole, &parent])? == (stale, 5));
-    assert!(rt; answers(alloc, &[&parent, &bare, &bare])? == (stale, 5));
-    assert!(rt; answers(alloc, &[&other])? == (stale, 3));
+    let batches = family(rt.alloc())?;
+    // The parent is 0, the bare child 1, the whole one 2 and the other batch 3. The answer to the last of each on the belt with
+    // peaks 1 and 2, and the number of leaves.
+    let rows: [(&[usize], Option<Error<Mmb>>, u64); 6] = [
+        (&[0, 1], None, 5),
+        (&[2], None, 5),
+        (&[1], Some(dropped(6, 4)), 3),
+        (&[2, 0], Some(Error::StaleBatch), 5),
+        (&[0, 1, 1], Some(Error::StaleBatch), 5),
+        (&[3], Some(Error::StaleBatch), 3),
+    ];
+    for (order, refused, leaves) in rows {
+        let mut tree = imported(rt.alloc(), [1, 2])?;
+        assert!(rt; answers(&mut tree, &batches, order) == (refused, leaves));
+    }
     Ok(())
 }

@@ -1,9 +1,12 @@
 //! Operations: examples written out by hand, and each call that takes memory once.
-use crate::spelled::{is_spelled, refusal};
-use codec_base::{Bytes, CodecError, Duplicate, FixedSize, InvalidAt, LengthCfg, U64};
+use crate::spelled::{refusal, spells};
+use codec_base::{
+    Bytes, CodecError, Duplicate, EncodeSize, FixedSize, InvalidAt, LengthCfg, Read, U64, Write,
+};
 use op_codec::{
     Committable, FixedEncoding, Floored, Key, OperationTrait, VariableEncoding, immutable, keyless,
 };
+use std::alloc::Global;
 use std::hash::{DefaultHasher, Hash, Hasher};
 use std::test::Fail;
 use tree_shape::{Location, Mmb, Mmr};
@@ -18,44 +21,61 @@ type BeltWords = keyless::Operation<Mmb, VariableEncoding<Bytes>>;
 
 type BeltKeyedWords = immutable::Operation<Mmb, Bytes, VariableEncoding<Bytes>>;
 
+/// Two letters.
+fn word(alloc: Global) -> Result<Bytes, CodecError> {
+    Bytes::from_slice(alloc, b"ab")
+}
+
+/// Whether a copy of a value is spelled by these bytes.
+fn copy_spells<T: Write + EncodeSize + Read + Duplicate + PartialEq + Drop>(
+    alloc: Global,
+    value: T,
+    cfg: &T::Cfg,
+    bytes: &[u8],
+) -> Result<bool, CodecError> {
+    spells(alloc, value.duplicate()?, cfg, bytes)
+}
+
 #[test]
 fn keyless_operations_are_spelled(rt: HostRuntime) -> Result<(), Fail> {
-    let cfg = LengthCfg { max: 4 };
-    let word = Some(Bytes::from_slice(rt.alloc(), b"ab")?);
-    let commit = BeltWords::Commit(word, Location::new(300)).duplicate()?;
-    assert!(rt; is_spelled(rt.alloc(), &commit, &cfg, &[0, 1, 2, 0x61, 0x62, 0xac, 2])?);
-    let append = Numbers::Append(U64::new(258));
+    let (alloc, cfg) = (rt.alloc(), LengthCfg { max: 4 });
+    let commit = BeltWords::Commit(Some(word(alloc)?), Location::new(300));
+    assert!(rt; copy_spells(alloc, commit, &cfg, &[0, 1, 2, 0x61, 0x62, 0xac, 2])?);
     let bytes = [1, 0, 0, 0, 0, 0, 0, 1, 2, 0, 0, 0, 0, 0, 0, 0, 0, 0];
-    assert!(rt; is_spelled(rt.alloc(), &append, &(), &bytes)?);
+    assert!(rt; spells(alloc, Numbers::Append(U64::new(258)), &(), &bytes)?);
     assert!(rt; Numbers::size() == 18);
     Ok(())
 }
 
 #[test]
 fn immutable_operations_are_spelled(rt: HostRuntime) -> Result<(), Fail> {
+    let alloc = rt.alloc();
     let cfg = (LengthCfg { max: 1 }, LengthCfg { max: 4 });
-    let key = Bytes::from_slice(rt.alloc(), b"k")?;
-    let word = Bytes::from_slice(rt.alloc(), b"ab")?;
-    let set = BeltKeyedWords::Set(key, word).duplicate()?;
-    assert!(rt; is_spelled(rt.alloc(), &set, &cfg, &[0, 1, 0x6b, 2, 0x61, 0x62])?);
+    let set = BeltKeyedWords::Set(Bytes::from_slice(alloc, b"k")?, word(alloc)?);
+    assert!(rt; copy_spells(alloc, set, &cfg, &[0, 1, 0x6b, 2, 0x61, 0x62])?);
     let commit = KeyedNumbers::Commit(Some(U64::new(5)), Location::new(3));
     let bytes = [1, 1, 0, 0, 0, 0, 0, 0, 0, 5, 0, 0, 0, 0, 0, 0, 0, 3];
-    assert!(rt; is_spelled(rt.alloc(), &commit, &((), ()), &bytes)?);
+    assert!(rt; spells(alloc, commit, &((), ()), &bytes)?);
     assert!(rt; KeyedNumbers::size() == 18);
     Ok(())
 }
 
 #[test]
 fn each_variant_of_any_length_has_its_spelling(rt: HostRuntime) -> Result<(), Fail> {
-    let cfg = LengthCfg { max: 4 };
-    let append = Words::Append(Bytes::from_slice(rt.alloc(), b"ab")?);
-    assert!(rt; is_spelled(rt.alloc(), &append, &cfg, &[1, 2, 0x61, 0x62])?);
-    let word = Some(Bytes::from_slice(rt.alloc(), b"ab")?);
-    let commit = Words::Commit(word, Location::new(7));
-    assert!(rt; is_spelled(rt.alloc(), &commit, &cfg, &[0, 1, 2, 0x61, 0x62, 7])?);
+    let (alloc, cfg) = (rt.alloc(), LengthCfg { max: 4 });
+    assert!(rt;
+        spells(
+            alloc,
+            Words::Append(word(alloc)?),
+            &cfg,
+            &[1, 2, 0x61, 0x62]
+        )?
+    );
+    let commit = Words::Commit(Some(word(alloc)?), Location::new(7));
+    assert!(rt; spells(alloc, commit, &cfg, &[0, 1, 2, 0x61, 0x62, 7])?);
     let bare = BeltKeyedWords::Commit(None, Location::new(7));
     let keyed = (LengthCfg { max: 1 }, LengthCfg { max: 4 });
-    assert!(rt; is_spelled(rt.alloc(), &bare, &keyed, &[1, 0, 7])?);
+    assert!(rt; spells(alloc, bare, &keyed, &[1, 0, 7])?);
     Ok(())
 }
 
@@ -63,13 +83,17 @@ fn each_variant_of_any_length_has_its_spelling(rt: HostRuntime) -> Result<(), Fa
 fn each_variant_of_one_size_has_its_spelling(rt: HostRuntime) -> Result<(), Fail> {
     let none = Numbers::Commit(None, Location::new(3));
     let bytes = [0, 0, 0, 0, 0, 0, 0, 0, 0, 0, 0, 0, 0, 0, 0, 0, 0, 3];
-    assert!(rt; is_spelled(rt.alloc(), &none, &(), &bytes)?);
-    assert!(rt; none.into_value() == None);
+    assert!(rt; spells(rt.alloc(), none, &(), &bytes)?);
     let set = KeyedNumbers::Set(U64::new(1), U64::new(2));
     let bytes = [0, 0, 0, 0, 0, 0, 0, 0, 1, 0, 0, 0, 0, 0, 0, 0, 2, 0];
-    assert!(rt; is_spelled(rt.alloc(), &set, &((), ()), &bytes)?);
-    let key = Bytes::from_slice(rt.alloc(), b"k")?;
-    assert!(rt; key.raw() == b"k".as_slice());
+    assert!(rt; spells(rt.alloc(), set, &((), ()), &bytes)?);
+    Ok(())
+}
+
+#[test]
+fn an_operation_may_have_no_value_and_a_key_has_bytes(rt: HostRuntime) -> Result<(), Fail> {
+    assert!(rt; Numbers::Commit(None, Location::new(3)).into_value() == None);
+    assert!(rt; word(rt.alloc())?.raw() == b"ab".as_slice());
     Ok(())
 }
 

@@ -31,6 +31,16 @@ pub(crate) fn is_spelled<T: Write + EncodeSize + Read + PartialEq + Drop>(
     Ok(is_written(alloc, value, bytes)? && is_read(alloc, value, cfg, bytes)?)
 }
 
+/// The same of a value that is needed no more.
+pub(crate) fn spells<T: Write + EncodeSize + Read + PartialEq + Drop>(
+    alloc: Global,
+    value: T,
+    cfg: &T::Cfg,
+    bytes: &[u8],
+) -> Result<bool, CodecError> {
+    is_spelled(alloc, &value, cfg, bytes)
+}
+
 /// Why bytes are no value.
 pub(crate) fn refusal<T: Read + Drop>(
     alloc: Global,

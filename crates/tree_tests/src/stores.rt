@@ -87,11 +87,11 @@ fn narrower_proofs_are_made_over_what_a_proof_tells(rt: HostRuntime) -> Result<(
 }
 
 /// How many nodes of a tree a store tells, and nothing where it tells another.
-fn told_nodes<S: Storage<Mmb, Digest = Sha256Digest>>(
+fn told_nodes<F: Family, S: Storage<F>>(
     alloc: Global,
     store: &S,
-    tree: &Mem<Mmb, Sha256Digest>,
-) -> Result<Option<u64>, Error<Mmb>> {
+    tree: &Mem<F, S::Digest>,
+) -> Result<Option<u64>, Error<F>> {
     let mut vol = MemoryVolume::new(alloc);
     let mut nodes = 0u64;
     for position in 0..store.size().as_u64() {
@@ -106,14 +106,20 @@ fn told_nodes<S: Storage<Mmb, Digest = Sha256Digest>>(
     Ok(Some(nodes))
 }
 
-#[test]
-fn what_a_proof_tells_is_what_the_tree_has(rt: HostRuntime) -> Result<(), Fail> {
-    let alloc = rt.alloc();
+/// Of what the wide proof tells, whether the size is the tree's, and how many nodes are.
+fn told_of_tree(alloc: Global) -> Result<(bool, Option<u64>), Fail> {
     let tree = letters_tree::<Mmb>(alloc, 11)?;
     let store = told(alloc, &wide_proof(alloc)?, 2, 2, 7)??;
-    assert!(rt; store.size() == tree.size());
-    // Three of the cover, seven leaves, and seven over these.
-    assert!(rt; told_nodes(alloc, &store, &tree)? == Some(17));
+    Ok((
+        store.size() == tree.size(),
+        told_nodes(alloc, &store, &tree)?,
+    ))
+}
+
+#[test]
+fn what_a_proof_tells_is_what_the_tree_has(rt: HostRuntime) -> Result<(), Fail> {
+    // Three nodes of the cover, seven leaves, and seven over these.
+    assert!(rt; told_of_tree(rt.alloc())? == (true, Some(17)));
     Ok(())
 }
 
@@ -126,10 +132,13 @@ fn great(alloc: Global) -> Proof<Mmb, Sha256Digest> {
     }
 }
 
+/// Why the wide proof and so many letters tell nothing, where these stand from `start` on.
+fn refused(alloc: Global, start: u64, count: usize) -> Result<Option<Error<Mmb>>, Fail> {
+    Ok(told(alloc, &wide_proof(alloc)?, start, 0, count)?.err())
+}
+
 #[test]
 fn what_tells_nothing_is_refused_in_order(rt: HostRuntime) -> Result<(), Fail> {
-    let alloc = rt.alloc();
-    let wide = wide_proof(alloc)?;
     let rows = [
         (12, 0, Error::Empty),
         (5, 7, Error::RangeOutOfBounds(Location::new(12))),
@@ -142,10 +151,16 @@ fn what_tells_nothing_is_refused_in_order(rt: HostRuntime) -> Result<(), Fail> {
         (4, 7, Error::InvalidPinnedNodes),
     ];
     for (start, count, want) in rows {
-        assert!(rt; told(alloc, &wide, start, 0, count)?.err() == Some(want));
+        assert!(rt; refused(rt.alloc(), start, count)? == Some(want));
     }
+    Ok(())
+}
+
+#[test]
+fn a_proof_for_too_many_leaves_tells_nothing(rt: HostRuntime) -> Result<(), Fail> {
     let overflow = Error::LocationOverflow(Location::new(MAX_LEAVES + 1));
-    assert!(rt; told(alloc, &great(alloc), u64::MAX, 0, 1)?.err() == Some(overflow));
+    let answer = told(rt.alloc(), &great(rt.alloc()), u64::MAX, 0, 1)?;
+    assert!(rt; answer.err() == Some(overflow));
     Ok(())
 }
 
@@ -157,21 +172,18 @@ fn three(alloc: Global, pruned: u64) -> Result<Mem<Mmr, Sha256Digest>, Error<Mmr
 }
 
 /// How many nodes are told of two positions, or the first that isn't there.
-fn two_nodes<S: Storage<Mmr>>(alloc: Global, store: &S) -> Result<usize, Error<Mmr>> {
+fn two_nodes<F: Family, S: Storage<F>>(alloc: Global, store: &S) -> Result<usize, Error<F>> {
     let mut vol = MemoryVolume::new(alloc);
-    Ok(
-        store
-            .get_nodes(&mut vol, &[Position::new(0), Position::new(2)])?
-            .len(),
-    )
+    let nodes = store.get_nodes(&mut vol, &[Position::new(0), Position::new(2)])?;
+    Ok(nodes.len())
 }
 
 #[test]
 fn a_store_names_the_first_node_that_is_absent(rt: HostRuntime) -> Result<(), Fail> {
-    let alloc = rt.alloc();
-    let absent = Error::ElementPruned(Position::new(0));
-    assert!(rt; two_nodes(alloc, &three(alloc, 0)?) == Ok(2));
-    assert!(rt; two_nodes(alloc, &three(alloc, 2)?) == Err(absent));
+    for (pruned, want) in [(0, Ok(2)), (2, Err(Error::ElementPruned(Position::new(0))))] {
+        let tree = three(rt.alloc(), pruned)?;
+        assert!(rt; two_nodes(rt.alloc(), &tree) == want);
+    }
     Ok(())
 }
 

@@ -1,11 +1,12 @@
 //! What a log is synced to and asked for: examples written out by hand, and each call that takes memory once.
 use crate::spelled::{is_spelled, refusal};
-use codec_base::{CodecError, InvalidAt, ListOf, decode};
+use codec_base::{CodecError, InvalidAt, ListOf, U64, decode};
 use std::alloc::Global;
 use std::num::NonZeroU64;
 use std::test::Fail;
 use target_codec::{
     CompactTarget, EngineError, Request, Response, Target, advance_laws, equality_laws,
+    request_equality_law, response_equality_law,
 };
 use tree_proof::Proof;
 use tree_shape::{Location, Mmb, Mmr, Sha256Digest};
@@ -50,6 +51,8 @@ fn targets_advance(rt: HostRuntime) -> Result<(), Fail> {
     }
     advance_laws::<Mmr, Sha256Digest>();
     equality_laws::<Mmr, Sha256Digest>();
+    request_equality_law::<Mmr>();
+    response_equality_law::<Mmr, U64, Sha256Digest>();
     Ok(())
 }
 

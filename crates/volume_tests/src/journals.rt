@@ -11,23 +11,28 @@ use std::num::NonZeroU64;
 use std::test::Fail;
 use volume_base::{JournalError, Volume, VolumeError};
 
-pub(crate) fn config<C: Drop>(alloc: Global, codec: C) -> Result<JournalConfig<C>, Fail> {
+pub(crate) fn config<C: Drop>(alloc: Global, codec: C) -> Result<JournalConfig<C>, JournalError> {
     Ok(JournalConfig {
         name: String::from_str(alloc, "log")?,
-        items_per_blob: NonZeroU64::new(2).ok_or("no blob")?,
+        items_per_blob: NonZeroU64::new(2).unwrap_or(NonZeroU64::MIN),
         codec,
     })
 }
 
-fn words(alloc: Global, texts: &[&[u8]]) -> Result<Vec<Bytes>, Fail> {
+/// The configuration of a journal of words.
+fn words_config(alloc: Global) -> Result<JournalConfig<LengthCfg>, JournalError> {
+    config(alloc, LengthCfg { max: 9 })
+}
+
+fn words(alloc: Global, texts: &[&[u8]]) -> Result<Vec<Bytes>, JournalError> {
     let mut items = Vec::new(alloc);
     for text in texts {
-        items.push(Bytes::from_slice(alloc, text)?)?;
+        items.push(Bytes::from_vec(text.to_vec(alloc)?))?;
     }
     Ok(items)
 }
 
-pub(crate) fn numbers(alloc: Global, count: u64) -> Result<Vec<U64>, Fail> {
+pub(crate) fn numbers(alloc: Global, count: u64) -> Result<Vec<U64>, JournalError> {
     let mut items = Vec::new(alloc);
     for number in 0..count {
         items.push(U64::new(number))?;
@@ -54,9 +59,10 @@ fn appended<J: Backing>(
 }
 
 /// A journal of five numbers, of which the first blob is gone.
-fn numbered(alloc: Global, vol: &mut MemoryVolume) -> Result<FixedJournal<U64>, Fail> {
-    let journal: FixedJournal<U64> = open(vol, config(alloc, ())?, None)?;
-    Ok(appended(vol, journal, &numbers(alloc, 5)?)?)
+fn numbered(alloc: Global, vol: &mut MemoryVolume) -> Result<FixedJournal<U64>, JournalError> {
+    let items = numbers(alloc, 5)?;
+    let journal = open(vol, config(alloc, ())?, None)?;
+    appended(vol, journal, &items)
 }
 
 /// A call of an open journal.
@@ -91,7 +97,7 @@ fn error_of(
 }
 
 /// The error of a call where the n-th call of the volume fails.
-fn error_at(alloc: Global, call: Call, n: u64) -> Result<Option<JournalError>, Fail> {
+fn error_at(alloc: Global, call: Call, n: u64) -> Result<Option<JournalError>, JournalError> {
     let mut vol = MemoryVolume::new(alloc);
     let journal = numbered(alloc, &mut vol)?;
     vol.fail_call(n)?;
@@ -122,37 +128,47 @@ fn many_items_are_one_append_and_a_sync_is_one(rt: HostRuntime) -> Result<(), Fa
     Ok(())
 }
 
-/// A journal of six numbers whose last sync has failed inside `start_sync`.
-fn unsynced(alloc: Global, vol: &mut MemoryVolume) -> Result<FixedJournal<U64>, Fail> {
+/// A journal of six numbers whose last sync has failed inside `start_sync`, and what its ticket told.
+fn unsynced(
+    alloc: Global,
+    vol: &mut MemoryVolume,
+) -> Result<(FixedJournal<U64>, Result<(), VolumeError>), JournalError> {
     let journal = numbered(alloc, vol)?;
     vol.fail_call(1)?;
     let (journal, ticket) = journal.start_sync(vol)?;
-    if ticket.settle() != Err(VolumeError::Failed) {
-        return Err("settled".into());
-    }
-    Ok(journal.append(vol, &U64::new(5))?.0)
+    let told = ticket.settle();
+    Ok((journal.append(vol, &U64::new(5))?.0, told))
 }
 
 #[test]
 fn keeps_a_failed_started_sync(rt: HostRuntime) -> Result<(), Fail> {
     for call in [Call::Commit, Call::Sync, Call::StartSync, Call::Prune] {
         let mut vol = MemoryVolume::new(rt.alloc());
-        let journal = unsynced(rt.alloc(), &mut vol)?;
-        assert!(rt; error_of(&mut vol, journal, call) == Some(JournalError::Volume));
+        let (journal, told) = unsynced(rt.alloc(), &mut vol)?;
+        let error = error_of(&mut vol, journal, call);
+        assert!(rt; (told, error) == (Err(VolumeError::Failed), Some(JournalError::Volume)));
     }
     Ok(())
 }
 
-/// A volume on which three words are synced, and two more aren't.
-fn unsynced_words(alloc: Global) -> Result<MemoryVolume, Fail> {
-    let mut vol = MemoryVolume::new(alloc);
-    let cfg = config(alloc, LengthCfg { max: 9 })?;
-    let journal: VariableJournal<Bytes> = open(&mut vol, cfg, None)?;
-    let three = words(alloc, &[b"one", b"two", b"three"])?;
-    let journal = append_all(journal, &mut vol, &three)?.commit(&mut vol)?;
-    let two = words(alloc, &[b"one", b"two"])?;
-    let _journal = append_all(journal, &mut vol, &two)?;
-    Ok(vol)
+/// Appends words to a journal.
+fn appended_words(
+    alloc: Global,
+    vol: &mut MemoryVolume,
+    journal: VariableJournal<Bytes>,
+    texts: &[&[u8]],
+) -> Result<VariableJournal<Bytes>, JournalError> {
+    let items = words(alloc, texts)?;
+    append_all(journal, vol, &items)
+}
+
+/// Leaves three words that are synced, and two more that aren't.
+fn put_unsynced_words(alloc: Global, vol: &mut MemoryVolume) -> Result<(), JournalError> {
+    let journal: VariableJournal<Bytes> = open(vol, words_config(alloc)?, None)?;
+    let journal = appended_words(alloc, vol, journal, &[b"one", b"two", b"three"])?;
+    let journal = journal.commit(vol)?;
+    let _journal = appended_words(alloc, vol, journal, &[b"one", b"two"])?;
+    Ok(())
 }
 
 /// The bounds of the journal after a crash that leaves the log up to an end.
@@ -163,13 +179,14 @@ fn span_after(alloc: Global, vol: &MemoryVolume, end: u64) -> Result<(u64, u64),
         start: 0,
         end,
     };
-    let cfg = config(alloc, LengthCfg { max: 9 })?;
+    let cfg = words_config(alloc)?;
     Ok(VariableJournal::<Bytes>::span(&mut vol.crash(&[choice])?, &cfg)?)
 }
 
 #[test]
 fn an_unsynced_append_leaves_any_front(rt: HostRuntime) -> Result<(), Fail> {
-    let vol = unsynced_words(rt.alloc())?;
+    let mut vol = MemoryVolume::new(rt.alloc());
+    put_unsynced_words(rt.alloc(), &mut vol)?;
     for (end, left) in [(0, 3), (2, 3), (3, 3), (4, 4), (5, 5), (9, 5)] {
         assert!(rt; span_after(rt.alloc(), &vol, end)? == (0, left));
     }
@@ -222,39 +239,65 @@ fn last_fit<J: Backing, P: Fn(&J::Item) -> bool>(
     Ok(found)
 }
 
-#[test]
-fn each_call_answers_at_items_of_several_sizes(rt: HostRuntime) -> Result<(), Fail> {
-    let alloc = rt.alloc();
-    let mut vol = MemoryVolume::new(alloc);
+/// Whether a journal has these items at these positions, and gives them in a replay.
+fn gives<J: Contiguous>(
+    alloc: Global,
+    vol: &mut MemoryVolume,
+    journal: &J,
+    positions: &[u64],
+    want: &[J::Item],
+) -> Result<bool, JournalError>
+where
+    J::Item: PartialEq,
+{
+    let read = journal.read_many(vol, positions)?;
+    let replayed = replayed(alloc, vol, journal)?;
+    Ok(read.as_slice() == want && replayed.as_slice() == want)
+}
+
+/// Whether the words that each call left are read again.
+fn gives_words(alloc: Global, vol: &mut MemoryVolume) -> Result<bool, JournalError> {
     let items = words(alloc, &[b"seven", b"two", b"three"])?;
-    let cfg = config(alloc, LengthCfg { max: 9 })?;
-    let first = Bytes::from_slice(alloc, b"seven")?;
-    let journal: VariableJournal<Bytes> = synced(&mut vol, cfg, &first)?;
-    let journal = append_all(journal, &mut vol, behind(&items, 1))?;
-    assert!(rt; journal.read_many(&mut vol, &[3, 4, 5])? == items);
-    assert!(rt; replayed(alloc, &mut vol, &journal)? == items);
-    let cfg = config(alloc, LengthCfg { max: 9 })?;
-    let fits = |item: &Bytes| item.len() == 3;
-    assert!(rt; last_fit::<VariableJournal<Bytes>, _>(&mut vol, cfg, fits)? == 5);
-    Ok(())
+    let Some((first, others)) = items.split_first() else {
+        return Ok(false);
+    };
+    let journal: VariableJournal<Bytes> = synced(vol, words_config(alloc)?, first)?;
+    let journal = append_all(journal, vol, others)?;
+    gives(alloc, vol, &journal, &[3, 4, 5], &items)
 }
 
-/// The items behind so many; none where there are fewer.
-fn behind<T>(items: &[T], count: usize) -> &[T] {
-    match items.get(count..) {
-        Some(rest) => rest,
-        None => &[],
-    }
+/// Whether the word of three letters is found.
+fn finds_word(alloc: Global, vol: &mut MemoryVolume) -> Result<bool, JournalError> {
+    let fits = |item: &Bytes| item.len() == 3;
+    let found = last_fit::<VariableJournal<Bytes>, _>(vol, words_config(alloc)?, fits)?;
+    Ok(found == 5)
 }
 
 #[test]
-fn reads_items_of_one_size_in_their_order(rt: HostRuntime) -> Result<(), Fail> {
+fn each_call_answers_at_items_of_several_sizes(rt: HostRuntime) {
     let mut vol = MemoryVolume::new(rt.alloc());
-    let journal = numbered(rt.alloc(), &mut vol)?;
-    let items = numbers(rt.alloc(), 5)?;
-    assert!(rt; journal.read_many(&mut vol, &[2, 3, 4])?.as_slice() == behind(&items, 2));
-    assert!(rt; replayed(rt.alloc(), &mut vol, &journal)?.as_slice() == behind(&items, 2));
-    Ok(())
+    let given = gives_words(rt.alloc(), &mut vol);
+    let found = finds_word(rt.alloc(), &mut vol);
+    assert!(rt; (given, found) == (Ok(true), Ok(true)));
+}
+
+/// Whether the numbers that are left are read.
+fn gives_numbers(alloc: Global, vol: &mut MemoryVolume) -> Result<bool, JournalError> {
+    let items = numbers(alloc, 5)?;
+    let journal = numbered(alloc, vol)?;
+    gives(
+        alloc,
+        vol,
+        &journal,
+        &[2, 3, 4],
+        items.get(2..).unwrap_or(&[]),
+    )
+}
+
+#[test]
+fn reads_items_of_one_size_in_their_order(rt: HostRuntime) {
+    let mut vol = MemoryVolume::new(rt.alloc());
+    assert!(rt; gives_numbers(rt.alloc(), &mut vol) == Ok(true));
 }
 
 #[test]
@@ -287,15 +330,18 @@ fn after(
 }
 
 /// The bounds of a log of five items, of which the first blob is gone, after a step of its opening under a cap of 4.
-fn bounds_after(alloc: Global, step: Step) -> Result<Result<(u64, u64), JournalError>, Fail> {
-    let mut vol = MemoryVolume::new(alloc);
-    let _journal = numbered(alloc, &mut vol)?;
-    let recovery = FixedJournal::<U64>::recover(&mut vol, config(alloc, ())?, Some(4))?;
-    Ok(after(&mut vol, recovery, step).map(|recovery| recovery.bounds()))
+fn bounds_after(
+    alloc: Global,
+    vol: &mut MemoryVolume,
+    step: Step,
+) -> Result<(u64, u64), JournalError> {
+    let _journal = numbered(alloc, vol)?;
+    let recovery = FixedJournal::<U64>::recover(vol, config(alloc, ())?, Some(4))?;
+    Ok(after(vol, recovery, step)?.bounds())
 }
 
 #[test]
-fn opens_by_steps(rt: HostRuntime) -> Result<(), Fail> {
+fn opens_by_steps(rt: HostRuntime) {
     let rows = [
         (Step::Unbounded, Ok((2, 5))),
         (Step::Prune, Ok((4, 4))),
@@ -305,21 +351,26 @@ fn opens_by_steps(rt: HostRuntime) -> Result<(), Fail> {
         (Step::Clear(u64::MAX), Err(JournalError::SizeOverflow)),
     ];
     for (step, want) in rows {
-        assert!(rt; bounds_after(rt.alloc(), step)? == want);
+        let mut vol = MemoryVolume::new(rt.alloc());
+        assert!(rt; bounds_after(rt.alloc(), &mut vol, step) == want);
     }
-    Ok(())
 }
 
-/// What is answered for the only item of a log, of these bytes.
-fn read_of<J: Backing>(
-    alloc: Global,
-    cfg: J::Config,
-    text: &[u8],
-) -> Result<Option<JournalError>, Fail> {
+/// A volume whose log has one item, of these bytes.
+fn stored(alloc: Global, text: &[u8]) -> Result<MemoryVolume, VolumeError> {
     let mut vol = MemoryVolume::new(alloc);
-    vol.put_log("log", 3, &[Bytes::from_slice(alloc, text)?])?;
-    let journal: J = open(&mut vol, cfg, None)?;
-    Ok(journal.read(&mut vol, 3).err())
+    let items = [Bytes::from_vec(text.to_vec(alloc)?)];
+    vol.put_log("log", 3, &items)?;
+    Ok(vol)
+}
+
+/// What a journal answers for its item at 3.
+fn read_of<J: Backing>(vol: &mut MemoryVolume, cfg: J::Config) -> Option<JournalError> {
+    let journal: J = match open(vol, cfg, None) {
+        Ok(journal) => journal,
+        Err(error) => return Some(error),
+    };
+    journal.read(vol, 3).err()
 }
 
 #[test]
@@ -328,7 +379,8 @@ fn names_where_bytes_are_no_item(rt: HostRuntime) -> Result<(), Fail> {
     let words: [&[u8]; 4] = [&[2, 7], &[0, 7], &[0x80, 0], &[3, 7, 7, 7]];
     for text in words {
         let cfg = config(rt.alloc(), LengthCfg { max: 2 })?;
-        let read = read_of::<VariableJournal<Bytes>>(rt.alloc(), cfg, text)?;
+        let mut vol = stored(rt.alloc(), text)?;
+        let read = read_of::<VariableJournal<Bytes>>(&mut vol, cfg);
         assert!(rt; read == Some(JournalError::Corruption(3)));
     }
     Ok(())

@@ -16,14 +16,13 @@ fn mark(alloc: Global) -> Result<MetaMap, Fail> {
     Ok(mark)
 }
 
-/// Appends a number to an empty journal and marks it, on a volume of which the n-th call then fails.
-fn marked(alloc: Global, n: u64) -> Result<(MemoryVolume, bool), Fail> {
-    let mut vol = MemoryVolume::new(alloc);
-    let journal: FixedJournal<U64> = open(&mut vol, config(alloc, ())?, None)?;
-    vol.fail_call(n)?;
+/// Appends a number to an empty journal and marks it, on a volume of which the n-th call then fails; says whether that was done.
+fn marks(alloc: Global, vol: &mut MemoryVolume, n: u64) -> Result<bool, Fail> {
     let items = numbers(alloc, 1)?;
-    let is_marked = append_and_mark(journal, &mut vol, &items, "map", &mark(alloc)?).is_ok();
-    Ok((vol, is_marked))
+    let mark = mark(alloc)?;
+    let journal: FixedJournal<U64> = open(vol, config(alloc, ())?, None)?;
+    vol.fail_call(n)?;
+    Ok(append_and_mark(journal, vol, &items, "map", &mark).is_ok())
 }
 
 /// The end of the log and whether the map has the mark, after a crash that leaves least.
@@ -43,10 +42,10 @@ fn least_left(alloc: Global, vol: &MemoryVolume) -> Result<(u64, bool), Fail> {
 fn marks_what_is_durable_whichever_call_fails(rt: HostRuntime) -> Result<(), Fail> {
     // The append makes two calls, the sync one, and the mark one.
     for n in 1..6 {
-        let (vol, is_marked) = marked(rt.alloc(), n)?;
-        assert!(rt; is_marked == (n > 4));
-        let end = if n > 3 { 1 } else { 0 };
-        assert!(rt; least_left(rt.alloc(), &vol)? == (end, n > 4));
+        let mut vol = MemoryVolume::new(rt.alloc());
+        let is_marked = marks(rt.alloc(), &mut vol, n)?;
+        let (end, has_mark) = least_left(rt.alloc(), &vol)?;
+        assert!(rt; (is_marked, end, has_mark) == (n > 4, if n > 3 { 1 } else { 0 }, n > 4));
     }
     Ok(())
 }

@@ -71,8 +71,8 @@ fn roots_go_on_from_the_peaks_alone(rt: HostRuntime) -> Result<(), Fail> {
 }
 
 /// The positions below the size at which the tree of eleven leaves keeps no node.
-fn absent(alloc: Global) -> Result<Vec<u64>, Fail> {
-    let mut tree = Frontier::<Mmr>::new(alloc)?;
+fn absent<F: Family>(alloc: Global) -> Result<Vec<u64>, Error<F>> {
+    let mut tree = Frontier::<F>::new(alloc)?;
     append(&mut tree, &[0, 1, 2, 3, 4, 5, 6, 7, 8, 9, 10])?;
     let mut none = Vec::new(alloc);
     for position in 0..tree.mem().size().as_u64() {
@@ -87,13 +87,13 @@ fn absent(alloc: Global) -> Result<Vec<u64>, Fail> {
 fn only_peaks_are_kept(rt: HostRuntime) -> Result<(), Fail> {
     // Peaks of eleven leaves stand at 14, 17 and 18.
     let want = [0, 1, 2, 3, 4, 5, 6, 7, 8, 9, 10, 11, 12, 13, 15, 16];
-    assert!(rt; absent(rt.alloc())?.as_slice() == want.as_slice());
+    assert!(rt; absent::<Mmr>(rt.alloc())?.as_slice() == want.as_slice());
     Ok(())
 }
 
 /// The answer to a reset to so many leaves without peaks, and the leaves of the tree behind it.
-fn reset(alloc: Global, leaves: u64) -> Result<(Option<Error<Mmr>>, u64), Error<Mmr>> {
-    let mut tree = Frontier::<Mmr>::new(alloc)?;
+fn reset<F: Family>(alloc: Global, leaves: u64) -> Result<(Option<Error<F>>, u64), Error<F>> {
+    let mut tree = Frontier::<F>::new(alloc)?;
     append(&mut tree, b"ab")?;
     let answer = tree.reset_to(Location::new(leaves), Vec::new(alloc)).err();
     Ok((answer, tree.leaves().as_u64()))
@@ -102,34 +102,39 @@ fn reset(alloc: Global, leaves: u64) -> Result<(Option<Error<Mmr>>, u64), Error<
 #[test]
 fn a_reset_is_refused_or_replaces_the_tree(rt: HostRuntime) -> Result<(), Fail> {
     let past = MAX_LEAVES + 1;
-    let overflow = Some(Error::LocationOverflow(Location::new(past)));
-    assert!(rt; reset(rt.alloc(), 2)? == (Some(Error::InvalidPinnedNodes), 2));
-    assert!(rt; reset(rt.alloc(), past)? == (overflow, 2));
-    assert!(rt; reset(rt.alloc(), 0)? == (None, 0));
+    let overflow = Error::LocationOverflow(Location::new(past));
+    for (leaves, want) in [
+        (2, (Some(Error::InvalidPinnedNodes), 2)),
+        (past, (Some(overflow), 2)),
+        (0, (None, 0)),
+    ] {
+        assert!(rt; reset::<Mmr>(rt.alloc(), leaves)? == want);
+    }
     Ok(())
 }
 
 /// The answer to an append to a tree of so many leaves with one peak.
-fn appended(alloc: Global, leaves: u64) -> Result<Option<Error<Mmr>>, Error<Mmr>> {
+fn appended<F: Family>(alloc: Global, leaves: u64) -> Result<Option<Error<F>>, Error<F>> {
     let mut pins = Vec::new(alloc);
-    pins.push(hasher().leaf_digest(Position::<Mmr>::new(0), &[0]))?;
-    let mut tree = Frontier::<Mmr>::from_compact_state(alloc, Location::new(leaves), pins)?;
+    pins.push(hasher().leaf_digest(Position::<F>::new(0), &[0]))?;
+    let mut tree = Frontier::<F>::from_compact_state(alloc, Location::new(leaves), pins)?;
     Ok(tree.append_leaf(&hasher(), &[1]).err())
 }
 
 #[test]
 fn a_full_tree_takes_no_leaf(rt: HostRuntime) -> Result<(), Fail> {
     let past = Error::LocationOverflow(Location::new(MAX_LEAVES + 1));
-    assert!(rt; appended(rt.alloc(), MAX_LEAVES)? == Some(past));
-    assert!(rt; appended(rt.alloc(), MAX_LEAVES / 2)?.is_none());
+    for (leaves, want) in [(MAX_LEAVES, Some(past)), (MAX_LEAVES / 2, None)] {
+        assert!(rt; appended::<Mmr>(rt.alloc(), leaves)? == want);
+    }
     Ok(())
 }
 
 /// A batch with the leaves of these numbers, sealed with all its ancestors.
-fn sealed(
-    mut batch: UnmerkleizedBatch<Mmr, Sha256Digest>,
+fn sealed<F: Family>(
+    mut batch: UnmerkleizedBatch<F, Sha256Digest>,
     leaves: &[u8],
-) -> Result<MerkleizedBatch<Mmr, Sha256Digest>, Error<Mmr>> {
+) -> Result<MerkleizedBatch<F, Sha256Digest>, Error<F>> {
     for leaf in leaves {
         batch.add(&hasher(), &[*leaf])?;
     }
@@ -139,8 +144,8 @@ fn sealed(
 
 /// Whether a tree takes the prefix 0 to 7 and then the child 10 of 8 and 9 on it, and has the child's root; and the leaves, and
 /// what it answers to the prefix again.
-fn grown(alloc: Global) -> Result<(bool, u64, Option<Error<Mmr>>), Error<Mmr>> {
-    let mut tree = Frontier::<Mmr>::new(alloc)?;
+fn grown<F: Family>(alloc: Global) -> Result<(bool, u64, Option<Error<F>>), Error<F>> {
+    let mut tree = Frontier::<F>::new(alloc)?;
     let prefix = sealed(tree.new_batch()?, &[0, 1, 2, 3, 4, 5, 6, 7])?;
     let second = sealed(prefix.new_batch()?, &[8, 9])?;
     tree.apply_batch(&prefix)?;
@@ -155,16 +160,21 @@ fn grown(alloc: Global) -> Result<(bool, u64, Option<Error<Mmr>>), Error<Mmr>> {
 
 #[test]
 fn a_child_applies_behind_its_applied_prefix(rt: HostRuntime) -> Result<(), Fail> {
-    assert!(rt; grown(rt.alloc())? == (true, 11, Some(Error::StaleBatch)));
+    assert!(rt; grown::<Mmr>(rt.alloc())? == (true, 11, Some(Error::StaleBatch)));
     Ok(())
+}
+
+/// The leaves of a tree of two, to which its own empty batch was applied.
+fn with_nothing<F: Family>(alloc: Global) -> Result<u64, Error<F>> {
+    let mut tree = Frontier::<F>::new(alloc)?;
+    append(&mut tree, &[0, 1])?;
+    let empty = tree.to_batch()?;
+    tree.apply_batch(&empty)?;
+    Ok(tree.leaves().as_u64())
 }
 
 #[test]
 fn an_empty_batch_of_the_tree_applies_to_it(rt: HostRuntime) -> Result<(), Fail> {
-    let mut tree = Frontier::<Mmr>::new(rt.alloc())?;
-    append(&mut tree, &[0, 1])?;
-    let empty = tree.to_batch()?;
-    tree.apply_batch(&empty)?;
-    assert!(rt; tree.leaves().as_u64() == 2);
+    assert!(rt; with_nothing::<Mmr>(rt.alloc())? == 2);
     Ok(())
 }

@@ -1,0 +1,75 @@
+//! Makes the runs of a script, and prints what each answers. A case is a line with its kind and settings, each a name and a value,
+//! behind it the lines of its input, and then the line `end`. Between cases a line that begins with `#` is printed as it is.
+//! A `run` is that of commands under a `limit` of values, and ends with the fault that stopped it; a `main` is the top call,
+//! and ends with its status. Of `lines` each is an input of its own, and so of `hex`, where each is told by its bytes.
+#![tactic(auto)]
+
+mod error;
+mod inputs;
+mod settings;
+mod top_call;
+mod volume;
+mod whole_run;
+
+use crate::error::ScriptError;
+use crate::inputs::{print_hex, print_lines};
+use crate::settings::kind;
+use crate::top_call::print_main;
+use crate::whole_run::print_run;
+use std::alloc::Global;
+
+/// Prints what a case answers.
+fn print_case(rt: &impl Print, alloc: Global, head: &str, input: &str) -> Result<(), ScriptError> {
+    match kind(head) {
+        "run" => print_run(rt, alloc, head, input),
+        "main" => print_main(rt, alloc, head, input),
+        "lines" => print_lines(rt, alloc, input),
+        "hex" => print_hex(rt, alloc, input),
+        _ => Err(ScriptError::Script),
+    }
+}
+
+/// A case of which some lines were read.
+#[derive(Drop)]
+struct Begun {
+    head: String,
+    input: String,
+}
+
+impl Begun {
+    fn new(alloc: Global) -> Self {
+        Begun {
+            head: String::new(alloc),
+            input: String::new(alloc),
+        }
+    }
+
+    /// Takes the next line, and says whether the case ends with it.
+    fn ends_with(&mut self, line: &str) -> Result<bool, ScriptError> {
+        if self.head.is_empty() {
+            self.head.push_str(line)?;
+            return Ok(false);
+        }
+        if line == "end" {
+            return Ok(true);
+        }
+        self.input.push_str(line)?;
+        self.input.push('\n')?;
+        Ok(false)
+    }
+}
+
+fn main(rt: HostRuntime) -> Result<(), ScriptError> {
+    let alloc = rt.alloc();
+    let mut case = Begun::new(alloc);
+    for line in rt.lines(alloc) {
+        let line = line?;
+        if case.head.is_empty() && line.as_str().starts_with('#') {
+            println!(rt; "{line}")?;
+        } else if case.ends_with(line.as_str())? {
+            print_case(&rt, alloc, case.head.as_str(), case.input.as_str())?;
+            case = Begun::new(alloc);
+        }
+    }
+    Ok(())
+}
