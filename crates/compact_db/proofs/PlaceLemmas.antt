@@ -19,8 +19,8 @@ use Rattle.chain_core.specs.declared.error.Error.{Error}
 use Rattle.chain_core.specs.declared.place.Place.{Place}
 use Rattle.chain_core.specs.declared.pool.HeldBatch.{HeldBatch}
 use Rattle.chain_core.proofs.StateLemmas.{whole, state_of_front, state_longer, states_longer, later_in}
-use Rattle.compact_db.specs.Batches.{UnmerkleizedView, MerkleizedView, bounds_of, IsUnmerkleizedOf, IsMerkleizedOf, StandsIn, IsChainOf, IsSealedBy}
-use Rattle.compact_db.specs.Sealing.{IsEnded, StandsAt, WhyNotSealed}
+use Rattle.compact_db.specs.Batches.{UnmerkleizedView, MerkleizedView, bounds_of, IsUnmerkleizedOf, IsMerkleizedOf, StandsIn, IsPoolOf, IsSealedBy}
+use Rattle.compact_db.specs.Sealing.{IsEnded, HasPlace, WhyNotSealed}
 use Rattle.compact_db.proofs.SealLemmas.{room, ends_last, floor_last}
 
 state_is : {F D : Type 0} (c : Commitment F D) (n : ℕ) (r : D) → c.size ≡ n → c.root ≡ r → c ≡ record { size = n; root = r }
@@ -28,7 +28,7 @@ state_is c n r p q i = record { size = p i; root = q i }
 
 -- the refusal of a place is the error's
 pub told_by : {F D Op : Type 0} (bytes : D → List ℕ) (pool : List (Option (HeldBatch (MerkleizedView F D Op)))) (b : UnmerkleizedView F D Op)
-    (current : Commitment F D) (below floor size fl : ℕ) (place : Place F D) (e : Error F) → StandsAt pool b below place
+    (current : Commitment F D) (below floor size fl : ℕ) (place : Place F D) (e : Error F) → HasPlace pool b below place
     → size ≡ b.base.size + length b.pending → fl ≡ floor
     → IsSome (place_refusal bytes place current size fl) × (refusal_of e ≡ place_refusal bytes place current size fl)
     → WhyNotSealed bytes pool b current below floor e
@@ -61,8 +61,8 @@ module _ {F D Op V : Type 0} (s : Shape) (h : Hashing D) (m : Meaning Op V) (lis
   tips_in_list [] all = tt
   tips_in_list (b ∷ items) all = (all.0.1, tips_in_list items all.1)
 
-  module _ (pool : List (Option (HeldBatch (MerkleizedView F D Op)))) (v : UnmerkleizedView F D Op) (below : ℕ) (place : Place F D) (at : StandsAt pool v below place)
-      (of : IsUnmerkleizedOf s h m list v) (chain : IsChainOf s h m pool v.parent list) where
+  module _ (pool : List (Option (HeldBatch (MerkleizedView F D Op)))) (v : UnmerkleizedView F D Op) (below : ℕ) (place : Place F D) (at : HasPlace pool v below place)
+      (of : IsUnmerkleizedOf s h m list v) (chain : IsPoolOf s h m pool v.parent list) where
     base_in : In v.base
     base_in = subst In (sym of.base) (state_of_front s h m list list (whole list))
 

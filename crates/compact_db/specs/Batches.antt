@@ -61,7 +61,7 @@ module _ {F D Op V : Type 0} (s : Shape) (h : Hashing D) (m : Meaning Op V) wher
   StandsIn list b = IsStateIn s h m list b.bounds.base × IsStateIn s h m list b.bounds.tip
 
   -- A parent that is alive began at a state of a front of this list, and so did each batch that is reached from it.
-  pub record IsChainOf (pool : List (Option (HeldBatch (MerkleizedView F D Op)))) (parent : Option ℕ)
+  pub record IsPoolOf (pool : List (Option (HeldBatch (MerkleizedView F D Op)))) (parent : Option ℕ)
       (list : List Op) : Type 0 where
     pub boundary : (b : MerkleizedView F D Op) → linked_item pool parent ≡ Some b → IsStateIn s h m list b.bounds.db
     pub reached : (ids : List ℕ) → IsReach (slot_at pool) parent ids → AllByRecursion (StandsIn list) (items_at pool ids)

@@ -29,15 +29,15 @@ pub record KeepsSegments {D : Type 0} (t : Unsealed D) (reached : ℕ) (b : Seal
   pub first : b.first ≡ first_leaves (drop (length t.links - reached) t.links) t.base
 
 -- Where a batch stands in a pool, over a log of this floor.
-abbrev pub StandsAt : {F D Op : Type 0} → List (Option (HeldBatch (MerkleizedView F D Op))) → UnmerkleizedView F D Op → ℕ
+abbrev pub HasPlace : {F D Op : Type 0} → List (Option (HeldBatch (MerkleizedView F D Op))) → UnmerkleizedView F D Op → ℕ
     → Place F D → Type 0
-StandsAt pool b below place = IsPlaceOf bounds_of pool b.parent b.base below place
+HasPlace pool b below place = IsPlaceOf bounds_of pool b.parent b.base below place
 
 -- Why a batch isn't sealed with a floor at a state of a log of this floor: its place tells, with as many operations as it has before its commit.
 pub record IsRefused {F D Op : Type 0} (bytes : D → List ℕ) (pool : List (Option (HeldBatch (MerkleizedView F D Op))))
     (b : UnmerkleizedView F D Op) (current : Commitment F D) (below floor : ℕ) (why : Option Refusal) : Type 0 where
   pub place : Place F D
-  pub place_of : StandsAt pool b below place
+  pub place_of : HasPlace pool b below place
   pub why_is : place_refusal bytes place current (b.base.size + length b.pending) floor ≡ why
 
 -- The error is such a refusal, or want of memory.
@@ -50,7 +50,7 @@ WhyNotSealed bytes pool b current below floor e =
 pub record IsSealedIn {F D Op : Type 0} (bytes : D → List ℕ) (pool : List (Option (HeldBatch (MerkleizedView F D Op))))
     (b : UnmerkleizedView F D Op) (current : Commitment F D) (below floor : ℕ) (bounds : Bounds F D) : Type 0 where
   pub place : Place F D
-  pub place_of : StandsAt pool b below place
+  pub place_of : HasPlace pool b below place
   pub may : place_refusal bytes place current (b.base.size + length b.pending) floor ≡ None
   pub base : bounds.base ≡ b.base
   pub db : bounds.db ≡ place.boundary

@@ -177,7 +177,7 @@ where
     ghost use Rattle.std.specs.Prelude.{◌≡◌, ◌<◌, ◌-◌, ◌^◌, ◌++◌, ◌∷◌, [], List, Some, length, min, IfOk, IfErr, OnOk, OnErr};
     ghost use Rattle.std.specs.Option.{ForSome};
     ghost use Rattle.chain_core.specs.Slots.{IsAlive, link_released};
-    ghost use Rattle.compact_db.specs.Batches.{MerkleizedView, IsUnmerkleizedOf, IsChainOf, IsSealedBy};
+    ghost use Rattle.compact_db.specs.Batches.{MerkleizedView, IsUnmerkleizedOf, IsPoolOf, IsSealedBy};
     ghost use Rattle.compact_db.specs.DbView.{commitment_in, floor_in};
     ghost use Rattle.compact_db.specs.Sealing.{IsEnded, IsSealedIn, KeepsSegments, WhyNotSealed};
 
@@ -197,7 +197,7 @@ where
             × (pool.new ≡ link_released pool.old self.parent ++ Some (record { item = b; parent = self.parent; holds = 1 }) ∷ [])
             × IsSealedIn H.Digest.bytes pool.old self (commitment_in db.now) (floor_in O.meaning db.now) inactivity_floor b.bounds
             × ((list : List O) → IsUnmerkleizedOf F.shape H.hash O.meaning list self →
-            IsChainOf F.shape H.hash O.meaning pool.old self.parent list →
+            IsPoolOf F.shape H.hash O.meaning pool.old self.parent list →
             IsSealedBy F.shape H.hash O.meaning list self.pending metadata inactivity_floor b)
             × KeepsSegments self.tree (min (length b.bounds.ancestors) (length self.tree.links)) b.tree
             × IsEnded O.meaning self.pending metadata inactivity_floor b.operations) }

@@ -5,7 +5,7 @@ ghost use Rattle.chain_core.specs.Slots.{IsAlive};
 ghost use Rattle.log_model.specs.Operations.{floor_of, leaves_from, root_of};
 ghost use Rattle.tree_core.specs.Batches.{IsSealedOf, IsUnsealedOf};
 ghost use Rattle.tree_shape.specs.Slow.{leaf};
-ghost use Rattle.compact_db.specs.Batches.{IsUnmerkleizedOf, IsChainOf, IsSealedBy};
+ghost use Rattle.compact_db.specs.Batches.{IsUnmerkleizedOf, IsPoolOf, IsSealedBy};
 ghost use Rattle.compact_db.specs.Sealing.{IsEnded, IsSealedIn, KeepsSegments, WhyNotSealed};
 
 use crate::{CompactOperation, MerkleizedBatch, UnmerkleizedBatch};
@@ -127,7 +127,7 @@ where
         ensures refused { IfErr result (WhyNotSealed H.Digest.bytes pool.now self current.now below floor) }
         // The batch of a list becomes one of the list with its operations and the commit.
         ensures list { IfOk result (λ b. (list : List O) → IsUnmerkleizedOf F.shape H.hash O.meaning list self →
-            IsChainOf F.shape H.hash O.meaning pool.now self.parent list →
+            IsPoolOf F.shape H.hash O.meaning pool.now self.parent list →
             IsSealedBy F.shape H.hash O.meaning list self.pending metadata floor b) }
         // Its tree keeps a segment for each ancestor whose tip is kept, as far as there are as many, and its own.
         ensures segments { IfOk result (λ b. KeepsSegments self.tree

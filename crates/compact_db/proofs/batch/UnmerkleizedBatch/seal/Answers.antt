@@ -3,14 +3,14 @@ use Rattle.tree_core.specs.Batches.{IsSealedOf, IsUnsealedOf}
 use Rattle.log_model.specs.Operations.{floor_of, leaves_from, root_of}
 use Rattle.chain_core.specs.declared.commitment.Commitment.{Commitment}
 use Rattle.compact_db.specs.Batches.{UnmerkleizedView}
-use Rattle.compact_db.specs.Sealing.{IsEnded, StandsAt}
+use Rattle.compact_db.specs.Sealing.{IsEnded, HasPlace}
 use Rattle.compact_db.proofs.PlaceLemmas.{told_by, may_here, sealed_with}
 use Rattle.compact_db.proofs.batch.UnmerkleizedBatch.seal.Goals as goal
 
 pub returns-in-Err-clause-refused : goal.returns-in-Err-clause-refused
 returns-in-Err-clause-refused g c =
-    let at : StandsAt c.args.pool.now c.args.self c.args.below c.in-Ok.place =
-    subst (λ (b : UnmerkleizedView g.row.F.Denot g.row.H-Digest.Denot g.row.O.Denot). StandsAt c.args.pool.now b c.args.below c.in-Ok.place)
+    let at : HasPlace c.args.pool.now c.args.self c.args.below c.in-Ok.place =
+    subst (λ (b : UnmerkleizedView g.row.F.Denot g.row.H-Digest.Denot g.row.O.Denot). HasPlace c.args.pool.now b c.args.below c.in-Ok.place)
     c.self.view_is c.in-Ok.ensures.place in
     told_by g.H.Digest.Digest.bytes c.args.pool.now c.args.self c.args.current.now c.args.below c.args.floor _ _
     c.in-Ok.place c.in-Err.error at (c.as_u64-size.ensures ∙ c.size.ensures.size) (c.new.ensures ∙ c.as_u64.ensures)
@@ -19,8 +19,8 @@ returns-in-Err-clause-refused g c =
 pub returns-clause-sealed : goal.returns-clause-sealed
 returns-clause-sealed g c =
     let size = c.as_u64-size.ensures ∙ c.size.ensures.size in
-    let at : StandsAt c.args.pool.now c.args.self c.args.below c.in-Ok.place =
-    subst (λ (b : UnmerkleizedView g.row.F.Denot g.row.H-Digest.Denot g.row.O.Denot). StandsAt c.args.pool.now b c.args.below c.in-Ok.place)
+    let at : HasPlace c.args.pool.now c.args.self c.args.below c.in-Ok.place =
+    subst (λ (b : UnmerkleizedView g.row.F.Denot g.row.H-Digest.Denot g.row.O.Denot). HasPlace c.args.pool.now b c.args.below c.in-Ok.place)
     c.self.view_is c.in-Ok.ensures.place in
     record {
       place = c.in-Ok.place;
@@ -40,8 +40,8 @@ returns-clause-list g c list of chain =
     let h = g.H.Hasher.hash in
     let m = g.O.Logged.meaning in
     let size = c.as_u64-size.ensures ∙ c.size.ensures.size in
-    let at : StandsAt c.args.pool.now c.args.self c.args.below c.in-Ok.place =
-    subst (λ (b : UnmerkleizedView g.row.F.Denot g.row.H-Digest.Denot g.row.O.Denot). StandsAt c.args.pool.now b c.args.below c.in-Ok.place)
+    let at : HasPlace c.args.pool.now c.args.self c.args.below c.in-Ok.place =
+    subst (λ (b : UnmerkleizedView g.row.F.Denot g.row.H-Digest.Denot g.row.O.Denot). HasPlace c.args.pool.now b c.args.below c.in-Ok.place)
     c.self.view_is c.in-Ok.ensures.place in
     let base : c.self.inside.base ≡ c.args.self.base =
     ap (λ (b : UnmerkleizedView g.row.F.Denot g.row.H-Digest.Denot g.row.O.Denot). b.base) c.self.view_is in
