@@ -5,6 +5,7 @@ mod bounds;
 mod commitment;
 mod error;
 mod floor;
+mod laws;
 mod place;
 mod pool;
 mod reach;
@@ -13,6 +14,7 @@ pub use bounds::{Bounds, effective_boundary, merkleizable, validate_batch_applic
 pub use commitment::{Commitment, Compatible};
 pub use error::{DataFault, Error};
 pub use floor::validate_merkleize_floor;
+pub use laws::equality_laws;
 pub use place::Place;
 pub use pool::{BatchId, HeldBatch, Pool, PoolError};
 pub use reach::{Chained, Reach, reach_of};

@@ -13,6 +13,6 @@ pub use laws::{
     encodings_law, fresh_law, no_clash_law, openings_are_good, stands_laws, steps_stay_good,
 };
 pub use logged::Logged;
-pub use refusal::Refusal;
+pub use refusal::{Refusal, equality_law};
 pub use root::{floor_of_operations, push_leaves, root_of_leaves};
 pub use sizes::{first_at_least, last_kept};

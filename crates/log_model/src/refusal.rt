@@ -1,3 +1,7 @@
+ghost use Rattle.std.specs.Prelude.{◌≡◌};
+ghost use Rattle.std.specs.Bool.{Decides};
+ghost use Rattle.log_model.specs.declared.refusal.Refusal.{Refusal};
+
 /// Why a command, or a call of a database, is refused. A location is the place of an operation, a size a number of operations.
 #[derive(Clone, Copy, Debug, PartialEq, Eq)]
 pub enum Refusal {
@@ -30,3 +34,8 @@ pub enum Refusal {
     /// No such size was reached, or a proof would begin at or past its size.
     RangeOutOfBounds(u64),
 }
+
+/// Two refusals are equal exactly where they are one: one variant with the same fields.
+pub fn equality_law()
+    ensures { (a b : Refusal) → Decides (⟦<Refusal as PartialEq>⟧.eq a b) (a ≡ b) }
+{}
