@@ -3,16 +3,15 @@ use Rattle.std.proofs.Common.{◌≡◌, ℕ, zero, suc, ◌+◌, ◌-◌, ◌^�
 use Rattle.std.specs.Prelude.{slice_get}
 use Rattle.std.proofs.lemmas.Nat.{pow_pos}
 use Rattle.std.proofs.lemmas.Bool.Decides.{eqb_tells}
+use Rattle.std.proofs.lemmas.List.{get_or-reverse}
 use Rattle.std.proofs.lemmas.Option.{some_pair_parts, slice_get_within}
-use Rattle.tree_shape.specs.Shape.{Shape, made, PeaksStand, IsLawful}
+use Rattle.tree_shape.specs.Shape.{Shape, made, peaks, peaks_down, PeaksStand, IsLawful}
 use Rattle.tree_shape.specs.Kept.{PeakOf}
 use Rattle.tree_shape.specs.Pins.{base}
-use Rattle.tree_shape.proofs.PinLemmas.{base-next}
+use Rattle.tree_shape.proofs.PinLemmas.{base-next, length-peaks_down, peaks_down-at}
 use Rattle.tree_core.specs.Pruned.{is_peak_at}
 use Rattle.tree_core.specs.Reading.{ArePeaks}
-use Rattle.tree_core.proofs.FoldLemmas.{in_peaks, oldest_at}
-use Rattle.tree_shape.proofs.NodeLemmas.{low_height}
-use Rattle.tree_shape.proofs.PinLemmas.{base-le}
+use Rattle.tree_core.proofs.FoldLemmas.{in_peaks}
 use Rattle.tree_core.proofs.PrunedLemmas.{peak_stands, peak_at_true}
 use Rattle.tree_core.specs.KeptNodes.{entry_at, AreBefore}
 use Rattle.tree_core.proofs.KeptNodesLemmas.{entry_on, entry_first, entry_second, entry_here}
@@ -120,22 +119,12 @@ pins_below s cs e (k ∷ ks) p st le =
       | inr t ↦ rw t.0 (pins_below s cs (e - 2 ^ k) ks p st.2 le)
     ]
 
-pub first_is : (s : Shape) (n : ℕ) → IsLawful s → 0 ≡ first_at s n 0
-first_is s n w = oldest_at s n (length (s.heights n) - 0) w (omega arith)
-
--- what a step to the next peak needs and gives
-pub record StepsTo (s : Shape) (n j start h : ℕ) : Type 0 where
-  pub low : h < 63
-  pub room : start + 2 ^ h ≤ 2 ^ 62
-  pub height : h ≡ height_at s n j
-  pub next : start + 2 ^ h ≡ first_at s n (suc j)
-
-pub steps_to : (s : Shape) (n j start h count : ℕ) → IsLawful s → n ≤ 2 ^ 62 → j < count → count ≡ length (s.heights n) → start ≡ first_at s n j → h ≡ get_or (s.heights n) (count - 1 - j) 0 → StepsTo s n j start h
-steps_to s n j start h count w few lt ec es eh =
+-- an item of the list of peaks is the one of its place
+pub peak_is : (s : Shape) (n j : ℕ) (p : ℕ × ℕ) → j < length (s.heights n) → p ≡ get_or (peaks s n) j p
+    → p ≡ (first_at s n j, height_at s n j)
+peak_is s n j p lt is =
     let hs = s.heights n in
-    let height : h ≡ height_at s n j = eh ∙ ap (λ m. get_or hs (m - 1 - j) 0) ec in
-    let two : 2 ^ h ≡ 2 ^ height_at s n j = ap (λ k. 2 ^ k) height in
-    let after = first_next s n j w (omega arith) in
-    let next : start + 2 ^ h ≡ first_at s n (suc j) = omega arith in
-    let le = base-le n hs (length hs - suc j) in
-    record { low = low_height h (2 ^ 62) (omega arith) (omega arith); room = omega arith; height = height; next = next }
+    let l = length-peaks_down n hs in
+    let up : suc (length hs - 1 - j) ≡ length hs - j = omega arith in
+    is ∙ get_or-reverse (peaks_down n hs) j p (omega (arith, l)) ∙ ap (λ m. get_or (peaks_down n hs) (m - 1 - j) p) l
+    ∙ peaks_down-at n hs (length hs - 1 - j) p (omega arith) ∙ ap (λ b. (base n hs b, height_at s n j)) up

@@ -9,7 +9,7 @@ ghost use Rattle.tree_core.specs.Tree.{rests};
 
 use crate::Error;
 use std::alloc::{AllocError, Global};
-use tree_shape::{Digest, Family, Position, width};
+use tree_shape::{Digest, Family, Position, peak_nodes, width};
 
 /// Whether a peak of this many leaves stands here.
 fn is_peak_position<F: Family>(leaves: u64, position: u64) -> bool
@@ -59,13 +59,11 @@ pub(crate) fn pins_of<F: Family, D: Digest>(
         entry_at v.items p ≡ None) }
     ensures before { IfOk result (λ v. AreBefore (length (made F.shape leaves)) v.items) }
 {
+    let peaks = peak_nodes::<F>(alloc, leaves)?;
     let mut nodes = Vec::new(alloc);
-    let count = F::peak_count(leaves);
-    let mut start = 0;
-    for j in 0..count {
-        let height = F::peak_height(leaves, count - 1 - j);
-        nodes.push((F::position(start, height), pinned[j as usize]))?;
-        start += width(height);
+    for j in 0..peaks.len() {
+        let (x, height) = peaks[j];
+        nodes.push((F::position(x, height), pinned[j]))?;
     }
     Ok(nodes)
 }

@@ -1,14 +1,14 @@
 -- The nodes of a cover that stand left of its range.
-use Rattle.std.proofs.Common.{◌≡◌, ℕ, zero, suc, ◌+◌, ◌-◌, ◌^◌, ◌<◌, ◌≤◌, Bool, true, false, cond, List, [], ◌∷◌, ◌++◌, length, refl, sym, ◌∙◌, ap, subst, arith, append_assoc}
+use Rattle.std.proofs.Common.{◌≡◌, ℕ, zero, suc, ◌+◌, ◌-◌, ◌^◌, ◌<◌, ◌≤◌, Bool, true, false, cond, List, [], ◌∷◌, ◌++◌, refl, sym, ◌∙◌, ap, subst, arith, append_assoc}
 use Rattle.std.specs.Prelude.{All, nat_le, if◌then◌else◌}
 use Rattle.std.proofs.lemmas.Bool.Decides.{nat_tests}
 use Rattle.std.proofs.lemmas.List.Elements.{filter-append}
 use Rattle.std.proofs.lemmas.Nat.{pow_pos}
-use Rattle.tree_shape.specs.Shape.{Shape, peaks, ends_by}
+use Rattle.tree_shape.specs.Shape.{ends_by}
 use Rattle.tree_proof.specs.Cover.{Opened, meets, cover_in, cover_over}
 use Rattle.tree_proof.specs.Pinned.{left_of}
 use Rattle.tree_proof.proofs.CoverSteps.{cover_in-outside, cover_in-halves}
-use Rattle.tree_shape.proofs.PeakLemmas.{peaks_left, all_left, none_left, all-append, EndBy, small}
+use Rattle.tree_shape.proofs.PeakLemmas.{all-append, EndBy, small}
 use Rattle.tree_proof.proofs.RebuildLemmas.{append_nil}
 
 -- ---- one node, by cases
@@ -141,17 +141,16 @@ left-small a ps qs few e = subst (All (λ p. (p.0 + 2 ^ p.1 ≤ 2 ^ 62) × (p.1 
 
 -- ---- the walk
 
-module _ (s : Shape) (n a : ℕ) where
-  -- those so far, and those under the peaks that are left, are all
-  abbrev pub Gone : List (ℕ × ℕ) → ℕ → Type 0
-  Gone acc left = acc ++ left_over a (peaks_left s n left) ≡ left_over a (peaks s n)
+module _ (a : ℕ) (all : List (ℕ × ℕ)) where
+  -- those so far, and those under the nodes that are left, are all
+  abbrev pub Gone : List (ℕ × ℕ) → List (ℕ × ℕ) → Type 0
+  Gone acc left = acc ++ left_over a left ≡ left_over a all
 
-  pub gone_first : (acc : List (ℕ × ℕ)) (left : ℕ) → acc ≡ [] → left ≡ length (s.heights n) → Gone acc left
-  gone_first acc left e l = rw e (ap (left_over a) (all_left s n left l))
-
-  pub gone_next : (acc more : List (ℕ × ℕ)) (left later x k : ℕ) → Gone acc left → peaks_left s n left ≡ (x, k) ∷ peaks_left s n later → more ≡ acc ++ left_in a x k → Gone more later
+  pub gone_next : (acc more left later : List (ℕ × ℕ)) (x k : ℕ) → Gone acc left → left ≡ (x, k) ∷ later
+      → more ≡ acc ++ left_in a x k → Gone more later
   gone_next acc more left later x k g are m =
-      ap (λ ps. ps ++ left_over a (peaks_left s n later)) m ∙ append_assoc acc (left_in a x k) (left_over a (peaks_left s n later)) ∙ sym (ap (λ ps. acc ++ left_over a ps) are) ∙ g
+      ap (λ ps. ps ++ left_over a later) m ∙ append_assoc acc (left_in a x k) (left_over a later)
+      ∙ ap (λ ps. acc ++ left_over a ps) (sym are) ∙ g
 
-  pub gone_all : (acc : List (ℕ × ℕ)) (left : ℕ) → Gone acc left → left ≡ 0 → acc ≡ left_over a (peaks s n)
-  gone_all acc left g z = sym (ap (λ ps. acc ++ left_over a ps) (none_left s n left z) ∙ append_nil acc) ∙ g
+  pub gone_all : (acc left : List (ℕ × ℕ)) → Gone acc left → left ≡ [] → acc ≡ left_over a all
+  gone_all acc left g z = sym (ap (λ ps. acc ++ left_over a ps) z ∙ append_nil acc) ∙ g

@@ -4,7 +4,7 @@ ghost use Rattle.tree_proof.specs.Cover.{meets, cover_in, cover};
 ghost use Rattle.tree_proof.specs.Pinned.{left_of};
 
 use std::alloc::{AllocError, Global};
-use tree_shape::{Family, half_width, width};
+use tree_shape::{Family, half_width, peak_nodes, width};
 
 /// Adds those of the cover of a range from so many leaves on, inside a node, that stand left of it.
 fn push_left(
@@ -42,13 +42,11 @@ pub(crate) fn left_nodes<F: Family>(
         nodes.items ≡ left_of start (cover F.shape (meets start end) leaves)) }
     ensures small { IfOk result (λ nodes. All (λ p. (p.0 + 2 ^ p.1 ≤ 2 ^ 62) × (p.1 < 63)) nodes.items) }
 {
+    let peaks = peak_nodes::<F>(alloc, leaves)?;
     let mut nodes = Vec::new(alloc);
-    let mut x = 0;
-    let count = F::peak_count(leaves);
-    for i in 0..count {
-        let height = F::peak_height(leaves, count - 1 - i);
+    for i in 0..peaks.len() {
+        let (x, height) = peaks[i];
         push_left(&mut nodes, start, x, height)?;
-        x += width(height);
     }
     Ok(nodes)
 }

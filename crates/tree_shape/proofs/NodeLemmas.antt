@@ -41,10 +41,6 @@ pub next_peak : (s : Shape) (cs : List (ℕ × ℕ)) (e i : ℕ) (hs : List ℕ)
     → (2 ^ get_or hs i 0 ≤ e) × PeaksStand s cs (e - 2 ^ get_or hs i 0) (drop (i + 1) hs)
 next_peak s cs e i hs lt p = let q : PeaksStand s cs e (get_or hs i 0 ∷ drop (i + 1) hs) = rw add-one (rw (drop-cons hs i 0) at p) in (q.0, q.2)
 
-pub next_digest : {D : Type 0} (s : Shape) (h : Hashing D) (leaves : List D) (e i : ℕ) (hs : List ℕ) → i < length hs
-    → peak_digests s h leaves e (drop i hs) ≡ node s h leaves (e - 2 ^ get_or hs i 0) (get_or hs i 0) ∷ peak_digests s h leaves (e - 2 ^ get_or hs i 0) (drop (i + 1) hs)
-next_digest s h leaves e i hs lt = ap (peak_digests s h leaves e) (drop-cons hs i 0 lt) ∙ rw add-one refl
-
 pub length-peak_digests : {D : Type 0} (s : Shape) (h : Hashing D) (leaves : List D) (e : ℕ) (hs : List ℕ) → length (peak_digests s h leaves e hs) ≡ length hs
 length-peak_digests s h leaves e [] = refl
 length-peak_digests s h leaves e (k ∷ ks) = ap suc (length-peak_digests s h leaves (e - 2 ^ k) ks)

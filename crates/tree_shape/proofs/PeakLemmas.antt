@@ -1,5 +1,5 @@
 -- The peaks of a tree, and those that a walk from the oldest on has left.
-use Rattle.std.proofs.Common.{◌≡◌, ℕ, zero, suc, ◌+◌, ◌-◌, ◌^◌, ◌<◌, ◌≤◌, List, [], ◌∷◌, ◌++◌, length, reverse, take, get_or, refl, sym, ◌∙◌, ap, subst, arith, append_assoc}
+use Rattle.std.proofs.Common.{◌≡◌, ℕ, zero, suc, ◌+◌, ◌-◌, ◌^◌, ◌<◌, ◌≤◌, List, [], ◌∷◌, ◌++◌, length, reverse, take, drop, get_or, drop-cons, refl, sym, ◌∙◌, ap, subst, arith, append_assoc}
 use Rattle.std.specs.Prelude.{All}
 use Rattle.std.specs.List.{AllByRecursion}
 use Rattle.std.specs.Prelude.{◌==◌, ◌&&◌}
@@ -92,7 +92,19 @@ peaks_down-end s cs n e (k ∷ ks) le p = (omega (arith, p.0, le), peaks_down-en
 pub peaks-end : (s : Shape) (n : ℕ) → PeaksStand s (made s n) n (s.heights n) → EndBy n (peaks s n)
 peaks-end s n stand = all-reverse (λ p. p.0 + 2 ^ p.1 ≤ n) (peaks_down n (s.heights n)) (peaks_down-end s (made s n) n n (s.heights n) (omega arith) stand)
 
+-- so the one at a place does
+pub end-at : (a i : ℕ) (ps : List (ℕ × ℕ)) (p : ℕ × ℕ) → EndBy a ps → i < length ps → p ≡ get_or ps i p → p.0 + 2 ^ p.1 ≤ a
+end-at a i [] p e lt is = absurd (omega arith)
+end-at a zero (q ∷ ps) p e lt is = let le = e.0 in subst (λ (c : ℕ × ℕ). c.0 + 2 ^ c.1 ≤ a) (sym is) le
+end-at a (suc i) (q ∷ ps) p e lt is = end-at a i ps p e.1 (omega (arith, lt)) is
+
 -- ---- the list of them
+
+-- a walk over a list comes to the item at a place, and has those behind it left
+pub next_in : {X : Type 0} (xs : List X) (i : ℕ) (x : X) → i < length xs → x ≡ get_or xs i x → drop i xs ≡ x ∷ drop (i + 1) xs
+next_in xs i x lt is =
+    let up : suc i ≡ i + 1 = omega arith in
+    drop-cons xs i x lt ∙ ap (λ y. y ∷ drop (suc i) xs) (sym is) ∙ ap (λ j. x ∷ drop j xs) up
 
 -- these nodes and the peaks that are left are all
 abbrev pub Listed : Shape → ℕ → List (ℕ × ℕ) → ℕ → Type 0

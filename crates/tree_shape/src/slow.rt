@@ -1,10 +1,10 @@
 ghost use Rattle.std.specs.Prelude.{◌≡◌, ◌≤◌, ◌<◌, ◌+◌, ◌-◌, ◌^◌, length, map, IfOk};
 ghost use Rattle.tree_shape.specs.Shape.{peaks};
-ghost use Rattle.tree_shape.specs.Slow.{node, node_of, peak_digests};
+ghost use Rattle.tree_shape.specs.Slow.{node, node_of};
 ghost use Rattle.tree_shape.specs.Root.{root};
 
 use crate::root::root_of_peaks;
-use crate::{Family, Hasher, Position, Standard, half_width, width};
+use crate::{Family, Hasher, Position, Standard, half_width, peak_nodes};
 use std::alloc::{AllocError, Global};
 
 /// The node of this height over the leaves from `start` on, from the leaves each time.
@@ -30,26 +30,6 @@ pub fn slow_node<F: Family, H: Hasher>(
     }
 }
 
-/// The digests of the peaks, the newest first.
-fn newest_peaks<F: Family, H: Hasher>(
-    alloc: Global,
-    hasher: &Standard<H>,
-    leaves: &[H::Digest],
-) -> Result<Vec<H::Digest>, AllocError>
-    requires { length leaves.now ≤ 2 ^ 62 }
-    ensures { IfOk result (λ ps. ps.items ≡ peak_digests F.shape H.hash leaves.now (length leaves.now) (F.shape.heights (length leaves.now))) }
-{
-    let mut digests = Vec::new(alloc);
-    let count = leaves.len() as u64;
-    let mut end = count;
-    for i in 0..F::peak_count(count) {
-        let height = F::peak_height(count, i);
-        end -= width(height);
-        digests.push(slow_node::<F, H>(hasher, leaves, end, height))?;
-    }
-    Ok(digests)
-}
-
 /// The digests of the peaks, the oldest first, each from the leaves.
 pub fn slow_peaks<F: Family, H: Hasher>(
     alloc: Global,
@@ -57,10 +37,15 @@ pub fn slow_peaks<F: Family, H: Hasher>(
     leaves: &[H::Digest],
 ) -> Result<Vec<H::Digest>, AllocError>
     requires { length leaves.now ≤ 2 ^ 62 }
-    ensures { IfOk result (λ ps. ps.items ≡ map (node_of F.shape H.hash leaves.now) (peaks F.shape (length leaves.now))) }
+    ensures { IfOk result (λ ps. ps.items ≡
+        map (node_of F.shape H.hash leaves.now) (peaks F.shape (length leaves.now))) }
 {
-    let mut digests = newest_peaks::<F, H>(alloc, hasher, leaves)?;
-    digests.reverse();
+    let peaks = peak_nodes::<F>(alloc, leaves.len() as u64)?;
+    let mut digests = Vec::new(alloc);
+    for i in 0..peaks.len() {
+        let (x, height) = peaks[i];
+        digests.push(slow_node::<F, H>(hasher, leaves, x, height))?;
+    }
     Ok(digests)
 }
 

@@ -4,9 +4,8 @@ use Rattle.std.specs.Prelude.{◌==◌, ◌↔◌, IsTrue, IfSome, IfNone}
 use Rattle.std.proofs.lemmas.Bool.Decides.{eqb_tells}
 use Rattle.std.proofs.lemmas.List.{map-append}
 use Rattle.tree_shape.specs.Hashing.{Hashing, node_input}
-use Rattle.tree_shape.specs.Shape.{Shape}
+use Rattle.tree_shape.specs.Shape.{Shape, peaks}
 use Rattle.tree_proof.specs.Cover.{Opened, cover_in, cover_over, cover}
-use Rattle.tree_shape.proofs.PeakLemmas.{peaks_left, all_left, none_left}
 use Rattle.tree_proof.proofs.CoverSteps.{cover_in-outside, cover_in-leaf, cover_in-halves}
 use Rattle.tree_verification.specs.Told.{told_in, told_over, told_nodes, in_tree, IsHashed, entries, found, Puts}
 use Rattle.tree_verification.proofs.FoundLemmas.{found-append}
@@ -101,28 +100,33 @@ module _ {D : Type 0} (s : Shape) (h : Hashing D) (met : Opened) (leaf_of : ℕ 
 
   -- ---- over the peaks
 
-  -- the digests from here on are those of the cover inside the peaks that are left, and the nodes so far and those told inside these peaks are all
-  pub record IsLeft (n left : ℕ) (nodes : ℕ → Option D) (ds : List D) : Type 0 where
-    pub digests : ds ≡ map (in_tree tree) (cover_over met (peaks_left s n left))
-    pub told : (p : ℕ) → found p (nodes p) (entries s tree (told_over met (peaks_left s n left))) ≡ found p None (entries s tree (told_nodes s met n))
+  -- the digests from here on are those of the cover inside the nodes that are left, and the nodes so far and those told
+  -- inside these are all
+  pub record IsLeft (n : ℕ) (left : List (ℕ × ℕ)) (nodes : ℕ → Option D) (ds : List D) : Type 0 where
+    pub digests : ds ≡ map (in_tree tree) (cover_over met left)
+    pub told : (p : ℕ) → found p (nodes p) (entries s tree (told_over met left))
+        ≡ found p None (entries s tree (told_nodes s met n))
 
-  pub left_first : (n left : ℕ) (nodes : ℕ → Option D) (ds : List D) → left ≡ length (s.heights n) → ((p : ℕ) → nodes p ≡ None) → ds ≡ map (in_tree tree) (cover s met n) → IsLeft n left nodes ds
+  pub left_first : (n : ℕ) (left : List (ℕ × ℕ)) (nodes : ℕ → Option D) (ds : List D) → left ≡ peaks s n
+      → ((p : ℕ) → nodes p ≡ None) → ds ≡ map (in_tree tree) (cover s met n) → IsLeft n left nodes ds
   left_first n left nodes ds e none is = record {
-    digests = is ∙ ap (λ ps. map (in_tree tree) (cover_over met ps)) (sym (all_left s n left e));
-    told = λ p. ap (λ o. found p o (entries s tree (told_over met (peaks_left s n left)))) (none p) ∙ ap (λ ps. found p None (entries s tree (told_over met ps))) (all_left s n left e);
+    digests = is ∙ ap (λ ps. map (in_tree tree) (cover_over met ps)) (sym e);
+    told = λ p. ap (λ o. found p o (entries s tree (told_over met left))) (none p) ∙ ap (λ ps. found p None (entries s tree (told_over met ps))) e;
   }
 
-  pub left_digests : (n left later x k : ℕ) (nodes : ℕ → Option D) (ds : List D) → IsLeft n left nodes ds → peaks_left s n left ≡ (x, k) ∷ peaks_left s n later
-      → ds ≡ map (in_tree tree) (cover_in met x k) ++ map (in_tree tree) (cover_over met (peaks_left s n later))
+  pub left_digests : (n : ℕ) (left later : List (ℕ × ℕ)) (x k : ℕ) (nodes : ℕ → Option D) (ds : List D)
+      → IsLeft n left nodes ds → left ≡ (x, k) ∷ later
+      → ds ≡ map (in_tree tree) (cover_in met x k) ++ map (in_tree tree) (cover_over met later)
   left_digests n left later x k nodes ds l are =
-      l.digests ∙ ap (λ ps. map (in_tree tree) (cover_over met ps)) are ∙ map-append (in_tree tree) (cover_in met x k) (cover_over met (peaks_left s n later))
+      l.digests ∙ ap (λ ps. map (in_tree tree) (cover_over met ps)) are ∙ map-append (in_tree tree) (cover_in met x k) (cover_over met later)
 
-  pub left_next : (n left later x k : ℕ) (nodes more : ℕ → Option D) (d : D) (ds es : List D) → IsLeft n left nodes ds → peaks_left s n left ≡ (x, k) ∷ peaks_left s n later
-      → Puts s met tree x k nodes more d es (map (in_tree tree) (cover_over met (peaks_left s n later))) → IsLeft n later more es
+  pub left_next : (n : ℕ) (left later : List (ℕ × ℕ)) (x k : ℕ) (nodes more : ℕ → Option D) (d : D) (ds es : List D)
+      → IsLeft n left nodes ds → left ≡ (x, k) ∷ later
+      → Puts s met tree x k nodes more d es (map (in_tree tree) (cover_over met later)) → IsLeft n later more es
   left_next n left later x k nodes more d ds es l are puts =
       let f : ℕ × ℕ → ℕ × D = λ q. (s.position q.0 q.1, tree q.0 q.1) in
       let ls = told_in met x k in
-      let bs = told_over met (peaks_left s n later) in
+      let bs = told_over met later in
       record {
         digests = puts.taken;
         told = λ p.
@@ -130,19 +134,21 @@ module _ {D : Type 0} (s : Shape) (h : Hashing D) (met : Opened) (leaf_of : ℕ 
             ∙ ap (λ ps. found p (nodes p) (entries s tree (told_over met ps))) (sym are) ∙ l.told p;
       }
 
-  pub left_none : (n left : ℕ) (nodes : ℕ → Option D) (ds : List D) → IsLeft n left nodes ds → left ≡ 0 → (p : ℕ) → nodes p ≡ found p None (entries s tree (told_nodes s met n))
-  left_none n left nodes ds l z p = ap (λ ps. found p (nodes p) (entries s tree (told_over met ps))) (sym (none_left s n left z)) ∙ l.told p
+  pub left_none : (n : ℕ) (left : List (ℕ × ℕ)) (nodes : ℕ → Option D) (ds : List D) → IsLeft n left nodes ds → left ≡ []
+      → (p : ℕ) → nodes p ≡ found p None (entries s tree (told_nodes s met n))
+  left_none n left nodes ds l z p = ap (λ ps. found p (nodes p) (entries s tree (told_over met ps))) (sym z) ∙ l.told p
 
--- the nodes of the cover inside the peaks that are left
-pub count-next : (s : Shape) (met : Opened) (n left later x k : ℕ) → peaks_left s n left ≡ (x, k) ∷ peaks_left s n later
-    → length (cover_over met (peaks_left s n left)) ≡ length (cover_in met x k) + length (cover_over met (peaks_left s n later))
-count-next s met n left later x k are = ap (λ ps. length (cover_over met ps)) are ∙ length-append (cover_in met x k) (cover_over met (peaks_left s n later))
+-- the nodes of the cover inside the nodes that are left
+pub count-next : (met : Opened) (left later : List (ℕ × ℕ)) (x k : ℕ) → left ≡ (x, k) ∷ later
+    → length (cover_over met left) ≡ length (cover_in met x k) + length (cover_over met later)
+count-next met left later x k are = ap (λ ps. length (cover_over met ps)) are ∙ length-append (cover_in met x k) (cover_over met later)
 
-pub count-first : (s : Shape) (met : Opened) (n left : ℕ) → left ≡ length (s.heights n) → length (cover_over met (peaks_left s n left)) ≡ length (cover s met n)
-count-first s met n left e = ap (λ ps. length (cover_over met ps)) (all_left s n left e)
+pub count-all : (s : Shape) (met : Opened) (n : ℕ) (left : List (ℕ × ℕ)) → left ≡ peaks s n
+    → length (cover_over met left) ≡ length (cover s met n)
+count-all s met n left e = ap (λ ps. length (cover_over met ps)) e
 
-pub count-none : (s : Shape) (met : Opened) (n left : ℕ) → left ≡ 0 → length (cover_over met (peaks_left s n left)) ≡ 0
-count-none s met n left z = ap (λ ps. length (cover_over met ps)) (none_left s n left z)
+pub count-none : (met : Opened) (left : List (ℕ × ℕ)) → left ≡ [] → length (cover_over met left) ≡ 0
+count-none met left z = ap (λ ps. length (cover_over met ps)) z
 
 -- what is left behind two halves
 pub count-some : (r : Option ℕ) (d m n a b : ℕ) → n ≡ a + b → d ≡ a + m → IfSome r (λ left. m ≡ b + left) → IfSome r (λ left. d ≡ n + left)

@@ -8,7 +8,7 @@ ghost use Rattle.tree_verification.specs.Told.{told_nodes, in_tree, IsHashed, en
 use std::alloc::{AllocError, Global};
 use std::collections::BTreeMap;
 use tree_proof::Known;
-use tree_shape::{Digest, Family, Hasher, Position, Standard, half_width, width};
+use tree_shape::{Digest, Family, Hasher, Position, Standard, half_width, peak_nodes};
 
 /// Puts a node at its position.
 fn put<F: Family, D: Digest>(
@@ -84,15 +84,13 @@ pub(crate) fn tell_peaks<F: Family, H: Hasher, K: Known<F, H>>(
         digests.now ≡ map (in_tree tree) (cover F.shape (K.met known.now) leaves) →
         TellsExactly (get nat_cmp nodes) (entries F.shape tree (told_nodes F.shape (K.met known.now) leaves))) }
 {
+    let peaks = peak_nodes::<F>(alloc, leaves)?;
     let mut nodes = BTreeMap::new(alloc);
-    let mut x = 0;
     let mut at = 0;
-    let count = F::peak_count(leaves);
-    for i in 0..count {
-        let height = F::peak_height(leaves, count - 1 - i);
+    for i in 0..peaks.len() {
+        let (x, height) = peaks[i];
         let (_, then) = tell::<F, H, K>(&mut nodes, hasher, known, digests, x, height, at)?;
         at = then;
-        x += width(height);
     }
     Ok(nodes)
 }

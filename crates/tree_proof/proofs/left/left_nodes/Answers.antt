@@ -1,58 +1,33 @@
-use Rattle.std.proofs.Common.{◌∙◌, arith}
-use Rattle.tree_shape.specs.Shape.{peaks}
-use Rattle.tree_shape.proofs.PeakLemmas.{next_of_left, first_walk}
-use Rattle.tree_proof.proofs.LeftLemmas.{of-cover, gone_first, gone_next, gone_all, left-cover, left-small}
+use Rattle.std.proofs.Common.{◌≡◌, ◌<◌, [], length, drop, refl, ◌∙◌, ap, arith}
+use Rattle.std.proofs.lemmas.List.{drop_all}
+use Rattle.tree_shape.proofs.PeakLemmas.{next_in}
+use Rattle.tree_proof.specs.Cover.{meets, cover_over}
+use Rattle.tree_proof.specs.Pinned.{left_of}
+use Rattle.tree_proof.proofs.LeftLemmas.{of-cover, gone_next, gone_all, left-cover, left-small}
 use Rattle.tree_proof.proofs.left.left_nodes.Goals as goal
 
 pub loop-i-init : goal.loop-i-init
-loop-i-init g c =
-    let s = g.F.Family.shape in
-    let n = c.args.leaves in
-    record {
-      walk = first_walk s n c.peak_count-count.result (g.met.F.Family.lawful.peaks n) c.requires.1 c.peak_count-count.ensures;
-      gone = gone_first s n c.args.start _ _ c.new-nodes.ensures.items (omega (arith, c.peak_count-count.ensures));
-    }
-
-pub push_left-requires-clause-few : goal.push_left-requires-clause-few
-push_left-requires-clause-few g c =
-    let n = c.args.leaves in
-    (next_of_left g.F.Family.shape n c.loop-i.x c.peak_count-count.result c.loop-i.i c.peak_height-height.result (g.met.F.Family.lawful.peaks n) c.loop-i.invariant.walk c.loop-i-test.true c.peak_height-height.ensures).room
-
-pub push_left-requires-clause-low : goal.push_left-requires-clause-low
-push_left-requires-clause-low g c =
-    let n = c.args.leaves in
-    (next_of_left g.F.Family.shape n c.loop-i.x c.peak_count-count.result c.loop-i.i c.peak_height-height.result (g.met.F.Family.lawful.peaks n) c.loop-i.invariant.walk c.loop-i-test.true c.peak_height-height.ensures).low
-
-pub width-x-requires : goal.width-x-requires
-width-x-requires g c =
-    let n = c.args.leaves in
-    let st = next_of_left g.F.Family.shape n c.loop-i.x c.peak_count-count.result c.loop-i.i c.peak_height-height.result (g.met.F.Family.lawful.peaks n) c.loop-i.invariant.walk c.loop-i-test.true c.peak_height-height.ensures in
-    omega (arith, st.low)
-
-pub overflow_add-x : goal.overflow_add-x
-overflow_add-x g c =
-    let n = c.args.leaves in
-    let st = next_of_left g.F.Family.shape n c.loop-i.x c.peak_count-count.result c.loop-i.i c.peak_height-height.result (g.met.F.Family.lawful.peaks n) c.loop-i.invariant.walk c.loop-i-test.true c.peak_height-height.ensures in
-    omega (arith, st.room, c.width-x.ensures)
+loop-i-init g c = rw c.new-nodes.ensures.items refl
 
 pub loop-i-preserved : goal.loop-i-preserved
 loop-i-preserved g c =
-    let s = g.F.Family.shape in
-    let n = c.args.leaves in
-    let st = next_of_left s n c.loop-i.x c.peak_count-count.result c.loop-i.i c.peak_height-height.result (g.met.F.Family.lawful.peaks n) c.loop-i.invariant.walk c.loop-i-test.true c.peak_height-height.ensures in
-    record {
-      walk = rw c.width-x.ensures st.next;
-      gone = gone_next s n c.args.start _ _ _ _ _ _ c.loop-i.invariant.gone st.are (of-cover c.args.start _ _ _ _ c.in_ok-push_left.ensures);
-    }
+    let peaks = c.in_ok-peaks.peaks.items in
+    let i = c.loop-i.i in
+    let next = c.index.result.now in
+    let within : i < length peaks = omega (arith, c.loop-i-test.true, c.len-i-end.ensures) in
+    let are = next_in peaks i next within c.index.ensures in
+    gone_next c.args.start peaks _ _ _ _ next.0 next.1 c.loop-i.invariant are (of-cover c.args.start next.0 next.1 _ _ c.in_ok-push_left.ensures)
 
 pub returns-clause-nodes : goal.returns-clause-nodes
 returns-clause-nodes g c end some =
-    let s = g.F.Family.shape in
-    let n = c.args.leaves in
-    gone_all s n c.args.start _ _ c.loop-i.invariant.gone (omega arith) ∙ left-cover c.args.start end some (peaks s n)
+    let start = c.args.start in
+    let peaks = c.in_ok-peaks.peaks.items in
+    let none : drop c.loop-i.i peaks ≡ [] = drop_all c.loop-i.i peaks (omega (arith, c.loop-i-test.false, c.len-i-end.ensures)) in
+    gone_all start peaks _ _ c.loop-i.invariant none ∙ left-cover start end some peaks
+    ∙ ap (λ ps. left_of start (cover_over (meets start end) ps)) c.in_ok-peaks.ensures.nodes
 
 pub returns-clause-small : goal.returns-clause-small
 returns-clause-small g c =
-    let s = g.F.Family.shape in
-    let n = c.args.leaves in
-    left-small c.args.start (peaks s n) c.loop-i.nodes.items c.requires.0 (gone_all s n c.args.start _ _ c.loop-i.invariant.gone (omega arith))
+    let peaks = c.in_ok-peaks.peaks.items in
+    let none : drop c.loop-i.i peaks ≡ [] = drop_all c.loop-i.i peaks (omega (arith, c.loop-i-test.false, c.len-i-end.ensures)) in
+    left-small c.args.start peaks c.loop-i.nodes.items c.requires.0 (gone_all c.args.start peaks _ _ c.loop-i.invariant none)

@@ -1,9 +1,7 @@
-use Rattle.std.proofs.Common.{◌≡◌, ℕ, ◌+◌, ◌-◌, length, map, drop}
+use Rattle.std.proofs.Common.{◌≡◌, ℕ, ◌+◌, length, map, drop}
 use Rattle.std.specs.BTreeMap.{get}
 use Rattle.std.specs.Ordering.{nat_cmp}
-use Rattle.tree_shape.specs.Pins.{IsWalk}
 use Rattle.tree_proof.specs.Cover.{cover, cover_over}
-use Rattle.tree_shape.proofs.PeakLemmas.{peaks_left}
 use Rattle.tree_verification.specs.Told.{in_tree, IsHashed}
 use Rattle.tree_verification.proofs.ToldLemmas.{IsLeft}
 use Rattle.tree_verification.proofs.told.tell_peaks.Given as goal
@@ -15,8 +13,7 @@ invariant-loop-i g l =
     let met = g.K.Wanted.met l.known in
     let leaf_of = g.K.Known.leaf_of l.known in
     record {
-      walk : IsWalk s l.leaves l.x (l.count - l.i);
-      enough : l.at + length (cover_over met (peaks_left s l.leaves (l.count - l.i))) ≡ length l.digests;
+      enough : l.at + length (cover_over met (drop l.i l.peaks.items)) ≡ length l.digests;
       told : (tree : ℕ → ℕ → g.row.H-Digest.Denot) → IsHashed s h met leaf_of tree → l.digests ≡ map (in_tree tree) (cover s met l.leaves)
-          → IsLeft s h met leaf_of tree l.leaves (l.count - l.i) (get nat_cmp l.nodes) (drop l.at l.digests);
+          → IsLeft s h met leaf_of tree l.leaves (drop l.i l.peaks.items) (get nat_cmp l.nodes) (drop l.at l.digests);
     }

@@ -1,6 +1,6 @@
-use Rattle.std.proofs.Common.{◌≡◌, suc, ◌+◌, ◌<◌, ◌∷◌, length, drop, map, ◌∙◌, sym, ap, arith}
-use Rattle.std.proofs.Math.Seq.{drop-cons}
+use Rattle.std.proofs.Common.{◌<◌, length, map, ap, arith}
 use Rattle.std.proofs.lemmas.List.{drop_all}
+use Rattle.tree_shape.proofs.PeakLemmas.{next_in}
 use Rattle.tree_shape.specs.Pins.{position_of}
 use Rattle.tree_proof.specs.Cover.{cover_over}
 use Rattle.tree_verification.proofs.WalkLemmas.{found_next, found_all}
@@ -17,8 +17,7 @@ loop-i-preserved g c =
     let i = c.loop-i.i in
     let next = c.index.result.now in
     let within : i < length peaks = omega (arith, c.loop-i-test.true, c.len-i-end.ensures) in
-    let up : suc i ≡ i + 1 = omega arith in
-    let are = drop-cons peaks i next within ∙ ap (λ p. p ∷ drop (suc i) peaks) (sym c.index.ensures) ∙ ap (λ j. next ∷ drop j peaks) up in
+    let are = next_in peaks i next within c.index.ensures in
     found_next g.F.Family.shape (g.W.Wanted.met c.args.wanted.now) c.args.leaves _ _ _ _ next.0 next.1 c.loop-i.invariant are c.in_ok-push_cover.ensures
 
 pub returns : goal.returns
