@@ -22,16 +22,20 @@ by_error x EndOfBuffer h other = absurd cc
 by_error x (InvalidEnum tag) h other = absurd cc
 by_error x (Invalid what) h other = absurd cc
 
-module _ {A : Type 0} (spelling : A → List ℕ) (admits : A → Type 0) (reads : List ℕ → Reading A) (lawful : IsLawful spelling admits reads) where
+module _ {A : Type 0} (spelling : A → List ℕ) (admits : A → Type 0) (reads : List ℕ → Reading A)
+    (lawful : IsLawful spelling admits reads) where
   -- what is decoded is spelled so, and allowed
-  pub found_from : (bytes : List ℕ) (r : Result A CodecError) → IsBytes bytes → Gives r (whole (reads bytes)) → IfOk r (λ x. (bytes ≡ spelling x) × admits x)
+  pub found_from : (bytes : List ℕ) (r : Result A CodecError) → IsBytes bytes → Gives r (whole (reads bytes))
+      → IfOk r (λ x. (bytes ≡ spelling x) × admits x)
   found_from bytes (Ok x) fits h = whole_exact spelling admits reads lawful bytes x fits h
   found_from bytes (Err e) fits h = tt
 
   -- what is spelled so and allowed is decoded
-  pub only_from : (bytes : List ℕ) (r : Result A CodecError) → Gives r (whole (reads bytes)) → (x : A) → admits x → bytes ≡ spelling x → Gives r (Ok x)
+  pub only_from : (bytes : List ℕ) (r : Result A CodecError) → Gives r (whole (reads bytes)) → (x : A) → admits x
+      → bytes ≡ spelling x → Gives r (Ok x)
   only_from bytes r h x allowed e =
-      let w : whole (reads bytes) ≡ Ok x = ap (λ (b : List ℕ). whole (reads b)) e ∙ whole_again spelling admits reads lawful x allowed in
+      let w : whole (reads bytes) ≡ Ok x =
+      ap (λ (b : List ℕ). whole (reads b)) e ∙ whole_again spelling admits reads lawful x allowed in
       rw w at h
 
   -- ---- the laws of spellings
@@ -46,7 +50,8 @@ module _ {A : Type 0} (spelling : A → List ℕ) (admits : A → Type 0) (reads
       cc
 
   -- no spelling begins another
-  pub no_front : (x y : A) (more : List ℕ) → admits x → admits y → spelling y ≡ spelling x ++ more → (x ≡ y) × (more ≡ [])
+  pub no_front : (x y : A) (more : List ℕ) → admits x → admits y → spelling y ≡ spelling x ++ more
+      → (x ≡ y) × (more ≡ [])
   no_front x y more hx hy e =
       let a = lawful.again x more hx in
       let b = rw append-nil at (lawful.again y [] hy) in
@@ -56,6 +61,9 @@ module _ {A : Type 0} (spelling : A → List ℕ) (admits : A → Type 0) (reads
       (ap (λ (q : A × List ℕ). q.0) p, ap (λ (q : A × List ℕ). q.1) p)
 
   -- another refusal than want of memory comes only where nothing allowed is spelled so
-  pub refused_from : (bytes : List ℕ) (r : Result A CodecError) → Gives r (whole (reads bytes)) → (e : CodecError) → IsErrOf r e → (e ≡ Memory → ⊥) → (x : A) → admits x → bytes ≡ spelling x → ⊥
+  pub refused_from : (bytes : List ℕ) (r : Result A CodecError) → Gives r (whole (reads bytes)) → (e : CodecError)
+      → IsErrOf r e → (e ≡ Memory → ⊥) → (x : A) → admits x → bytes ≡ spelling x → ⊥
   refused_from bytes (Ok y) h e is other x allowed there = absurd cc
-  refused_from bytes (Err d) h e is other x allowed there = by_error x d (only_from bytes (Err d) h x allowed there) (subst (λ (f : CodecError). f ≡ Memory → ⊥) (err_is A e d (sym is)) other)
+  refused_from bytes (Err d) h e is other x allowed there =
+      by_error x d (only_from bytes (Err d) h x allowed there)
+      (subst (λ (f : CodecError). f ≡ Memory → ⊥) (err_is A e d (sym is)) other)

@@ -87,14 +87,20 @@ wide_floor_lawful = bounded_lawful max_leaves (Invalid at.Location) eight_bytes 
 
 -- ---- each is lawful where the value is
 
-module _ {A : Type 0} (spelling : A → List ℕ) (admits : A → Type 0) (reads : List ℕ → Reading A) (lawful : IsLawful spelling admits reads) where
+module _ {A : Type 0} (spelling : A → List ℕ) (admits : A → Type 0) (reads : List ℕ → Reading A)
+    (lawful : IsLawful spelling admits reads) where
   pub variable_commit_lawful : IsLawful (variable_commit spelling) (admits_commit admits) (variable_commit_at reads)
   variable_commit_lawful = pair_lawful _ _ _ _ _ _ (optional_lawful spelling admits reads lawful) floor_lawful
 
   pub padded_lawful : (count : ℕ) → IsLawful (padded count spelling) admits (padded_at count reads)
   padded_lawful count =
-      let both = pair_lawful spelling (zeros_spelling count) admits anything reads (zeros_at count) lawful (zeros_lawful count) in
-      let here = through_lawful {A = A × Unit {0}} {B = A} (λ x. (x, tt)) (λ p. p.0) (λ x. refl) (λ p. refl) (pair_spelling spelling (zeros_spelling count)) (pair_admits admits anything) (pair_at reads (zeros_at count)) both in
+      let both =
+      pair_lawful spelling (zeros_spelling count) admits anything reads (zeros_at count) lawful
+      (zeros_lawful count) in
+      let here =
+      through_lawful {A = A × Unit {0}} {B = A} (λ x. (x, tt)) (λ p. p.0) (λ x. refl) (λ p. refl)
+      (pair_spelling spelling (zeros_spelling count)) (pair_admits admits anything)
+      (pair_at reads (zeros_at count)) both in
       record {
         exact = λ bytes x rest fits e. let h = here.exact bytes x rest fits e in (h.0, h.1.0);
         again = λ x rest h. here.again x rest (h, tt);
@@ -110,19 +116,24 @@ module _ {A : Type 0} (spelling : A → List ℕ) (admits : A → Type 0) (reads
 
   filled_lawful : (width : ℕ) → IsLawful (filled width spelling) (admits_filled admits) (filled_at width reads)
   filled_lawful width =
-      through_lawful maybe of_maybe of_maybe_of maybe_of (choice_spelling (zeros_spelling width) spelling) (choice_admits anything admits) (choice_at option_fault (zeros_at width) reads)
+      through_lawful maybe of_maybe of_maybe_of maybe_of (choice_spelling (zeros_spelling width) spelling)
+      (choice_admits anything admits) (choice_at option_fault (zeros_at width) reads)
       (choice_lawful option_fault _ _ _ _ _ _ (zeros_lawful width) lawful)
 
-  pub fixed_commit_lawful : (width : ℕ) → IsLawful (fixed_commit width spelling) (admits_fixed_commit admits) (fixed_commit_at width reads)
+  pub fixed_commit_lawful : (width : ℕ)
+      → IsLawful (fixed_commit width spelling) (admits_fixed_commit admits) (fixed_commit_at width reads)
   fixed_commit_lawful width = pair_lawful _ _ _ _ _ _ (filled_lawful width) wide_floor_lawful
 
-module _ {A : Type 0} (width : ℕ) (spelling : A → List ℕ) (admits : A → Type 0) (one_width : (x : A) → admits x → length (spelling x) ≡ width) where
+module _ {A : Type 0} (width : ℕ) (spelling : A → List ℕ) (admits : A → Type 0)
+    (one_width : (x : A) → admits x → length (spelling x) ≡ width) where
   filled_length : (o : Option A) → admits_filled admits o → length (filled width spelling o) ≡ suc width
   filled_length None h = ap suc (length-zeros width)
   filled_length (Some x) h = ap suc (one_width x h)
 
-  pub fixed_commit_length : (c : Commits A) → admits_fixed_commit admits c → length (fixed_commit width spelling c) ≡ width + 9
-  fixed_commit_length c h = omega (arith, length-append (filled width spelling c.0) (eight_bytes c.1), filled_length c.0 h.0)
+  pub fixed_commit_length : (c : Commits A) → admits_fixed_commit admits c
+      → length (fixed_commit width spelling c) ≡ width + 9
+  fixed_commit_length c h =
+      omega (arith, length-append (filled width spelling c.0) (eight_bytes c.1), filled_length c.0 h.0)
 
 -- ---- lengths, for the code's sizes
 

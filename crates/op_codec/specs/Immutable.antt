@@ -84,23 +84,47 @@ abbrev pub commit_padding : ℕ → ℕ
 commit_padding k = k - 9
 
 abbrev pub fixed_spelling : {K A : Type 0} → ℕ → ℕ → (K → List ℕ) → (A → List ℕ) → Parts K A → List ℕ
-fixed_spelling k v key value = choice_spelling (padded (set_padding k) (pair_spelling key value)) (padded (commit_padding k) (fixed_commit v value))
+fixed_spelling k v key value =
+    choice_spelling (padded (set_padding k) (pair_spelling key value))
+    (padded (commit_padding k) (fixed_commit v value))
 
 abbrev pub fixed_admits : {K A : Type 0} → (K → Type 0) → (A → Type 0) → Parts K A → Type 0
 fixed_admits key value = choice_admits (pair_admits key value) (admits_fixed_commit value)
 
 -- the whole length is tested first
-abbrev pub fixed_at : {K A : Type 0} → ℕ → ℕ → (List ℕ → Reading K) → (List ℕ → Reading A) → List ℕ → Reading (Parts K A)
-fixed_at k v key value = sized_at (held (fixed_width k v)) (choice_at InvalidEnum (padded_at (set_padding k) (pair_at key value)) (padded_at (commit_padding k) (fixed_commit_at v value)))
+abbrev pub fixed_at : {K A : Type 0} → ℕ → ℕ → (List ℕ → Reading K) → (List ℕ → Reading A) → List ℕ
+    → Reading (Parts K A)
+fixed_at k v key value =
+    sized_at (held (fixed_width k v))
+    (choice_at InvalidEnum (padded_at (set_padding k) (pair_at key value))
+    (padded_at (commit_padding k) (fixed_commit_at v value)))
 
-module _ {K A : Type 0} (sk : K → List ℕ) (pk : K → Type 0) (rk : List ℕ → Reading K) (lk : IsLawful sk pk rk) (sv : A → List ℕ) (pv : A → Type 0) (rv : List ℕ → Reading A) (lv : IsLawful sv pv rv) where
+module _ {K A : Type 0} (sk : K → List ℕ) (pk : K → Type 0) (rk : List ℕ → Reading K) (lk : IsLawful sk pk rk)
+    (sv : A → List ℕ) (pv : A → Type 0) (rv : List ℕ → Reading A) (lv : IsLawful sv pv rv) where
   pub variable_lawful : IsLawful (variable_spelling sk sv) (variable_admits pk pv) (variable_at rk rv)
-  variable_lawful = choice_lawful InvalidEnum _ _ _ _ _ _ (pair_lawful sk sv pk pv rk rv lk lv) (variable_commit_lawful sv pv rv lv)
+  variable_lawful =
+      choice_lawful InvalidEnum _ _ _ _ _ _ (pair_lawful sk sv pk pv rk rv lk lv) (variable_commit_lawful sv pv rv lv)
 
   module _ (k v : ℕ) (one_k : (x : K) → pk x → length (sk x) ≡ k) (one_v : (x : A) → pv x → length (sv x) ≡ v) where
     pub fixed_length : (p : Parts K A) → fixed_admits pk pv p → length (fixed_spelling k v sk sv p) ≡ fixed_width k v
-    fixed_length (inl p) h = omega (arith, length-append (sk p.0 ++ sv p.1) (zeros (set_padding k)), length-append (sk p.0) (sv p.1), one_k p.0 h.0, one_v p.1 h.1, length-zeros (set_padding k))
-    fixed_length (inr c) h = omega (arith, length-append (fixed_commit v sv c) (zeros (commit_padding k)), fixed_commit_length v sv pv one_v c h, length-zeros (commit_padding k))
+    fixed_length (inl p) h =
+        omega (
+          arith,
+          length-append (sk p.0 ++ sv p.1) (zeros (set_padding k)),
+          length-append (sk p.0)
+              (sv p.1),
+          one_k p.0 h.0,
+          one_v p.1 h.1,
+          length-zeros (set_padding k),
+        )
+    fixed_length (inr c) h =
+        omega (
+          arith,
+          length-append (fixed_commit v sv c)
+              (zeros (commit_padding k)),
+          fixed_commit_length v sv pv one_v c h,
+          length-zeros (commit_padding k),
+        )
 
     pub fixed_lawful : IsLawful (fixed_spelling k v sk sv) (fixed_admits pk pv) (fixed_at k v rk rv)
     fixed_lawful =

@@ -20,10 +20,14 @@ module _ {K A : Type 0} (same_key : K → K → Bool) (eq : A → A → Bool) wh
   same_operation (Set k v) (Commit n g) = false
   same_operation (Commit m f) (Set l w) = false
 
-  module _ (decide_key : (k l : K) → Decides (same_key k l) (k ≡ l)) (decide : (v w : A) → Decides (eq v w) (v ≡ w)) where
+  module _ (decide_key : (k l : K) → Decides (same_key k l) (k ≡ l))
+      (decide : (v w : A) → Decides (eq v w) (v ≡ w)) where
     pub operation_decide : {F V D C : Type 0} → (a b : Operation F K V D A C) → Decides (same_operation a b) (a ≡ b)
-    operation_decide (Set k v) (Set l w) = Decides-like _ (λ e. rw (e.0, e.1) refl) (λ e. (cc, cc)) (Decides-and _ _ (decide_key k l) (decide v w))
-    operation_decide (Commit m f) (Commit n g) = Decides-like _ (λ e. rw (e.0, e.1) refl) (λ e. (cc, cc)) (Decides-and _ _ (metadata_decide eq decide m n) (Decides-eqb f g))
+    operation_decide (Set k v) (Set l w) =
+        Decides-like _ (λ e. rw (e.0, e.1) refl) (λ e. (cc, cc)) (Decides-and _ _ (decide_key k l) (decide v w))
+    operation_decide (Commit m f) (Commit n g) =
+        Decides-like _ (λ e. rw (e.0, e.1) refl) (λ e. (cc, cc))
+        (Decides-and _ _ (metadata_decide eq decide m n) (Decides-eqb f g))
     operation_decide (Set k v) (Commit n g) = (λ h. absurd (cc), λ e. absurd (cc))
     operation_decide (Commit m f) (Set l w) = (λ h. absurd (cc), λ e. absurd (cc))
 
@@ -37,7 +41,8 @@ module _ {K A : Type 0} (same_key : K → K → Bool) (eq : A → A → Bool) wh
     pub set_first : (k : K) (v : A) (n : Option A) (g : ℕ) → same (Set k v) (Commit n g) ≡ false
     pub commit_first : (m : Option A) (f : ℕ) (l : K) (w : A) → same (Commit m f) (Set l w) ≡ false
 
-  module _ {F V D C : Type 0} (same : Operation F K V D A C → Operation F K V D A C → Bool) (fields : IsFieldwise same) where
+  module _ {F V D C : Type 0} (same : Operation F K V D A C → Operation F K V D A C → Bool)
+      (fields : IsFieldwise same) where
     is_same_operation : (a b : Operation F K V D A C) → same_operation a b ≡ same a b
     is_same_operation (Set k v) (Set l w) = sym (fields.sets k l v w)
     is_same_operation (Commit None f) (Commit None g) = sym (fields.commits f g)
@@ -47,5 +52,7 @@ module _ {K A : Type 0} (same_key : K → K → Bool) (eq : A → A → Bool) wh
     is_same_operation (Set k v) (Commit n g) = sym (fields.set_first k v n g)
     is_same_operation (Commit m f) (Set l w) = sym (fields.commit_first m f l w)
 
-    pub fieldwise_decides : ((k l : K) → Decides (same_key k l) (k ≡ l)) → ((v w : A) → Decides (eq v w) (v ≡ w)) → (a b : Operation F K V D A C) → Decides (same a b) (a ≡ b)
-    fieldwise_decides decide_key decide a b = subst (λ (t : Bool). Decides t (a ≡ b)) (is_same_operation a b) (operation_decide decide_key decide a b)
+    pub fieldwise_decides : ((k l : K) → Decides (same_key k l) (k ≡ l)) → ((v w : A) → Decides (eq v w) (v ≡ w))
+        → (a b : Operation F K V D A C) → Decides (same a b) (a ≡ b)
+    fieldwise_decides decide_key decide a b =
+        subst (λ (t : Bool). Decides t (a ≡ b)) (is_same_operation a b) (operation_decide decide_key decide a b)

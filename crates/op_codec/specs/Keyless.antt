@@ -75,19 +75,23 @@ fixed_admits admits = choice_admits (admits_fixed_commit admits) admits
 
 -- the whole length is tested first
 abbrev pub fixed_at : {A : Type 0} → ℕ → (List ℕ → Reading A) → List ℕ → Reading (Parts A)
-fixed_at width reads = sized_at (held (fixed_width width)) (choice_at InvalidEnum (fixed_commit_at width reads) (padded_at 9 reads))
+fixed_at width reads =
+    sized_at (held (fixed_width width)) (choice_at InvalidEnum (fixed_commit_at width reads) (padded_at 9 reads))
 
-module _ {A : Type 0} (spelling : A → List ℕ) (admits : A → Type 0) (reads : List ℕ → Reading A) (lawful : IsLawful spelling admits reads) where
+module _ {A : Type 0} (spelling : A → List ℕ) (admits : A → Type 0) (reads : List ℕ → Reading A)
+    (lawful : IsLawful spelling admits reads) where
   pub variable_lawful : IsLawful (variable_spelling spelling) (variable_admits admits) (variable_at reads)
   variable_lawful = choice_lawful InvalidEnum _ _ _ _ _ _ (variable_commit_lawful spelling admits reads lawful) lawful
 
   module _ (width : ℕ) (one_width : (x : A) → admits x → length (spelling x) ≡ width) where
-    pub fixed_length : (p : Parts A) → fixed_admits admits p → length (fixed_spelling width spelling p) ≡ fixed_width width
+    pub fixed_length : (p : Parts A) → fixed_admits admits p
+        → length (fixed_spelling width spelling p) ≡ fixed_width width
     fixed_length (inl c) h = omega (arith, fixed_commit_length width spelling admits one_width c h)
     fixed_length (inr x) h = omega (arith, length-append (spelling x) (zeros 9), one_width x h, length-zeros 9)
 
     pub fixed_lawful : IsLawful (fixed_spelling width spelling) (fixed_admits admits) (fixed_at width reads)
     fixed_lawful =
         sized_lawful (held (fixed_width width)) _ _ _
-        (choice_lawful InvalidEnum _ _ _ _ _ _ (fixed_commit_lawful spelling admits reads lawful width) (padded_lawful spelling admits reads lawful 9))
+        (choice_lawful InvalidEnum _ _ _ _ _ _ (fixed_commit_lawful spelling admits reads lawful width)
+        (padded_lawful spelling admits reads lawful 9))
         (λ x h. omega (arith, fixed_length x h))

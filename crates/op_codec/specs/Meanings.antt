@@ -34,7 +34,9 @@ module _ {A : Type 0} (eq : A → A → Bool) where
 
     pub operation_decide : {F V C : Type 0} → (a b : Operation F V A C) → Decides (same_operation a b) (a ≡ b)
     operation_decide (Append v) (Append w) = Decides-like _ (λ e. ap Append e) (λ e. cc) (decide v w)
-    operation_decide (Commit m f) (Commit n g) = Decides-like _ (λ e. rw (e.0, e.1) refl) (λ e. (cc, cc)) (Decides-and _ _ (metadata_decide m n) (Decides-eqb f g))
+    operation_decide (Commit m f) (Commit n g) =
+        Decides-like _ (λ e. rw (e.0, e.1) refl) (λ e. (cc, cc))
+        (Decides-and _ _ (metadata_decide m n) (Decides-eqb f g))
     operation_decide (Append v) (Commit n g) = (λ h. absurd (cc), λ e. absurd (cc))
     operation_decide (Commit m f) (Append w) = (λ h. absurd (cc), λ e. absurd (cc))
 
@@ -58,5 +60,7 @@ module _ {A : Type 0} (eq : A → A → Bool) where
     is_same_operation (Append v) (Commit n g) = sym (fields.append_first v n g)
     is_same_operation (Commit m f) (Append w) = sym (fields.commit_first m f w)
 
-    pub fieldwise_decides : ((v w : A) → Decides (eq v w) (v ≡ w)) → (a b : Operation F V A C) → Decides (same a b) (a ≡ b)
-    fieldwise_decides decide a b = subst (λ (t : Bool). Decides t (a ≡ b)) (is_same_operation a b) (operation_decide decide a b)
+    pub fieldwise_decides : ((v w : A) → Decides (eq v w) (v ≡ w)) → (a b : Operation F V A C)
+        → Decides (same a b) (a ≡ b)
+    fieldwise_decides decide a b =
+        subst (λ (t : Bool). Decides t (a ≡ b)) (is_same_operation a b) (operation_decide decide a b)

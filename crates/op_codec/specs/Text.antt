@@ -10,4 +10,5 @@ set_text key value = codes "[key:" ++ encode_lower key ++ codes " value:" ++ enc
 
 abbrev pub commit_text : {A : Type 0} → (A → List ℕ) → Option A → ℕ → List ℕ
 commit_text spelling None floor = codes "[commit floor:" ++ decimal floor ++ codes "]"
-commit_text spelling (Some x) floor = codes "[commit " ++ encode_lower (spelling x) ++ codes " floor:" ++ decimal floor ++ codes "]"
+commit_text spelling (Some x) floor =
+    codes "[commit " ++ encode_lower (spelling x) ++ codes " floor:" ++ decimal floor ++ codes "]"

@@ -87,7 +87,9 @@ pub record IsSealedFrom {D : Type 0} (b : Unsealed D) (reached : ℕ) (c : Seale
   pub peaks : c.peaks ≡ b.peaks
   pub first : c.first ≡ first_leaves (drop (length b.links - reached) b.links) b.base
   pub nodes : List D
-  pub links : let own : ChainSegment D = record { leaves = b.base; peaks = b.base_peaks; later = length b.digests; nodes = nodes } in
+  pub links :
+      let own : ChainSegment D =
+      record { leaves = b.base; peaks = b.base_peaks; later = length b.digests; nodes = nodes } in
       c.links ≡ drop (length b.links - reached) b.links ++ (own ∷ [])
   pub leaves : c.leaves ≡ leaf_count b
 

@@ -23,9 +23,11 @@ root_of s h b elements k = root s h (leaf_digests s h elements) k b
 
 -- What lists a and b, with j and k inactive peaks, show: that they are one, or that their roots differ, or two inputs of their trees that clash.
 -- Each comes exactly where its line says, since no two of these conditions hold together.
-abbrev pub IsEvidence : {D : Type 0} → Shape → Hashing D → Bagging → List (List ℕ) → List (List ℕ) → ℕ → ℕ → Clash D → Type 0
+abbrev pub IsEvidence : {D : Type 0} → Shape → Hashing D → Bagging → List (List ℕ) → List (List ℕ) → ℕ → ℕ → Clash D
+    → Type 0
 IsEvidence s h bagging a b j k found.Equal = (a ≡ b) × (j ≡ k)
-IsEvidence s h bagging a b j k (found.RootsDiffer r q) = (r ≡ root_of s h bagging a j) × (q ≡ root_of s h bagging b k) × (r ≡ q → ⊥)
+IsEvidence s h bagging a b j k (found.RootsDiffer r q) =
+    (r ≡ root_of s h bagging a j) × (q ≡ root_of s h bagging b k) × (r ≡ q → ⊥)
 IsEvidence s h bagging a b j k (found.Clash x y) =
     ((a ≡ b) × (j ≡ k) → ⊥)
     × (root_of s h bagging a j ≡ root_of s h bagging b k)

@@ -8,7 +8,8 @@ use Rattle.tree_evidence.specs.Evidence.{IsClash}
 
 -- the inputs of one fold in each tree, where they differ
 abbrev pub AreTheFold : {D : Type 0} → Hashing D → Pair D → Pair D → Option (List ℕ × List ℕ) → Type 0
-AreTheFold h left right (Some r) = (r.0 ≡ fold_input h left.one right.one) × (r.1 ≡ fold_input h left.other right.other) × (r.0 ≡ r.1 → ⊥)
+AreTheFold h left right (Some r) =
+    (r.0 ≡ fold_input h left.one right.one) × (r.1 ≡ fold_input h left.other right.other) × (r.0 ≡ r.1 → ⊥)
 AreTheFold h left right None = (left.one ≡ left.other) × (right.one ≡ right.other)
 
 -- a search among these inputs and those finds two that clash, or nothing, and then this holds

@@ -36,8 +36,10 @@ AreWhole s h one other = IsWhole s h one × IsWhole s h other
 
 -- two inputs at or below the nodes of height k over the leaves from x on
 abbrev pub ClashBelow : {D : Type 0} → Shape → Hashing D → Tree D → Tree D → ℕ → ℕ → List ℕ × List ℕ → Type 0
-ClashBelow s h one other x k r = IsClash h (slow_inputs s h one.elements.now x k) (slow_inputs s h other.elements.now x k) r.0 r.1
+ClashBelow s h one other x k r =
+    IsClash h (slow_inputs s h one.elements.now x k) (slow_inputs s h other.elements.now x k) r.0 r.1
 
 -- two inputs of the trees with j and k inactive peaks
 abbrev pub ClashIn : {D : Type 0} → Shape → Hashing D → Bagging → Tree D → Tree D → ℕ → ℕ → List ℕ × List ℕ → Type 0
-ClashIn s h b one other j k r = IsClash h (tree_inputs s h one.elements.now j b) (tree_inputs s h other.elements.now k b) r.0 r.1
+ClashIn s h b one other j k r =
+    IsClash h (tree_inputs s h one.elements.now j b) (tree_inputs s h other.elements.now k b) r.0 r.1

@@ -126,4 +126,5 @@ abbrev pub ShowsPins : {F D : Type 0} → Shape → Hashing D → Bagging → Li
     List (List ℕ) → List D → Type 0
 ShowsPins s h b elements k proof a items pins =
     let inputs = proof_inputs s h b proof a items ++ pin_inputs s h proof a (length items) pins in
-    (pins ≡ map (node_of s h (leaf_digests s h elements)) (peaks s a)) ⊎ Clash h (tree_inputs s h elements k b ++ inputs)
+    (pins ≡ map (node_of s h (leaf_digests s h elements)) (peaks s a))
+    ⊎ Clash h (tree_inputs s h elements k b ++ inputs)

@@ -22,14 +22,16 @@ peaks_fit cs e [] p = tt
 peaks_fit cs e (h ∷ hs) p = (p.0, peaks_fit cs (e - 2 ^ h) hs p.2)
 
 -- the joined pair stands behind the new leaf
-late : (n e k x h : ℕ) → e + 2 ^ k ≡ suc (suc n) → 2 ^ suc k ≤ e → x ≡ e - 2 ^ suc k → h ≡ suc k → mmb.position n 0 ≤ mmb.position x h
+late : (n e k x h : ℕ) → e + 2 ^ k ≡ suc (suc n) → 2 ^ suc k ≤ e → x ≡ e - 2 ^ suc k → h ≡ suc k
+    → mmb.position n 0 ≤ mmb.position x h
 late n e k x h q room ex eh =
     let one : 0 < 2 ^ k = pow_pos k in
     let last : e - 2 ^ suc k + 2 ^ suc k + 2 ^ k - 2 ≡ n = omega arith in
     let place : mmb_position (e - 2 ^ suc k) (suc k) ≡ mmb_size n + 1 = ap (λ m. mmb_size m + 1) last in
     rw (ex, eh) (omega (arith, place))
 
-merged_peaks : (n e k : ℕ) (ks : List ℕ) (x h : ℕ) → e + 2 ^ k ≡ suc (suc n) → HasForm k ks → 2 ^ k ≤ e → Fits (e - 2 ^ k) ks → PeakIn e (merged k ks) x h
+merged_peaks : (n e k : ℕ) (ks : List ℕ) (x h : ℕ) → e + 2 ^ k ≡ suc (suc n) → HasForm k ks → 2 ^ k ≤ e
+    → Fits (e - 2 ^ k) ks → PeakIn e (merged k ks) x h
     → (mmb.position n 0 ≤ mmb.position x h) ⊎ PeakIn e (k ∷ ks) x h
 unfolding Fits HasForm
 merged_peaks n e k [] x h q f le fit p = inr p
@@ -67,7 +69,8 @@ merged_peaks n e k (c ∷ ks) x h q f le fit p = elim (eqb_tells k c) [
 ]
 
 -- what is joined were two neighbouring peaks
-merge_children : (e k : ℕ) (ks : List ℕ) (i x c : ℕ) → 2 ^ k ≤ e → Fits (e - 2 ^ k) ks → slice_get (merge e k ks) i ≡ Some (x, suc c)
+merge_children : (e k : ℕ) (ks : List ℕ) (i x c : ℕ) → 2 ^ k ≤ e → Fits (e - 2 ^ k) ks
+    → slice_get (merge e k ks) i ≡ Some (x, suc c)
     → PeakIn e (k ∷ ks) x c × PeakIn e (k ∷ ks) (x + 2 ^ c) c
 unfolding Fits
 merge_children e k [] i x c le f s = absurd (cc)
@@ -85,7 +88,8 @@ merge_children e k (d ∷ ks) i x c le f s = elim (eqb_tells k d) [
       (inr r.0, inr r.1)
 ]
   where
-    pair : (j : ℕ) → slice_get {X = ℕ × ℕ} ((e - 2 ^ suc k, suc k) ∷ []) j ≡ Some (x, suc c) → k ≡ d → e - 2 ^ k - 2 ^ d ≡ e - 2 ^ suc k → 2 ^ suc k ≡ 2 ^ k * 2 → 2 ^ suc k ≤ e
+    pair : (j : ℕ) → slice_get {X = ℕ × ℕ} ((e - 2 ^ suc k, suc k) ∷ []) j ≡ Some (x, suc c) → k ≡ d
+        → e - 2 ^ k - 2 ^ d ≡ e - 2 ^ suc k → 2 ^ suc k ≡ 2 ^ k * 2 → 2 ^ suc k ≤ e
         → PeakIn e (k ∷ d ∷ ks) x c × PeakIn e (k ∷ d ∷ ks) (x + 2 ^ c) c
     pair zero r q start two room =
         let parts = some_pair_parts (e - 2 ^ suc k) x (suc k) (suc c) r in
@@ -99,7 +103,10 @@ mmb_fits : (n : ℕ) → Fits n (mmb_heights n)
 mmb_fits n = peaks_fit (made mmb n) n (mmb_heights n) (mmb_lawful.peaks n)
 
 before_append : (n : ℕ) → Fits (suc n - 2 ^ 0) (mmb_heights n)
-before_append n = let F : ℕ → Type 0 = λ j. Fits j (mmb_heights n) in let e : n ≡ suc n - 2 ^ 0 = omega arith in subst F e (mmb_fits n)
+before_append n =
+    let F : ℕ → Type 0 = λ j. Fits j (mmb_heights n) in
+    let e : n ≡ suc n - 2 ^ 0 = omega arith in
+    subst F e (mmb_fits n)
 
 -- a peak of n leaves, or leaf n
 with_leaf : (n x h : ℕ) → PeakIn (suc n) (0 ∷ mmb_heights n) x h → IsPeakOrLater mmb n x h
@@ -112,15 +119,20 @@ with_leaf n x h p =
 
 peaks_kept : (n x h : ℕ) → PeakOf mmb (suc n) x h → IsPeakOrLater mmb n x h
 unfolding mmb_heights
-peaks_kept n x h p = elim (merged_peaks n (suc n) 0 (mmb_heights n) x h (omega arith) (mmb_heights_have_form n) (omega arith) (before_append n) p) [
-  | inl new ↦ inl new
-  | inr old ↦ with_leaf n x h old
-]
+peaks_kept n x h p =
+    elim (merged_peaks n (suc n) 0 (mmb_heights n) x h (omega arith) (mmb_heights_have_form n) (omega arith)
+    (before_append n) p) [
+      | inl new ↦ inl new
+      | inr old ↦ with_leaf n x h old
+    ]
 
-children_kept : (n i x k : ℕ) → slice_get (mmb.parents n) i ≡ Some (x, suc k) → IsPeakOrLater mmb n x k × IsPeakOrLater mmb n (x + 2 ^ k) k
+children_kept : (n i x k : ℕ) → slice_get (mmb.parents n) i ≡ Some (x, suc k)
+    → IsPeakOrLater mmb n x k × IsPeakOrLater mmb n (x + 2 ^ k) k
 children_kept n i x k s =
     let one : n + 1 ≡ suc n = omega arith in
-    let r = merge_children (suc n) 0 (mmb_heights n) i x k (omega arith) (before_append n) (ap (λ m. slice_get (merge m 0 (mmb_heights n)) i) (sym one) ∙ s) in
+    let r =
+    merge_children (suc n) 0 (mmb_heights n) i x k (omega arith) (before_append n)
+    (ap (λ m. slice_get (merge m 0 (mmb_heights n)) i) (sym one) ∙ s) in
     (with_leaf n x k r.0, with_leaf n (x + 2 ^ k) k r.1)
 
 pub mmb_keeps : KeepsPeaks mmb

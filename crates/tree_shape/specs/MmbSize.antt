@@ -16,7 +16,8 @@ unfolding total
 peaks-total cs e [] p = sym p
 peaks-total cs e (h ∷ hs) p = let r = peaks-total cs (e - 2 ^ h) hs p.2 in omega (arith, r, p.0)
 
-bounds : (i : ℕ) (hs : List ℕ) → HasForm i hs → (2 ^ (i + length hs) ≤ total hs + 2 ^ i) × (total hs + 2 * 2 ^ i ≤ 2 * 2 ^ (i + length hs))
+bounds : (i : ℕ) (hs : List ℕ) → HasForm i hs
+    → (2 ^ (i + length hs) ≤ total hs + 2 ^ i) × (total hs + 2 * 2 ^ i ≤ 2 * 2 ^ (i + length hs))
 unfolding total HasForm
 bounds i [] f = let e : i + 0 ≡ i = omega arith in rw e (omega arith, omega arith)
 bounds i (k ∷ ks) f =
@@ -40,6 +41,9 @@ mmb_peaks-digits n =
 
 pub mmb_few_peaks : (n : ℕ) → n ≤ 2 ^ 62 → length (mmb_heights n) ≤ 64
 mmb_few_peaks n few = elim (cases_lt 63 (length (mmb_heights n))) [
-  | inl many ↦ let digits = mmb_peaks-digits n in let wide : 2 ^ 63 < 2 ^ length (mmb_heights n) = pow_below 63 (length (mmb_heights n)) many in absurd (omega (arith, few, digits.0, wide))
+  | inl many ↦
+      let digits = mmb_peaks-digits n in
+      let wide : 2 ^ 63 < 2 ^ length (mmb_heights n) = pow_below 63 (length (mmb_heights n)) many in
+      absurd (omega (arith, few, digits.0, wide))
   | inr le ↦ omega (arith, le)
 ]

@@ -12,10 +12,13 @@ use Rattle.tree_shape.specs.Mmr.{joined, joins, mmr_heights, mmr_size, mmr}
 -- one more on each height goes through a join
 joined-map : (h : ℕ) (ks : List ℕ) → joined (suc h) (map suc ks) ≡ map suc (joined h ks)
 joined-map h [] = refl
-joined-map h (k ∷ ks) = rw (eqb-suc-suc h k) (elim (h == k) as (λ b. cond b (joined (suc (suc h)) (map suc ks)) (suc h ∷ suc k ∷ map suc ks) ≡ map suc (cond b (joined (suc h) ks) (h ∷ k ∷ ks))) [
-  | true ↦ joined-map (suc h) ks
-  | false ↦ refl
-])
+joined-map h (k ∷ ks) =
+    rw (eqb-suc-suc h k) (elim (h == k) as
+    (λ b. cond b (joined (suc (suc h)) (map suc ks)) (suc h ∷ suc k ∷ map suc ks) ≡ map suc
+    (cond b (joined (suc h) ks) (h ∷ k ∷ ks))) [
+      | true ↦ joined-map (suc h) ks
+      | false ↦ refl
+    ])
 
 joined_low : (ks : List ℕ) → joined 0 (map suc ks) ≡ 0 ∷ map suc ks
 joined_low [] = refl
@@ -26,7 +29,8 @@ unfolding mmr_heights
 mmr_heights-double zero = refl
 mmr_heights-double (suc n) =
     let e : suc n + suc n ≡ suc (suc (n + n)) = omega arith in
-    rw e (ap (λ ks. joined 0 (joined 0 ks)) (mmr_heights-double n) ∙ ap (joined 0) (joined_low (mmr_heights n)) ∙ joined-map 0 (mmr_heights n))
+    rw e (ap (λ ks. joined 0 (joined 0 ks)) (mmr_heights-double n) ∙ ap (joined 0) (joined_low (mmr_heights n))
+    ∙ joined-map 0 (mmr_heights n))
 
 pub mmr_heights-double_suc : (n : ℕ) → mmr_heights (suc (n + n)) ≡ 0 ∷ map suc (mmr_heights n)
 unfolding mmr_heights
@@ -41,7 +45,8 @@ halves n = elim (eqb_tells (n % 2) 0) [
 -- as many peaks as ones in binary
 peaks_count : (fuel n : ℕ) → n ≤ fuel → length (mmr_heights n) ≡ count_ones n
 unfolding mmr_heights
-peaks_count zero n h = let z : n ≡ 0 = omega arith in rw z (let o : count_ones 0 ≡ 0 = omega (arith, ones_le_self 0) in omega (arith, o))
+peaks_count zero n h =
+    let z : n ≡ 0 = omega arith in rw z (let o : count_ones 0 ≡ 0 = omega (arith, ones_le_self 0) in omega (arith, o))
 peaks_count (suc fuel) n h = elim (eqb_tells n 0) [
   | inl z ↦ rw z.1 (let o : count_ones 0 ≡ 0 = omega (arith, ones_le_self 0) in omega (arith, o))
   | inr z ↦
@@ -49,10 +54,14 @@ peaks_count (suc fuel) n h = elim (eqb_tells n 0) [
       let step = ones_step n in
       elim (halves n) [
         | inl e ↦
-            let l : length (mmr_heights n) ≡ length (mmr_heights (n / 2)) = ap (λ m. length (mmr_heights m)) e.0 ∙ ap length (mmr_heights-double (n / 2)) ∙ length-map (mmr_heights (n / 2)) suc in
+            let l : length (mmr_heights n) ≡ length (mmr_heights (n / 2)) =
+            ap (λ m. length (mmr_heights m)) e.0 ∙ ap length (mmr_heights-double (n / 2))
+            ∙ length-map (mmr_heights (n / 2)) suc in
             omega (arith, l, half, step, e.1)
         | inr e ↦
-            let l : length (mmr_heights n) ≡ suc (length (mmr_heights (n / 2))) = ap (λ m. length (mmr_heights m)) e.0 ∙ ap length (mmr_heights-double_suc (n / 2)) ∙ ap suc (length-map (mmr_heights (n / 2)) suc) in
+            let l : length (mmr_heights n) ≡ suc (length (mmr_heights (n / 2))) =
+            ap (λ m. length (mmr_heights m)) e.0 ∙ ap length (mmr_heights-double_suc (n / 2))
+            ∙ ap suc (length-map (mmr_heights (n / 2)) suc) in
             omega (arith, l, half, step, e.1)
       ]
 ]
@@ -63,10 +72,12 @@ length-mmr_heights n = peaks_count n n (omega arith)
 -- each join turns two peaks into one, and makes one node
 joins-joined : (e h : ℕ) (ks : List ℕ) → length (joins e h ks) + length (joined h ks) ≡ suc (length ks)
 joins-joined e h [] = refl
-joins-joined e h (k ∷ ks) = elim (h == k) as (λ b. length (cond b ((e - 2 ^ suc h, suc h) ∷ joins e (suc h) ks) []) + length (cond b (joined (suc h) ks) (h ∷ k ∷ ks)) ≡ suc (suc (length ks))) [
-  | true ↦ omega (arith, joins-joined e (suc h) ks)
-  | false ↦ omega arith
-]
+joins-joined e h (k ∷ ks) =
+    elim (h == k) as (λ b. length (cond b ((e - 2 ^ suc h, suc h) ∷ joins e (suc h) ks) []) + length
+    (cond b (joined (suc h) ks) (h ∷ k ∷ ks)) ≡ suc (suc (length ks))) [
+      | true ↦ omega (arith, joins-joined e (suc h) ks)
+      | false ↦ omega arith
+    ]
 
 made_count : (n : ℕ) → length (made mmr n) + length (mmr_heights n) ≡ 2 * n
 unfolding mmr_heights made

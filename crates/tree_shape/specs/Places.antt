@@ -3,7 +3,8 @@ use Rattle.std.proofs.Common.{◌≡◌, ℕ, zero, suc, List, [], ◌∷◌, �
 use Rattle.std.specs.Prelude.{slice_get}
 
 -- what stands in a list stands there in a longer one
-pub get-append : {X : Type 0} (xs ys : List X) (i : ℕ) (x : X) → slice_get xs i ≡ Some x → slice_get (xs ++ ys) i ≡ Some x
+pub get-append : {X : Type 0} (xs ys : List X) (i : ℕ) (x : X) → slice_get xs i ≡ Some x
+    → slice_get (xs ++ ys) i ≡ Some x
 get-append [] ys i x e = absurd (cc)
 get-append (y ∷ xs) ys zero x e = e
 get-append (y ∷ xs) ys (suc i) x e = get-append xs ys i x e
@@ -18,7 +19,8 @@ pub data Place {X : Type 0} (xs : List X) (y : X) (i : ℕ) (x : X) : Type 0 whe
   before : slice_get xs i ≡ Some x → Place xs y i x
   here : i ≡ length xs → x ≡ y → Place xs y i x
 
-pub place_of : {X : Type 0} (xs : List X) (y : X) (i : ℕ) (x : X) → slice_get (xs ++ (y ∷ [])) i ≡ Some x → Place xs y i x
+pub place_of : {X : Type 0} (xs : List X) (y : X) (i : ℕ) (x : X) → slice_get (xs ++ (y ∷ [])) i ≡ Some x
+    → Place xs y i x
 place_of [] y zero x e = here refl (cc)
 place_of [] y (suc i) x e = absurd (cc)
 place_of (z ∷ xs) y zero x e = before e
