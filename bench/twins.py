@@ -16,7 +16,7 @@ import tempfile
 import time
 
 sys.path.insert(0, os.path.join(os.path.dirname(os.path.abspath(__file__)), "..", "tools"))
-import expected  # noqa: E402
+import machine  # noqa: E402
 
 HASHES = [sys.executable, os.path.abspath(__file__), "--hashes"]
 RUNS = 3
@@ -24,15 +24,15 @@ RUNS = 3
 
 def hashes(lines):
     """The root of the list at each seal, where each batch is sealed on the present list and then applied."""
-    operations, pending = [expected.commit(None, 0)], []
+    operations, pending = [machine.commit(None, 0)], []
     for line in lines:
         words = line.split(" ")
         if words[0] == "append":
-            pending.append(expected.append(bytes.fromhex(words[2])))
+            pending.append(machine.append(bytes.fromhex(words[2])))
         elif words[0] == "seal":
-            operations += pending + [expected.commit(None, 0)]
+            operations += pending + [machine.commit(None, 0)]
             pending = []
-            print(expected.list_root(operations, 0))
+            print(machine.root(operations))
 
 
 def measure(command, path):

@@ -12,22 +12,17 @@ import re
 import sys
 from pathlib import Path
 
+import machine
 import proofs
 import trees
+from machine import Machine, run
 from trees import Mmb, Mmr, digest, node, number, peaks
-
-VALUE_LIMIT = 1048576           # the standard configuration's
 
 
 # ---- the tree
 
 def root(elements, inactive=0, forward=True):
     return trees.root(Mmr, elements, inactive, forward)
-
-
-def inactive_peaks(leaves, floor):
-    """How many leading peaks end at or below the floor."""
-    return sum(1 for first, height in peaks(Mmr, leaves) if first + (1 << height) <= floor)
 
 
 def appended_root(elements, inactive, forward):
@@ -42,181 +37,6 @@ def appended_root(elements, inactive, forward):
         tops.append((height, one))
     assert made == Mmr.size(len(elements))
     return trees.root_over([one for _, one in tops], len(elements), inactive, forward)
-
-
-# ---- operations
-
-def varint(n):
-    out = []
-    while n >= 128:
-        out.append(128 + n % 128)
-        n //= 128
-    return bytes(out + [n])
-
-
-def append(value):
-    return b"\1" + varint(len(value)) + value
-
-
-def commit(metadata, floor):
-    option = b"\0" if metadata is None else b"\1" + varint(len(metadata)) + metadata
-    return b"\0" + option + varint(floor)
-
-
-def list_root(operations, floor):
-    """The root of a list of encoded operations that ends with a commit of this floor."""
-    return root(operations, inactive_peaks(len(operations), floor)).hex()
-
-
-# ---- the list machine, for the lines that the program knows
-
-class Refused(Exception):
-    pass
-
-
-def is_unsealed(batch):
-    return batch.phase == "unsealed"
-
-
-def is_held(batch):
-    return batch.phase == "sealed" and batch.holds > 0
-
-
-def value_of(word):
-    return b"" if word == "." else bytes.fromhex(word)
-
-
-class Batch:
-    """A batch by its phase: unsealed, sealed or gone."""
-
-    def __init__(self, phase, whole, parent=None):
-        self.phase, self.whole, self.base, self.parent = phase, whole, len(whole), parent
-        self.pending, self.boundary, self.tips, self.floor, self.metadata, self.holds = [], len(whole), [], 0, None, 0
-
-
-class Machine:
-    def __init__(self, limit=VALUE_LIMIT):
-        self.limit = limit
-        self.operations, self.floor, self.metadata = [commit(None, 0)], 0, None
-        self.batches = []       # by number
-
-    def made(self, batch):
-        self.batches.append(batch)
-        return f"batch {len(self.batches) - 1}"
-
-    def batch(self, b, allowed):
-        if b >= len(self.batches) or not allowed(self.batches[b]):
-            raise Refused(f"NoBatch {b}")
-        return self.batches[b]
-
-    def is_alive(self, b):
-        return is_held(self.batches[b]) or any(is_unsealed(child) and child.parent == b for child in self.batches)
-
-    def reach(self, batch):
-        reached, link = [], batch.parent
-        while link is not None and self.is_alive(link):
-            reached.append(self.batches[link])
-            link = self.batches[link].parent
-        return reached
-
-    def stands_on(self, whole, sizes):
-        return any(self.operations == whole[:size] for size in sizes)
-
-    def new(self, parent):
-        if parent is None:
-            return self.made(Batch("unsealed", self.operations))
-        return self.made(Batch("unsealed", self.batch(parent, is_held).whole, parent))
-
-    def append(self, b, value):
-        batch = self.batch(b, is_unsealed)
-        if len(value) > self.limit:
-            raise Refused(f"ValueTooLong {len(value)}")
-        batch.pending.append(append(value))
-        return "ok"
-
-    def seal(self, b, metadata, floor):
-        batch = self.batch(b, is_unsealed)
-        if len(metadata or b"") > self.limit:
-            raise Refused(f"ValueTooLong {len(metadata)}")
-        reached = self.reach(batch)
-        parent = None if batch.parent is None else self.batches[batch.parent]
-        boundary = batch.base if parent is None else parent.boundary
-        if reached:
-            boundary = max(boundary, reached[-1].base)
-        tips = [len(ancestor.whole) for ancestor in reached]
-        below = self.floor if parent is None else parent.floor
-        location = batch.base + len(batch.pending)
-        batch.phase = "gone"
-        if not self.stands_on(batch.whole, [boundary] + tips):
-            raise Refused("StaleBatch")
-        if floor < below:
-            raise Refused(f"FloorRegressed {floor} {below}")
-        if floor > location:
-            raise Refused(f"FloorBeyondSize {floor} {location}")
-        batch.phase, batch.holds, batch.floor, batch.metadata = "sealed", 1, floor, metadata
-        batch.boundary, batch.tips = boundary, tips
-        batch.whole = batch.whole + batch.pending + [commit(metadata, floor)]
-        return f"sealed {len(batch.whole)} {list_root(batch.whole, floor)}"
-
-    def apply(self, b):
-        batch = self.batch(b, is_held)
-        if not self.stands_on(batch.whole, [batch.boundary] + batch.tips):
-            raise Refused("StaleBatch")
-        self.operations, self.floor, self.metadata = batch.whole, batch.floor, batch.metadata
-        return "applied"
-
-    def snapshot(self):
-        batch = Batch("sealed", self.operations)
-        batch.holds, batch.floor, batch.metadata = 1, self.floor, self.metadata
-        return self.made(batch)
-
-    def release(self, b):
-        batch = self.batch(b, lambda batch: is_unsealed(batch) or is_held(batch))
-        if is_unsealed(batch):
-            batch.phase = "gone"
-        else:
-            batch.holds -= 1
-        return "ok"
-
-    def hold(self, b):
-        self.batch(b, is_held).holds += 1
-        return "ok"
-
-    def step(self, words):
-        name, rest = words[0], words[1:]
-        if name == "new":
-            return self.new(int(rest[0]) if rest else None)
-        if name == "append":
-            return self.append(int(rest[0]), value_of(rest[1]))
-        if name == "seal":
-            return self.seal(int(rest[0]), None if rest[1] == "-" else value_of(rest[1]), int(rest[2]))
-        if name in ("apply", "hold", "release"):
-            return getattr(self, name)(int(rest[0]))
-        if words == ["snapshot"]:
-            return self.snapshot()
-        if words == ["size"]:
-            return f"size {len(self.operations)} start 0 floor {self.floor}"
-        if words == ["metadata"]:
-            return "metadata " + ("-" if self.metadata is None else self.metadata.hex() or ".")
-        raise ValueError(f"no such line: {words}")
-
-    def reply(self, answer):
-        there = list_root(self.operations, self.floor)
-        return f"{answer} size={len(self.operations)} full={there} compact={there}\n"
-
-
-def run(lines, limit=VALUE_LIMIT):
-    machine = Machine(limit)
-    out = [machine.reply("opened start=0")]
-    for line in lines:
-        if line == "" or line.startswith("#"):
-            continue
-        try:
-            answer = machine.step(line.split(" "))
-        except Refused as refusal:
-            answer = f"refused {refusal}"
-        out.append(machine.reply(answer))
-    return "".join(out)
 
 
 # ---- the cases of a script
@@ -288,7 +108,7 @@ def answered(kind, settings, lines):
         return kind + "\n"
     if kind == "run":
         stopped = {6: "stopped Volume\n", 10: "stopped NotFresh\n"}
-        return stopped.get(fault(settings)) or run(lines, int(settings["limit"]))
+        return stopped.get(fault(settings)) or run(lines, Machine(int(settings["limit"])))
     if kind == "main":
         written, status, bad = top_call(settings, lines)
         return f"{written}/ status {status} {STATUSES[status].format(bad)}\n"
@@ -343,7 +163,7 @@ def known_digests():
         for leaves in (1, 2, 8, 11):
             known.add(trees.root(family, [bytes([leaf]) for leaf in range(leaves)], 0, True).hex())
     for floors in FLOORS:
-        known.add(list_root([commit(None, floor) for floor in floors], floors[-1] if floors else 0))
+        known.add(machine.root([machine.commit(None, floor) for floor in floors]) if floors else root([]).hex())
     return known
 
 
