@@ -14,6 +14,7 @@ pub mod FlushLemmas
 pub mod StandLemmas
 pub mod RunLemmas
 pub mod PinnedLemmas
+pub mod BeginLemmas
 pub mod PruneLemmas
 pub mod RemoveLemmas
 pub mod StartLemmas

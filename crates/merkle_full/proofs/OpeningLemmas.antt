@@ -53,7 +53,7 @@ least_next s start n within most not = record {
 
 -- ---- a node in the map or the log
 
-same_digest : {D : Type 0} (spelling : D → List ℕ) (xs : List D) (p : ℕ) (d : D) (bytes : List ℕ) → ((a b : D) → spelling a ≡ spelling b → a ≡ b) → slice_get (map spelling xs) p ≡ Some bytes → bytes ≡ spelling d → slice_get xs p ≡ Some d
+pub same_digest : {D : Type 0} (spelling : D → List ℕ) (xs : List D) (p : ℕ) (d : D) (bytes : List ℕ) → ((a b : D) → spelling a ≡ spelling b → a ≡ b) → slice_get (map spelling xs) p ≡ Some bytes → bytes ≡ spelling d → slice_get xs p ≡ Some d
 same_digest spelling xs p d bytes exact is spelled =
     let m = mapped_some spelling (slice_get xs p) bytes (sym (slice_get-map spelling xs p) ∙ is) in
     m.1 ∙ ap Some (exact m.0 d (sym m.2 ∙ spelled))

@@ -3,7 +3,6 @@ use Rattle.std.proofs.Common.{◌≡◌, inl, inr, ℕ, ◌≤◌, List, length,
 use Rattle.std.specs.Prelude.{IsErrOf, OnOk, unwrap_or, nat_lt, if◌then◌else◌}
 use Rattle.std.specs.FinMap as finmap
 use Rattle.codec_base.specs.Laws.{eight_bytes}
-use Rattle.std.specs.Result.{IsErrAnd}
 use Rattle.volume_base.specs.Log.{Log, end_of, cleared_at}
 use Rattle.volume_base.specs.Volume.{State, Map, Reads, Writes}
 use Rattle.journal_base.specs.Items.{items_of, IsCorrupt}
@@ -13,7 +12,6 @@ use Rattle.tree_shape.proofs.NeededLemmas.{made_le}
 use Rattle.tree_shape.specs.Hashing.{Hashing}
 use Rattle.tree_store.specs.Stored.{size, boundary_key, TreeStands}
 use Rattle.tree_store.specs.declared.error.Error.{Error}
-use Rattle.tree_store.specs.declared.error.Error.TheVariants as tree
 use Rattle.merkle_full.specs.Opening.{boundary_in, some_ok, stored_as, stored_in, Selects}
 use Rattle.merkle_full.specs.Recovering.{Source, source_of, IsRecovered, AllRecovered, NotRecovered, NotAllRecovered, ArePeaksRecovered, NotReopened}
 use Rattle.merkle_full.specs.Preparing.{contents_of, leaves_reached, log_kept, NotReached, NotOpened, NotPrepared, Opens}
@@ -33,7 +31,7 @@ module _ {D : Type 0} (known : Type 0) (k : known) (source : Source D) where
   lost_known p e (inr (inr (none, inl (is, f)))) = inr (inr (none, inl (is, λ _. f k)))
   lost_known p e (inr (inr (none, inr (is, f)))) = inr (inr (none, inr (is, λ _. f k)))
 
-  not_all_known : {F : Type 0} (ps : List ℕ) (e : Error F) → NotAllRecovered known source ps e → NotAllRecovered (Unit {0}) source ps e
+  pub not_all_known : {F : Type 0} (ps : List ℕ) (e : Error F) → NotAllRecovered known source ps e → NotAllRecovered (Unit {0}) source ps e
   not_all_known ps e (inl out) = inl out
   not_all_known ps e (inr lost) = inr (record {
     index = lost.index;
@@ -43,7 +41,7 @@ module _ {D : Type 0} (known : Type 0) (k : known) (source : Source D) where
     why = lost_known lost.position e lost.why;
   })
 
-  not_reopened_known : {F : Type 0} (s : Shape) (leaves boundary : ℕ) (e : Error F) → NotReopened known source s leaves boundary e → NotReopened (Unit {0}) source s leaves boundary e
+  pub not_reopened_known : {F : Type 0} (s : Shape) (leaves boundary : ℕ) (e : Error F) → NotReopened known source s leaves boundary e → NotReopened (Unit {0}) source s leaves boundary e
   not_reopened_known s leaves boundary e (inl lost) = inl (not_all_known _ e lost)
   not_reopened_known s leaves boundary e (inr (all, lost)) = inr (all_known _ all, not_all_known _ e lost)
 
@@ -68,15 +66,6 @@ pub held_within : {C : Type 0} (view : View C) (state : State) → IsHeld view s
 held_within view state held = record { start_is = held.start_is; low = omega (arith, held.start_is, held.end_is); high = omega (arith, held.end_is) }
 
 -- ---- results of calls that are joined
-
--- the error behind a `?` that leaves it as it is, as a failure of the volume
-pub err_volume : {F T U : Type 0} (r : Result T (Error F)) (e : Error F) → IsErrAnd r (λ d. d ≡ e) → IsErrOf r tree.Volume → IsErrOf {T = U} (Err e) tree.Volume
-err_volume (Ok x) e is fault = absurd is
-err_volume (Err d) e is fault = ap Err (sym is) ∙ ap Err (let same : d ≡ tree.Volume = cc in same)
-
-pub err_no_ok : {T E : Type 0} (r : Result T E) (P : E → Type 0) (Q : Type 0) → IsErrAnd r P → OnOk r Q
-err_no_ok (Ok x) P Q is = absurd is
-err_no_ok (Err d) P Q is = tt
 
 -- a read that leaves the count of reads is a write of nothing
 pub writes_of_read : {S T E F : Type 0} (tells : Type 0) (fault : E) (above : F) (a b : State) (r : Result S E) (s : Result T F) → Reads tells fault a b r → b.reads ≡ a.reads → (IsErrOf s above → IsErrOf r fault) → OnOk s (b.faults ≡ a.faults) → Writes tells above a b s

@@ -30,9 +30,10 @@ use Rattle.merkle_full.proofs.PeakLemmas.{peak_of_pin, last_at}
 pub same_size : (s : Shape) (m n : ℕ) → length (made s m) ≡ length (made s n) → m ≡ n
 same_size s m n e = omega (arith, fewer s m n (omega (arith, e)), fewer s n m (omega (arith, e)))
 
-pub nodes_more : {D : Type 0} (slow : List D) (positions : List ℕ) (ds more : List D) (i q : ℕ) (v : D) → length ds ≡ i → more ≡ ds ++ (v ∷ []) → slice_get positions i ≡ Some q → slice_get slow q ≡ Some v
-    → ((j p : ℕ) (d : D) → slice_get positions j ≡ Some p → slice_get ds j ≡ Some d → slice_get slow p ≡ Some d) → (j p : ℕ) (d : D) → slice_get positions j ≡ Some p → slice_get more j ≡ Some d → slice_get slow p ≡ Some d
-nodes_more {D = D} slow positions ds more i q v long is at_q at_v each j p d at_p at_d = ⊎_elim
+-- one more digest for its position
+pub more_each : {D : Type 0} (P : ℕ → D → Type 0) (positions : List ℕ) (ds more : List D) (i q : ℕ) (v : D) → length ds ≡ i → more ≡ ds ++ (v ∷ []) → slice_get positions i ≡ Some q → P q v
+    → ((j p : ℕ) (d : D) → slice_get positions j ≡ Some p → slice_get ds j ≡ Some d → P p d) → (j p : ℕ) (d : D) → slice_get positions j ≡ Some p → slice_get more j ≡ Some d → P p d
+more_each {D = D} P positions ds more i q v long is at_q at_v each j p d at_p at_d = ⊎_elim
     (λ lt.
     let here : slice_get ds j ≡ Some (get_or ds j d) = slice_get-get_or ds j d (omega (arith, lt, long)) in
     let same : Some (get_or ds j d) ≡ Some d = sym (get-append ds (v ∷ []) j (get_or ds j d) here) ∙ ap (λ l. slice_get l j) (sym is) ∙ at_d in
@@ -42,7 +43,7 @@ nodes_more {D = D} slow positions ds more i q v long is at_q at_v each j p d at_
     let last : j ≡ length ds = omega (arith, within, le, long, ap length is, length-append ds (v ∷ [])) in
     let value : Some v ≡ Some d = sym (last_at ds v) ∙ ap (slice_get (ds ++ (v ∷ []))) (sym last) ∙ ap (λ l. slice_get l j) (sym is) ∙ at_d in
     let place : q ≡ p = same_Some q p (sym at_q ∙ ap (slice_get positions) (let e : i ≡ j = omega (arith, last, long) in e) ∙ at_p) in
-    subst (λ r. slice_get slow r ≡ Some d) place (at_v ∙ value))
+    subst (λ r. P r d) place (subst (P q) (same_Some v d value) at_v))
     (cases_lt j i)
 
 pub peaks_are : {D : Type 0} (s : Shape) (h : Hashing D) (all ds : List D) (positions : List ℕ) (n m : ℕ) → IsLawful s → n ≤ m → m ≤ length all → positions ≡ pins s n → length ds ≡ length positions
@@ -99,11 +100,11 @@ module _ {D C : Type 0} (tells : Type 0) (spelling : D → List ℕ) (admits : C
   pub recovered_before : (p : ℕ) (d : D) → IsRecovered tells (source_of spelling admits pinned view new) p d → IsRecovered (tells × IsWithin view old) (source_of spelling admits pinned view old) p d
   recovered_before p d r = record { pinned = r.pinned; logged = λ none known. subst (λ (l : Log). IsItemAt l p (spelling d)) ((same known.0).logs view.name) (r.logged none known.0) }
 
+  pub known_before : (p : ℕ) (d : D) → IsRecovered (tells × IsWithin view new) (source_of spelling admits pinned view new) p d → IsRecovered (tells × IsWithin view old) (source_of spelling admits pinned view old) p d
+  known_before p d r = record { pinned = r.pinned; logged = λ none known. subst (λ (l : Log). IsItemAt l p (spelling d)) ((same known.0).logs view.name) (r.logged none (known.0, within_now known.0 known.1)) }
+
   pub all_before : (ps : List ℕ) → AllRecovered (tells × IsWithin view new) (source_of spelling admits pinned view new) ps → AllRecovered (tells × IsWithin view old) (source_of spelling admits pinned view old) ps
-  all_before ps all i p at = let r = all i p at in (r.0, at_old p r.0 r.1)
-    where
-      at_old : (q : ℕ) (d : D) → IsRecovered (tells × IsWithin view new) (source_of spelling admits pinned view new) q d → IsRecovered (tells × IsWithin view old) (source_of spelling admits pinned view old) q d
-      at_old q d r = record { pinned = r.pinned; logged = λ none known. subst (λ (l : Log). IsItemAt l q (spelling d)) ((same known.0).logs view.name) (r.logged none (known.0, within_now known.0 known.1)) }
+  all_before ps all i p at = let r = all i p at in (r.0, known_before p r.0 r.1)
 
   pub lost_before : {F : Type 0} (p : ℕ) (e : Error F) → NotRecovered (tells × IsWithin view new) (source_of spelling admits pinned view new) p e → NotRecovered (tells × IsWithin view old) (source_of spelling admits pinned view old) p e
   lost_before p e (inl out) = inl out
@@ -118,6 +119,6 @@ module _ {D C : Type 0} (tells : Type 0) (spelling : D → List ℕ) (admits : C
     index = lost.index;
     position = lost.position;
     here = lost.here;
-    before = λ i p lt at. let r = lost.before i p lt at in (r.0, record { pinned = r.1.pinned; logged = λ none known. subst (λ (l : Log). IsItemAt l p (spelling r.0)) ((same known.0).logs view.name) (r.1.logged none (known.0, within_now known.0 known.1)) });
+    before = λ i p lt at. let r = lost.before i p lt at in (r.0, known_before p r.0 r.1);
     why = lost_before lost.position e lost.why;
   })

@@ -197,7 +197,7 @@ reached_low s top end complete = by (has_orphan s top end complete)
     by true = omega arith
     by false = omega arith
 
-all_front : {D : Type 0} (P : D → Type 0) (xs ys : List D) → All P (xs ++ ys) → All P xs
+pub all_front : {D : Type 0} (P : D → Type 0) (xs ys : List D) → All P (xs ++ ys) → All P xs
 all_front P xs ys all k d lt = subst P (get_or_append_left xs ys d k lt) (all k d (omega (arith, lt, length-append xs ys)))
 
 pub ends_settled : (s : Shape) (log : Log) (complete boundary blob : ℕ) → boundary ≤ complete → log.start ≤ size s complete → size s complete ≤ end_of log → end_of (pruned_to (cut_to log (size s complete)) (blob_start blob (size s boundary))) ≡ size s complete

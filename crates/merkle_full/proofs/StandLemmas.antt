@@ -1,5 +1,5 @@
 -- What the calls of a tree leave of its log beside its map, at each moment.
-use Rattle.std.proofs.Common.{◌≡◌, ℕ, ◌≤◌, List, ◌++◌, length, map, take, drop, sym, ◌∙◌, ap, subst, arith, inl, inr}
+use Rattle.std.proofs.Common.{◌≡◌, ℕ, List, ◌++◌, length, map, take, drop, sym, ◌∙◌, ap, subst, arith, inl, inr}
 use Rattle.std.proofs.lemmas.List.{take_all, take-append-drop, map-append, length-map}
 use Rattle.volume_base.specs.Bounds.{IsRunOf, IsPartOf}
 use Rattle.volume_base.specs.Log.{Log, Grows, Stays}

@@ -9,3 +9,4 @@ pub mod Preparing
 pub mod Flushing
 pub mod Pruning
 pub mod Removing
+pub mod Syncing

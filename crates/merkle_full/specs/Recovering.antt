@@ -5,8 +5,10 @@ use Rattle.journal_base.specs.Items.{Items, items_of, Holds, IsCorrupt}
 use Rattle.journal_base.specs.View.{View}
 use Rattle.volume_base.specs.Volume.{State, Map}
 use Rattle.volume_base.specs.declared.error.JournalError.TheVariants as journal
+use Rattle.tree_shape.specs.Hashing.{Hashing}
 use Rattle.tree_shape.specs.Pins.{pins}
 use Rattle.tree_shape.specs.Shape.{Shape}
+use Rattle.tree_shape.specs.Slow.{nodes}
 use Rattle.tree_store.specs.Stored.{node_key}
 use Rattle.tree_store.specs.Stores.{IsOutside}
 use Rattle.tree_store.specs.declared.error.Error.{Error}
@@ -63,6 +65,11 @@ pub record IsFirstLost {F D : Type 0} (known : Type 0) (source : Source D) (ps :
 
 abbrev pub NotAllRecovered : {F D : Type 0} → Type 0 → Source D → List ℕ → Error F → Type 0
 NotAllRecovered known source ps e = IsOutside e ⊎ IsFirstLost known source ps e
+
+-- what is recovered at each peak of a number of leaves is the node of a list of leaf digests there
+abbrev pub TellsPeaks : {D : Type 0} → Type 0 → Source D → Shape → Hashing D → List D → ℕ → Type 0
+TellsPeaks {D} known source s h all leaves =
+    (i p : ℕ) (d : D) → slice_get (pins s leaves) i ≡ Some p → IsRecovered known source p d → slice_get (nodes s h all) p ≡ Some d
 
 -- Each peak of the leaves is recovered, and each of those at which the tree is pruned.
 pub record ArePeaksRecovered {D : Type 0} (known : Type 0) (source : Source D) (s : Shape) (leaves boundary : ℕ) : Type 0 where

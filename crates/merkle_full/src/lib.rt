@@ -1,6 +1,7 @@
 //! A tree whose nodes stand in a log of a volume, beside a map of pins.
 #![tactic(auto)]
 
+mod begin;
 mod boundary_map;
 mod config;
 mod durable;
@@ -26,9 +27,13 @@ mod settle;
 mod sizes;
 mod started;
 mod storage;
+mod sync_config;
+mod sync_log;
+mod sync_pins;
 mod tail;
 
 pub use config::Config;
 pub use merkle::Merkle;
 pub use recovery::Recovery;
+pub use sync_config::SyncConfig;
 pub use tree_core::{MerkleizedBatch, UnmerkleizedBatch};

@@ -96,6 +96,10 @@ pub(crate) fn recovered_nodes<F: Family, D: Digest, R: BackingRecovery<Item = D>
         TreeStands F.shape h D.spelling all durable top ((V.state vol.old).log (R.view log.now).name) map.now →
         (i p : ℕ) (d : D) → slice_get positions.now i ≡ Some p → slice_get found.items i ≡ Some d →
         slice_get (nodes F.shape h all) p ≡ Some d) }
+    ensures nodes { let source = source_of D.spelling D.Read.admits map.now (R.view log.now) (V.state vol.old) in
+        let known = V.tells × IsWithin (R.view log.now) (V.state vol.old) in
+        IfOk result (λ found. (i p : ℕ) (d : D) → slice_get positions.now i ≡ Some p →
+        slice_get found.items i ≡ Some d → IsRecovered known source p d) }
     ensures recovered { let source = source_of D.spelling D.Read.admits map.now (R.view log.now) (V.state vol.old) in
         OnOk result (AllRecovered (V.tells × IsWithin (R.view log.now) (V.state vol.old)) source positions.now) }
     ensures refused { let source = source_of D.spelling D.Read.admits map.now (R.view log.now) (V.state vol.old) in

@@ -7,7 +7,7 @@ ghost use Rattle.tree_store.specs.Stored.{TreeStands};
 ghost use Rattle.volume_base.specs.Log.{end_of};
 ghost use Rattle.volume_base.specs.Volume.{Reads};
 ghost use Rattle.tree_core.specs.Tree.{IsOf, IsSound, node_at, rests};
-ghost use Rattle.merkle_full.specs.Recovering.{source_of, ArePeaksRecovered, NotReopened};
+ghost use Rattle.merkle_full.specs.Recovering.{source_of, TellsPeaks, ArePeaksRecovered, NotReopened};
 
 use crate::pins::pin_positions;
 use crate::recovered::recovered_nodes;
@@ -37,6 +37,12 @@ pub(crate) fn reopened<F: Family, D: Digest, R: BackingRecovery<Item = D>, V: Vo
     ensures list { let log = (V.state vol.old).log (R.view log.now).name in
         IfOk result (λ m. V.tells → (h : Hashing D) (all : List D) (durable top : ℕ) →
         TreeStands F.shape h D.spelling all durable top log map.now → length (made F.shape complete) ≤ end_of log →
+        IsOf F.shape h (take complete all) m) }
+    // So it is for each list whose peaks are what is recovered.
+    ensures told { let source = source_of D.spelling D.Read.admits map.now (R.view log.now) (V.state vol.old) in
+        let known = V.tells × IsWithin (R.view log.now) (V.state vol.old) in
+        IfOk result (λ m. (h : Hashing D) (all : List D) → complete ≤ length all →
+        TellsPeaks known source F.shape h all complete → TellsPeaks known source F.shape h all pruned →
         IsOf F.shape h (take complete all) m) }
     ensures peaks { let source = source_of D.spelling D.Read.admits map.now (R.view log.now) (V.state vol.old) in
         let known = V.tells × IsWithin (R.view log.now) (V.state vol.old) in

@@ -1,4 +1,4 @@
-use Rattle.std.proofs.Common.{◌≡◌, inl, inr, ℕ, ◌<◌, length, take, subst, sym, ◌∙◌, ap, arith}
+use Rattle.std.proofs.Common.{◌≡◌, inl, inr, ℕ, ◌<◌, Err, refl, length, take, subst, sym, ◌∙◌, ap, arith}
 use Rattle.std.specs.Prelude.{is_some}
 use Rattle.journal_base.specs.View.{IsWithin}
 use Rattle.journal_base.proofs.MatchLemmas.{within_later}
@@ -10,7 +10,9 @@ use Rattle.volume_base.proofs.ReadLemmas.{only_read_none, only_read_joins, reads
 use Rattle.merkle_full.specs.Recovering.{source_of}
 use Rattle.merkle_full.specs.Preparing.{NotReached, NotOpened}
 use Rattle.merkle_full.proofs.GrownLemmas.{err_same, reads_ok}
-use Rattle.merkle_full.proofs.PrepareLemmas.{selects_in, selected_past, not_reached_before, err_volume, err_no_ok}
+use Rattle.merkle_full.proofs.PrepareLemmas.{selects_in, selected_past, not_reached_before}
+use Rattle.merkle_full.proofs.RunLemmas.{same_fault, not_ok}
+use Rattle.tree_store.specs.declared.error.Error.TheVariants as tree
 use Rattle.merkle_full.proofs.opening.open_memory.Goals as goal
 
 pub returns-in_err-mem-clause-refused : goal.returns-in_err-mem-clause-refused
@@ -43,7 +45,7 @@ pub returns-in_err-mem-2-clause-reads : goal.returns-in_err-mem-2-clause-reads
 returns-in_err-mem-2-clause-reads g c =
     let old = g.V.Volume.state c.args.vol.now in
     let one = only_read_joins _ _ _ _ _ _ (only_read_none g.V.Volume.tells old) (c.in_ok-mem.ensures {u = tt}).reads in
-    reads_joins _ _ _ _ _ _ _ one c.in_err-mem-2.ensures.reads (err_volume c.from_residual-in_err-mem-2.result c.in_err-mem-2.field-0.0 c.from_residual-in_err-mem-2.ensures.1) (err_no_ok c.from_residual-in_err-mem-2.result (λ d. d ≡ c.in_err-mem-2.field-0.0) _ c.from_residual-in_err-mem-2.ensures.1)
+    reads_joins _ _ _ _ _ _ _ one c.in_err-mem-2.ensures.reads (same_fault c.from_residual-in_err-mem-2.result (Err c.in_err-mem-2.field-0.0) c.in_err-mem-2.field-0.0 tree.Volume refl c.from_residual-in_err-mem-2.ensures.1) (not_ok c.from_residual-in_err-mem-2.result (λ d. d ≡ c.in_err-mem-2.field-0.0) _ c.from_residual-in_err-mem-2.ensures.1)
 
 pub returns-clause-exact : goal.returns-clause-exact
 returns-clause-exact g c p lt =

@@ -9,7 +9,7 @@ use Rattle.volume_base.proofs.ReadLemmas.{only_read_joins}
 use Rattle.journal_base.specs.View.{IsWithin}
 use Rattle.merkle_full.specs.Recovering.{source_of, IsRecovered, NotRecovered, NotAllRecovered}
 use Rattle.merkle_full.proofs.GrownLemmas.{err_same}
-use Rattle.merkle_full.proofs.ReopenLemmas.{nodes_more, recovered_before, lost_before}
+use Rattle.merkle_full.proofs.ReopenLemmas.{more_each, recovered_before, lost_before}
 use Rattle.merkle_full.proofs.recovered.recovered_nodes.Goals as goal
 
 pub loop-i-preserved : goal.loop-i-preserved
@@ -28,8 +28,10 @@ loop-i-preserved g c =
       list = λ told h all durable top stands.
           let log = (c.loop-i.invariant.so_far.contents told).logs view.name in
           let now = subst (λ (l : Log). TreeStands g.F.Family.shape h g.D.Spelled.spelling all durable top l c.args.map.now) (sym log) stands in
-          nodes_more (nodes g.F.Family.shape h all) c.args.positions.now c.loop-i.found.items _ c.loop-i.i c.as_u64-position.result c.in_ok-node.node c.loop-i.invariant.counted pushed (at ∙ ap Some (sym place))
+          more_each (λ p d. slice_get (nodes g.F.Family.shape h all) p ≡ Some d) c.args.positions.now c.loop-i.found.items _ c.loop-i.i c.as_u64-position.result c.in_ok-node.node c.loop-i.invariant.counted pushed (at ∙ ap Some (sym place))
           (did.list told h all durable top now) (c.loop-i.invariant.list told h all durable top stands);
+      each = more_each (λ p d. IsRecovered (tells × IsWithin view old) (source_of g.D.Spelled.spelling g.D.Read.admits c.args.map.now view old) p d) c.args.positions.now c.loop-i.found.items _ c.loop-i.i c.as_u64-position.result c.in_ok-node.node
+          c.loop-i.invariant.counted pushed (at ∙ ap Some (sym place)) (recovered_before tells g.D.Spelled.spelling g.D.Read.admits c.args.map.now view old new c.loop-i.invariant.so_far.contents c.as_u64-position.result c.in_ok-node.node did.node) c.loop-i.invariant.each;
       recovered = λ i p lt is. elim (cases_lt i c.loop-i.i) [
         | inl before ↦ c.loop-i.invariant.recovered i p before is
         | inr here ↦

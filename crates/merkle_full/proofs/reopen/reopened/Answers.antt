@@ -1,4 +1,5 @@
 use Rattle.std.proofs.Common.{◌≡◌, inl, inr, ◌-◌, ℕ, List, length, map, take, sym, ◌∙◌, ap, subst, arith}
+use Rattle.std.specs.Prelude.{slice_get}
 use Rattle.std.proofs.lemmas.List.{length-take-le}
 use Rattle.tree_shape.specs.Shape.{made, peaks}
 use Rattle.tree_shape.specs.Slow.{node_of}
@@ -7,7 +8,7 @@ use Rattle.tree_core.specs.Pruned.{nodes_from}
 use Rattle.tree_core.specs.Tree.{rests, NotBuilt}
 use Rattle.tree_core.proofs.Since.{nothing_since}
 use Rattle.tree_store.specs.Stored.{TreeStands}
-use Rattle.merkle_full.proofs.ReopenLemmas.{same_size, peaks_are, stands_long, built_outside, first_before, all_before}
+use Rattle.merkle_full.proofs.ReopenLemmas.{same_size, peaks_are, stands_long, built_outside, known_before, first_before, all_before}
 use Rattle.merkle_full.proofs.GrownLemmas.{err_same, memory_alone, reads_ok}
 use Rattle.merkle_full.proofs.PeakLemmas.{pin_count}
 use Rattle.volume_base.proofs.ReadLemmas.{only_read_none, only_read_joins, reads_of}
@@ -44,6 +45,30 @@ returns-clause-list g c tells h all durable top stands fits =
     let log = (first.reads.contents tells).logs (g.R.BackingRecovery.view c.args.log.now).name in
     let later = subst (λ (l : Log). TreeStands s h spelling all durable top l c.args.map.now) (sym log) stands in
     let two = peaks_are s h all c.in_ok-pins.pins.items c.deref-2.result.now c.args.pruned n g.met.F.Family.lawful c.requires.within long (c.deref-2.ensures.value ∙ c.in_ok-positions.ensures {u = tt}) second.counted (second.list tells h all durable top later) in
+    let none : c.in_ok-mem.mem.leaves - c.new-2.result ≡ 0 = omega (arith, leaves, c.new-2.ensures) in
+    let built = (c.in_ok-mem.ensures {u = tt}).tree h front (leaves ∙ sym count) (one ∙ ap (λ b. map (node_of s h front) (peaks s b)) (sym c.new-2.ensures))
+    (c.new.ensures.items ∙ (nothing_since s h front c.new-2.result).0 ∙ ap (λ j. nodes_from s h front c.new-2.result j) (sym none)) in
+    (c.in_ok-opened.ensures {u = tt}).tree h front built (c.deref-4.ensures.value ∙ two ∙ ap (λ b. map (node_of s h front) (peaks s b)) (sym c.new-3.ensures))
+
+pub returns-clause-told : goal.returns-clause-told
+returns-clause-told g c h all long leaf_told pin_told =
+    let s = g.F.Family.shape in
+    let n = c.args.complete in
+    let view = g.R.BackingRecovery.view c.args.log.now in
+    let old = g.V.Volume.state c.args.vol.now in
+    let new = g.V.Volume.state c.recovered_nodes.new.vol in
+    let front = take n all in
+    let count : length front ≡ n = length-take-le n all long in
+    let leaves = mem_leaves g c in
+    let first = c.in_ok-peaks.ensures {u = tt} in
+    let second = c.in_ok-pins.ensures {u = tt} in
+    let leaf = c.deref.ensures.value ∙ c.in_ok-leaf_positions.ensures {u = tt} in
+    let pin = c.deref-2.ensures.value ∙ c.in_ok-positions.ensures {u = tt} in
+    let before = known_before g.V.Volume.tells g.D.Spelled.spelling g.D.Read.admits c.args.map.now view old new first.reads.contents in
+    let one = peaks_are s h all c.in_ok-peaks.peaks.items c.deref.result.now n n g.met.F.Family.lawful (omega arith) long leaf first.counted
+    (λ i p d at_p at_d. leaf_told i p d (ap (λ (l : List ℕ). slice_get l i) (sym leaf) ∙ at_p) (first.nodes i p d at_p at_d)) in
+    let two = peaks_are s h all c.in_ok-pins.pins.items c.deref-2.result.now c.args.pruned n g.met.F.Family.lawful c.requires.within long pin second.counted
+    (λ i p d at_p at_d. pin_told i p d (ap (λ (l : List ℕ). slice_get l i) (sym pin) ∙ at_p) (before p d (second.nodes i p d at_p at_d))) in
     let none : c.in_ok-mem.mem.leaves - c.new-2.result ≡ 0 = omega (arith, leaves, c.new-2.ensures) in
     let built = (c.in_ok-mem.ensures {u = tt}).tree h front (leaves ∙ sym count) (one ∙ ap (λ b. map (node_of s h front) (peaks s b)) (sym c.new-2.ensures))
     (c.new.ensures.items ∙ (nothing_since s h front c.new-2.result).0 ∙ ap (λ j. nodes_from s h front c.new-2.result j) (sym none)) in

@@ -7,9 +7,8 @@ use Rattle.merkle_full.specs.Flushing.{IsOfFlush}
 use Rattle.merkle_full.specs.Full.{Full, IsSeated}
 use Rattle.merkle_full.specs.Lists.{IsFullOf}
 use Rattle.merkle_full.proofs.FullLemmas.{full_later}
-use Rattle.merkle_full.proofs.PrepareLemmas.{err_volume, err_no_ok}
 use Rattle.merkle_full.proofs.GrownLemmas.{err_same}
-use Rattle.merkle_full.proofs.RunLemmas.{names_then_log, renamed_durable}
+use Rattle.merkle_full.proofs.RunLemmas.{names_then_log, renamed_durable, same_fault, not_ok}
 use Rattle.merkle_full.proofs.StandLemmas.{stands_then_sync, sync_settles}
 use Rattle.merkle_full.proofs.merkle.Merkle.sync.Goals as goal
 
@@ -97,7 +96,7 @@ returns-in_err-synced-clause-writes g c sound =
     let result = c.from_residual-in_err-synced.result in
     let is = c.from_residual-in_err-synced.ensures.1 in
     writes_joins g.V.Volume.tells tree.Volume tree.Volume tree.Volume (g.V.Volume.state c.args.vol.now) (g.V.Volume.state c.flush.new.vol) (g.V.Volume.state c.sync_log.new.vol) c.in_ok-flushed.flushed (Err e) result flushed.writes
-    (c.in_err-synced.ensures.writes failed) (err_volume result e is) (λ k. err_no_ok result (λ d. d ≡ e) _ is)
+    (c.in_err-synced.ensures.writes failed) (same_fault result (Err e) e tree.Volume refl is) (λ k. not_ok result (λ d. d ≡ e) _ is)
 
 pub returns-in_err-synced-clause-errors : goal.returns-in_err-synced-clause-errors
 returns-in_err-synced-clause-errors g c = err_same _ c.in_err-synced.field-0.0 (IsOfFlush g.F.Family.shape c.args.self) c.from_residual-in_err-synced.ensures.1 (inl c.in_err-synced.ensures.outside)

@@ -1,4 +1,4 @@
-use Rattle.std.proofs.Common.{◌≡◌, ℕ, List, Ok, Err, take, drop, subst, sym, ap}
+use Rattle.std.proofs.Common.{◌≡◌, ℕ, List, Ok, Err, refl, take, drop, subst, sym, ap}
 use Rattle.std.proofs.lemmas.List.{take-append-drop}
 use Rattle.journal_base.specs.View.{View}
 use Rattle.tree_store.specs.Stored.{TreeStands}
@@ -9,7 +9,7 @@ use Rattle.volume_base.specs.Volume.{Map, OnlyLeft}
 use Rattle.volume_base.proofs.CallLemmas.{names_call_joins}
 use Rattle.volume_base.proofs.JoinLemmas.{writes_joins}
 use Rattle.volume_base.proofs.MomentLemmas.{pair_has_after, pair_keeps_joins}
-use Rattle.merkle_full.proofs.PrepareLemmas.{err_volume, err_no_ok}
+use Rattle.merkle_full.proofs.RunLemmas.{same_fault, not_ok}
 use Rattle.merkle_full.proofs.PruneRun.{names_wider}
 use Rattle.merkle_full.proofs.recovery.Recovery.finish.Goals as goal
 
@@ -59,7 +59,7 @@ returns-in_err-opened-clause-writes g c =
     let result = c.from_residual-in_err-opened.result in
     let is = c.from_residual-in_err-opened.ensures.1 in
     writes_joins g.V.Volume.tells tree.Volume tree.Volume tree.Volume (g.V.Volume.state c.args.vol.now) (g.V.Volume.state c.settle.new.vol) (g.V.Volume.state c.sync.new.vol) c.in_ok-settled.settled (Err e) result did.writes (c.in_err-opened.ensures.writes did.failed)
-    (err_volume result e is) (λ k. err_no_ok result (λ d. d ≡ e) _ is)
+    (same_fault result (Err e) e tree.Volume refl is) (λ k. not_ok result (λ d. d ≡ e) _ is)
 
 pub returns-clause-full : goal.returns-clause-full
 returns-clause-full g c told h all durable top within stands long digests of = (c.in_ok-opened.ensures {u = tt}).full told h (take c.args.self.tree.leaves all) ((c.in_ok-settled.ensures {u = tt}).full told h all durable top within stands long digests of)
