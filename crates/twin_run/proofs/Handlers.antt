@@ -1,79 +1,82 @@
 -- What the handlers of commands answer.
-use Rattle.std.proofs.Common.{◌≡◌, ℕ, ◌+◌, ◌<◌, ◌≤◌, Bool, true, false, List, ◌∷◌, length, get_or, set, Option, Some, None, refl, sym, ◌∙◌, ap, subst, arith}
-use Rattle.std.specs.Prelude.{nat_lt, Contains}
+use Rattle.std.proofs.Common.{◌≡◌, ℕ, ◌+◌, ◌-◌, ◌^◌, ◌<◌, ◌≤◌, Bool, true, false, cond, ◌||◌, List, [], ◌∷◌, ◌++◌, length, take, drop, get_or, set, Option, Some, None, refl, sym, ◌∙◌, ap, subst, arith}
+use Rattle.std.specs.Prelude.{nat_lt, Contains, Result, Ok, Err, is_ok, is_err}
 use Rattle.std.specs.Bool.{Decides, one_answer}
-use Rattle.std.specs.Option.{option_map}
+use Rattle.std.specs.List.{list_any}
+use Rattle.std.specs.Option.{option_map, ForSome}
+use Rattle.std.proofs.lemmas.List.{take-append-drop}
 use Rattle.std.proofs.lemmas.Bool.Decides.{nat_tests}
-use Rattle.std.proofs.lemmas.List.{set-get_or}
+use Rattle.std.proofs.lemmas.List.{set-get_or, get_or_past}
 use Rattle.std.proofs.lemmas.Option.{none-some, same_Some, cond_some}
 use Rattle.chain_core.specs.Slots as slots
-use Rattle.chain_core.specs.Slots.{holds_of}
-use Rattle.chain_core.specs.Sealing.{is_at, place_refusal}
+use Rattle.chain_core.specs.Slots.{holds_of, IsAlive, link_held, link_released}
+use Rattle.chain_core.specs.Reached.{item_at}
+use Rattle.chain_core.specs.States.{sizes}
+use Rattle.chain_core.specs.declared.bounds.Bounds.{Bounds}
 use Rattle.chain_core.specs.declared.commitment.Commitment.{Commitment}
-use Rattle.chain_core.specs.declared.place.Place.{Place}
 use Rattle.chain_core.specs.declared.pool.HeldBatch.{HeldBatch}
 use Rattle.tree_shape.specs.declared.mmr.Mmr.{Mmr}
 use Rattle.tree_shape.specs.declared.sha256.Sha256Digest.{Sha256Digest}
 use Rattle.log_model.specs.StateBatches as batches
-use Rattle.log_model.specs.StateBatches.{is_held}
-use Rattle.log_model.specs.Machine.{State, SameTest, batch_at, begun, applied, with_batch, max_leaves}
-use Rattle.log_model.specs.Refusals.{seal_refusal}
-use Rattle.log_model.specs.Reach.{stands_on, may_seal, may_apply, floor_below, sealed_here, effective_boundary, reach, tips_of}
-use Rattle.op_codec.specs.declared.keyless.Operation.TheVariants.{Append, Commit}
+use Rattle.log_model.specs.StateBatches.{is_held, begun_on}
+use Rattle.log_model.specs.Machine.{State, SameTest, batch_at, begun, applied, with_batch, max_leaves, stands_at}
+use Rattle.log_model.specs.Operations.{floor_of}
+use Rattle.log_model.specs.Reach.{stands_on, may_apply}
+use Rattle.log_model.proofs.ReachLemmas.{lists_decide}
+use Rattle.op_codec.specs.declared.keyless.Operation.TheVariants.{Append}
 use Rattle.command_text.specs.declared.command.Answer.{Answer}
 use Rattle.command_text.specs.declared.command.Answer.TheVariants as answer
-use Rattle.log_model.specs.declared.refusal.Refusal.{Refusal}
-use Rattle.log_model.specs.declared.refusal.Refusal.TheVariants.{StaleBatch, LocationOverflow}
-use Rattle.twin_run.specs.Operation.{Operation, meaning, sha, one_list}
+use Rattle.log_model.specs.declared.refusal.Refusal.TheVariants.{NoBatch, ValueTooLong, StaleBatch, LocationOverflow}
+use Rattle.twin_run.specs.Operation.{Operation, meaning, one_list, same_operation, operation_decide}
+use Rattle.twin_run.specs.Commitments.{same_state, AreBounds}
 use Rattle.twin_run.specs.Told.{IsTold}
-use Rattle.twin_run.specs.Step as step
-use Rattle.twin_run.specs.Step.{Outcome, refused, lost, begin_on, append_to, metadata_length, done_sealing, seal, apply, hold}
-use Rattle.twin_run.specs.Lists.{list_at, lists_in, count_in}
-use Rattle.chain_core.specs.Reached.{item_at}
-use Rattle.twin_run.specs.Pool.{Slot, Slots}
-use Rattle.chain_core.specs.States.{sizes}
-use Rattle.chain_core.proofs.StateLemmas.{stands_there}
-use Rattle.tree_shape.specs.Mmr.{mmr}
-use Rattle.tree_shape.specs.Sha256Codec.{bytes_of}
-use Rattle.twin_run.specs.Commitments.{commitment_of, same_state, IsStateIn, AreStatesIn, AreBounds}
-use Rattle.twin_run.specs.StateOf.{IsSealedOf, if_held, held_in, IsStateOf, Meets}
-use Rattle.twin_run.specs.declared.batch.Batch.{Batch}
-use Rattle.twin_run.specs.declared.batch.Batch.TheVariants.{Unsealed, Sealed, Gone}
-use Rattle.twin_run.specs.declared.batch.SealedBatch.{SealedBatch}
-use Rattle.twin_run.specs.declared.batch.Holding.{Holding}
-use Rattle.twin_run.specs.declared.machine.Machine.{Machine}
+use Rattle.twin_run.specs.Kind.{Kind, size_of, snapshot_of}
+use Rattle.twin_run.specs.Step.{Outcome, refused, metadata_length, sealed_or_lost, seal_refusal, begin, begin_on, append_to, seal, apply, hold, release, snapshot, size, metadata}
+use Rattle.twin_run.specs.StateOf.{Likeness, LinkIs, IsUnsealedOf, IsItemOf, IsSealedOf, IsEntryOf, AreBatchesOf, AreFew, HasRoom, if_held, held_in, IsSealedAs, IsUnsealedAs, same_lists, any_lists, IsShaped, IsStateOf, Meets, Follows, FollowsTold}
+use Rattle.twin_run.specs.declared.numbers.Batch.{Batch}
+use Rattle.twin_run.specs.declared.numbers.Batch.TheVariants.{Unsealed, Sealed, Gone}
+use Rattle.twin_run.specs.declared.numbers.Holding.{Holding}
+use Rattle.twin_run.specs.declared.numbers.Numbers.{Numbers}
+use Rattle.chain_core.proofs.PoolLemmas.{some_held, alive_is, put_new}
 use Rattle.twin_run.proofs.Fronts.{lt_false, lt_true, le_false, le_true, stands_decides}
-use Rattle.twin_run.proofs.Matching.{sealed_there}
-use Rattle.twin_run.proofs.Changes.{pool_holds}
+use Rattle.twin_run.proofs.Matching.{sealed_within, unsealed_there, sealed_there, parent_held}
+use Rattle.twin_run.proofs.Changes.{pool_holds, batches_put, batches_lost, batches_appended, batches_begun, batches_added, batches_held, batches_released, few_held, few_released, few_put}
+
+pub same_sealed : (c d : batches.SealedBatch Operation) → batches.Sealed c ≡ batches.Sealed d → c ≡ d
+same_sealed c d e = cc
+
+pub same_machine : (u v : batches.UnsealedBatch Operation) → batches.Unsealed u ≡ batches.Unsealed v → u ≡ v
+same_machine u v e = cc
+
+-- a batch that is put in its own place
+pub set_same : {U : Type 0} (bs : List (Batch U)) (b : ℕ) (x : Batch U) → get_or bs b Gone ≡ x → set bs b x ≡ bs
+set_same bs b x e = ap (set bs b) (sym e) ∙ set-get_or bs b Gone
 
 -- ---- where the present list stands
-
--- a test that decides whether the present state is the boundary or a tip tells where the list stands
-pub told_by : (s : State Operation) (list : List Operation) (db : Commitment Mmr Sha256Digest) (tips : List (Commitment Mmr Sha256Digest)) → IsStateIn list db → AreStatesIn list tips
-    → (current : Commitment Mmr Sha256Digest) → current ≡ commitment_of s.ops → (ok : Bool) → Decides ok (Contains (db ∷ tips) current) → ok ≡ stands_on same_state s list db.size (sizes tips)
-told_by s list db tips k ks current is ok d =
-    one_answer ok (stands_on same_state s list db.size (sizes tips)) (subst (λ c. Decides ok (Contains (db ∷ tips) c)) is d) (stands_decides s list db tips k ks)
 
 pub stands_same : (one : SameTest Operation) (s : State Operation) (xs ys : List Operation) (m n : ℕ) (ms ns : List ℕ) → xs ≡ ys → m ≡ n → ms ≡ ns → stands_on one s xs m ms ≡ stands_on one s ys n ns
 stands_same one s xs ys m n ms ns e f g = rw (e, f, g) refl
 
--- ---- why a seal is refused
+-- a list that stands at a front of another begins it
+begins_there : (s : State Operation) (list : List Operation) (n : ℕ) → stands_at one_list s list n ≡ true → (more : List Operation) × (list ≡ s.ops ++ more)
+begins_there s list n e =
+    let same : s.ops ≡ take n list = (lists_decide same_operation operation_decide s.ops (take n list)).0 e in
+    (drop n list, sym (ap (λ (xs : List Operation). xs ++ drop n list) same ∙ take-append-drop n list))
 
-module _ (s : State Operation) (w : batches.UnsealedBatch Operation) (base : List Operation) (list : base ≡ w.list) (place : Place Mmr Sha256Digest) (current : Commitment Mmr Sha256Digest) (now : current ≡ commitment_of s.ops)
-    (boundary_in : IsStateIn base place.boundary) (tips_in : AreStatesIn base place.ancestors) (boundary_is : place.boundary.size ≡ effective_boundary s w) (tips_are : sizes place.ancestors ≡ tips_of (reach s w))
-    (start_is : place.floor ≡ floor_below meaning s w) (floor size : ℕ) (size_is : size ≡ batches.size_of w) where
-  -- its place refuses a seal exactly where the state does
-  pub place_refuses : place_refusal bytes_of place current size floor ≡ seal_refusal same_state meaning s w floor
-  place_refuses =
-      let stands : is_at bytes_of current (place.boundary ∷ place.ancestors) ≡ may_seal same_state s w =
-      ap (λ (c : Commitment Mmr Sha256Digest). is_at bytes_of c (place.boundary ∷ place.ancestors)) now
-      ∙ stands_there mmr sha meaning s base place.boundary place.ancestors boundary_in tips_in
-      ∙ stands_same same_state s base w.list place.boundary.size (effective_boundary s w) (sizes place.ancestors) (tips_of (reach s w)) list boundary_is tips_are in
-      rw (stands, size_is, start_is) refl
+begins_any : (s : State Operation) (list : List Operation) (ns : List ℕ) → list_any (stands_at one_list s list) ns ≡ true → (more : List Operation) × (list ≡ s.ops ++ more)
+begins_any s list [] e = absurd (cc)
+begins_any s list (n ∷ ns) e = either (stands_at one_list s list n) (list_any (stands_at one_list s list) ns) e (λ here. begins_there s list n here) (λ rest. begins_any s list ns rest)
+  where
+    either : {P : Type 0} (a b : Bool) → (a || b) ≡ true → (a ≡ true → P) → (b ≡ true → P) → P
+    either true b e f g = f refl
+    either false b e f g = g e
+
+pub begins_where : (s : State Operation) (list : List Operation) (n : ℕ) (ns : List ℕ) → stands_on one_list s list n ns ≡ true → (more : List Operation) × (list ≡ s.ops ++ more)
+begins_where s list n ns e = begins_any s list (n ∷ ns) e
 
 -- ---- batches that the caller holds
 
-pub held_some : (x : Batch) (k : Holding) → if_held x ≡ Some k → (x ≡ Sealed k) × (0 < k.holds)
+pub held_some : {U : Type 0} (x : Batch U) (k : Holding) → if_held x ≡ Some k → (x ≡ Sealed k) × (0 < k.holds)
 held_some (Unsealed u) k e = absurd (none-some k e)
 held_some (Sealed j) k e =
     let t = cond_some (nat_lt 0 j.holds) j k e in
@@ -84,11 +87,28 @@ held_some (Sealed j) k e =
     lt_is n e = grind (arith, nat_tests)
 held_some Gone k e = absurd (none-some k e)
 
--- where size and root tell the lists of a state, they tell why a seal is refused
-pub seal_told : (s : State Operation) → IsTold s → (b : ℕ) (w : batches.UnsealedBatch Operation) → batch_at s b ≡ batches.Unsealed w → (floor : ℕ) → seal_refusal same_state meaning s w floor ≡ step.seal_refusal s w floor
-seal_told s told b w is floor = rw (told.seals b w is) refl
+-- it isn't held, if it is sealed
+abbrev pub IsUnheld : batches.Batch Operation → Type 0
+IsUnheld (batches.Unsealed w) = Unit {0}
+IsUnheld (batches.Sealed c) = is_held c ≡ false
+IsUnheld batches.Gone = Unit {0}
 
 module _ (s : State Operation) (b : ℕ) where
+  pub begin_unheld : (y : batches.Batch Operation) → IsUnheld y → begin_on s b y ≡ refused s (NoBatch b)
+  begin_unheld (batches.Unsealed w) e = refl
+  begin_unheld (batches.Sealed c) e = rw e refl
+  begin_unheld batches.Gone e = refl
+
+  pub apply_unheld : (y : batches.Batch Operation) → IsUnheld y → apply s b y ≡ refused s (NoBatch b)
+  apply_unheld (batches.Unsealed w) e = refl
+  apply_unheld (batches.Sealed c) e = rw e refl
+  apply_unheld batches.Gone e = refl
+
+  pub hold_unheld : (y : batches.Batch Operation) → IsUnheld y → hold s b y ≡ refused s (NoBatch b)
+  hold_unheld (batches.Unsealed w) e = refl
+  hold_unheld (batches.Sealed c) e = rw e refl
+  hold_unheld batches.Gone e = refl
+
   module _ (c : batches.SealedBatch Operation) (held : is_held c ≡ true) where
     pub begin_held : begin_on s b (batches.Sealed c) ≡ (answer.Batch (length s.batches), begun s (Some b) c.list)
     begin_held = rw held refl
@@ -102,98 +122,452 @@ module _ (s : State Operation) (b : ℕ) where
     pub hold_done : hold s b (batches.Sealed c) ≡ (answer.Done, with_batch s b (batches.Sealed (batches.with_hold c)))
     hold_done = rw held refl
 
+    pub release_done : release s b (batches.Sealed c) ≡ (answer.Done, with_batch s b (batches.Sealed (batches.without_hold c)))
+    release_done = rw held refl
+
+  pub release_unheld : (c : batches.SealedBatch Operation) → is_held c ≡ false → release s b (batches.Sealed c) ≡ refused s (NoBatch b)
+  release_unheld c e = rw e refl
+
   -- ---- an unsealed batch
 
+  pub append_sealed : (limit : ℕ) (v : List ℕ) (y : batches.Batch Operation) → ((w : batches.UnsealedBatch Operation) → y ≡ batches.Unsealed w → ⊥) → append_to limit s b v y ≡ refused s (NoBatch b)
+  append_sealed limit v (batches.Unsealed w) not = absurd (not w refl)
+  append_sealed limit v (batches.Sealed c) not = refl
+  append_sealed limit v batches.Gone not = refl
+
+  pub seal_sealed : (limit : ℕ) (metadata : Option (List ℕ)) (floor : ℕ) (y : batches.Batch Operation) → ((w : batches.UnsealedBatch Operation) → y ≡ batches.Unsealed w → ⊥) → seal limit s b metadata floor y ≡ refused s (NoBatch b)
+  seal_sealed limit metadata floor (batches.Unsealed w) not = absurd (not w refl)
+  seal_sealed limit metadata floor (batches.Sealed c) not = refl
+  seal_sealed limit metadata floor batches.Gone not = refl
+
   module _ (w : batches.UnsealedBatch Operation) where
+    pub append_long : (limit : ℕ) (v : List ℕ) → limit < length v → append_to limit s b v (batches.Unsealed w) ≡ refused s (ValueTooLong (length v))
+    append_long limit v long = rw (lt_true limit (length v) long) refl
+
     pub append_full : (limit : ℕ) (v : List ℕ) → length v ≤ limit → max_leaves ≤ batches.size_of w → append_to limit s b v (batches.Unsealed w) ≡ refused s (LocationOverflow (batches.size_of w + 1))
     append_full limit v short full = rw (lt_false limit (length v) short, le_true max_leaves (batches.size_of w) full) refl
 
     pub append_done : (limit : ℕ) (v : List ℕ) → length v ≤ limit → batches.size_of w < max_leaves → append_to limit s b v (batches.Unsealed w) ≡ (answer.Done, with_batch s b (batches.Unsealed (batches.appended w (Append v))))
     append_done limit v short few = rw (lt_false limit (length v) short, le_false max_leaves (batches.size_of w) few) refl
 
-    module _ (limit : ℕ) (metadata : Option (List ℕ)) (floor : ℕ) where
-      pub seal_lost : metadata_length metadata ≤ limit → (refusal : Refusal) → step.seal_refusal s w floor ≡ Some refusal → seal limit s b metadata floor (batches.Unsealed w) ≡ lost s b refusal
-      seal_lost short refusal why = rw (lt_false limit (metadata_length metadata) short, why) refl
+    pub seal_long : (limit : ℕ) (metadata : Option (List ℕ)) (floor : ℕ) → limit < metadata_length metadata → seal limit s b metadata floor (batches.Unsealed w) ≡ refused s (ValueTooLong (metadata_length metadata))
+    seal_long limit metadata floor long = rw (lt_true limit (metadata_length metadata) long) refl
 
-      pub seal_done : metadata_length metadata ≤ limit → step.seal_refusal s w floor ≡ None → seal limit s b metadata floor (batches.Unsealed w) ≡ done_sealing s b (sealed_here s w (Commit metadata floor) floor)
-      seal_done short why = rw (lt_false limit (metadata_length metadata) short, why) refl
+    pub seal_short : (limit : ℕ) (metadata : Option (List ℕ)) (floor : ℕ) → metadata_length metadata ≤ limit → seal limit s b metadata floor (batches.Unsealed w) ≡ sealed_or_lost s b w metadata floor (seal_refusal s w floor)
+    seal_short limit metadata floor short = rw (lt_false limit (metadata_length metadata) short) refl
 
--- ---- what the pool keeps
+-- ---- results
 
-pub item_some : (pool : Slots) (id : ℕ) (x : SealedBatch) → item_at pool id ≡ Some x → (e : HeldBatch SealedBatch) × (slots.slot_at pool id ≡ Some e) × (e.item ≡ x)
-item_some pool id x = found (slots.slot_at pool id) refl
-  where
-    found : (o : Slot) → slots.slot_at pool id ≡ o → option_map (λ (b : HeldBatch SealedBatch). b.item) o ≡ Some x → (e : HeldBatch SealedBatch) × (slots.slot_at pool id ≡ Some e) × (e.item ≡ x)
-    found None is e = absurd (none-some x e)
-    found (Some d) is e = (d, is, same_Some d.item x e)
+pub not_ok : {A E : Type 0} (r : Result A E) (t : Bool) → t ≡ is_err r → t ≡ true → is_ok r ≡ false
+not_ok (Ok x) t e f = absurd (let never : false ≡ true = sym e ∙ f in cc)
+not_ok (Err x) t e f = refl
 
--- ---- a machine that stands for a state
+pub yes_ok : {A E : Type 0} (r : Result A E) (t : Bool) → t ≡ is_err r → t ≡ false → is_ok r ≡ true
+yes_ok (Ok x) t e f = refl
+yes_ok (Err x) t e f = absurd (let never : true ≡ false = sym e ∙ f in cc)
 
--- a sealed batch that the caller holds
-pub record Held (m : Machine) (s : State Operation) (b : ℕ) (k : Holding) : Type 0 where
-  pub batch : batches.SealedBatch Operation
-  pub sealed : get_or m.batches.items b Gone ≡ Sealed k
-  pub some : 0 < k.holds
-  pub machine : batch_at s b ≡ batches.Sealed batch
-  pub is : IsSealedOf m.history m.batches.items m.pool s.batches b k batch
-  pub held : is_held batch ≡ true
-  pub pool : 0 < holds_of m.pool k.id
+-- ---- entries
 
-module _ (m : Machine) (s : State Operation) (k : IsStateOf m s) (b : ℕ) where
-  pub held_at : (j : Holding) → get_or m.batches.items b Gone ≡ Sealed j → 0 < j.holds → Held m s b j
-  held_at j sealed some =
-      let c = sealed_there m.history m.batches.items m.pool s.batches k.batches b j sealed in record {
-        batch = c.0;
-        sealed = sealed;
-        some = some;
-        machine = c.1;
-        is = c.2;
-        held = let n = c.2.holds in lt_true 0 c.0.holds (omega (arith, n, some));
-        pool = pool_holds m.history m.batches.items m.pool s.batches k.batches b j sealed c.0 c.1 c.2 some;
+module _ {S U : Type 0} (like : Likeness S U) (bs : List (Batch U)) (pool : List (Option (HeldBatch S))) (all : List (batches.Batch Operation)) where
+  holds_none : (j : Holding) (t : Bool) → nat_lt 0 j.holds ≡ t → cond (nat_lt 0 j.holds) (Some j) None ≡ None → nat_lt 0 j.holds ≡ false
+  holds_none j true e h = absurd (none-some j (sym (rw e at h)))
+  holds_none j false e h = e
+
+  pub entry_unheld : (b : ℕ) (x : Batch U) (y : batches.Batch Operation) → IsEntryOf like bs pool all b x y → if_held x ≡ None → IsUnheld y
+  entry_unheld b x (batches.Unsealed w) i e = tt
+  entry_unheld b (Unsealed u) (batches.Sealed c) i e = absurd i
+  entry_unheld b (Sealed j) (batches.Sealed c) i e = rw i.holds (holds_none j (nat_lt 0 j.holds) refl e)
+  entry_unheld b Gone (batches.Sealed c) i e = absurd i
+  entry_unheld b x batches.Gone i e = tt
+
+  -- where it isn't unsealed, neither is the list machine's
+  pub entry_sealed : (b : ℕ) (x : Batch U) (y : batches.Batch Operation) → IsEntryOf like bs pool all b x y → ((u : U) → x ≡ Unsealed u → ⊥) → (w : batches.UnsealedBatch Operation) → y ≡ batches.Unsealed w → ⊥
+  entry_sealed b (Unsealed u) y i not w e = not u refl
+  entry_sealed b (Sealed j) (batches.Unsealed v) i not w e = i
+  entry_sealed b (Sealed j) (batches.Sealed c) i not w e = cc
+  entry_sealed b (Sealed j) batches.Gone i not w e = cc
+  entry_sealed b Gone (batches.Unsealed v) i not w e = i
+  entry_sealed b Gone (batches.Sealed c) i not w e = cc
+  entry_sealed b Gone batches.Gone i not w e = cc
+
+  -- not sealed, where it isn't in memory
+  pub entry_gone : (b : ℕ) (y : batches.Batch Operation) → IsEntryOf like bs pool all b Gone y → y ≡ batches.Gone
+  entry_gone b (batches.Unsealed w) i = absurd i
+  entry_gone b (batches.Sealed c) i = absurd i
+  entry_gone b batches.Gone i = refl
+
+  -- a sealed batch that the caller holds
+  pub record Held (b : ℕ) (j : Holding) : Type 0 where
+    pub batch : batches.SealedBatch Operation
+    pub sealed : get_or bs b Gone ≡ Sealed j
+    pub some : 0 < j.holds
+    pub machine : get_or all b batches.Gone ≡ batches.Sealed batch
+    pub is : IsSealedOf like bs pool all b j batch
+    pub held : is_held batch ≡ true
+    pub pool_held : 0 < holds_of pool j.id
+
+  module _ (is : AreBatchesOf like bs pool all) (b : ℕ) where
+    pub held_at : (j : Holding) → get_or bs b Gone ≡ Sealed j → 0 < j.holds → Held b j
+    held_at j sealed some =
+        let c = sealed_there like bs pool all is b j sealed in record {
+          batch = c.0;
+          sealed = sealed;
+          some = some;
+          machine = c.1;
+          is = c.2;
+          held = let n = c.2.holds in lt_true 0 c.0.holds (omega (arith, n, some));
+          pool_held = pool_holds like bs pool all is b j sealed c.0 c.1 c.2 some;
+        }
+
+    pub held_there : (j : Holding) → held_in bs b ≡ Some j → Held b j
+    held_there j e = let t = held_some (get_or bs b Gone) j e in held_at j t.0 t.1
+
+    pub unheld_there : held_in bs b ≡ None → IsUnheld (get_or all b batches.Gone)
+    unheld_there e = entry_unheld b (get_or bs b Gone) (get_or all b batches.Gone) (is.each b) e
+
+    pub gone_past : length bs ≤ b → get_or all b batches.Gone ≡ batches.Gone
+    gone_past past = get_or_past all b batches.Gone (let n = is.count in omega (arith, n, past))
+
+    -- it is alive in the pool
+    module _ (j : Holding) (t : Held b j) where
+      pub held_alive : IsAlive pool j.id
+      held_alive = let e = some_held pool j.id t.pool_held in alive_is (slots.slot_at pool j.id) e.0 e.1
+
+      pub held_item : (e : HeldBatch S) × (slots.slot_at pool j.id ≡ Some e) × IsItemOf like bs b e t.batch
+      held_item = let e = some_held pool j.id t.pool_held in (e.0, e.1, t.is.item e.0 e.1)
+
+      pub item_is : (e : HeldBatch S) → slots.slot_at pool j.id ≡ Some e → item_at pool j.id ≡ Some e.item
+      item_is e there = ap (option_map (λ (b : HeldBatch S). b.item)) there
+
+-- ---- a side
+
+module _ {Db S U : Type 0} (k : Kind Db S U) where
+  pub shape_from : (n : Numbers S U) (bs : List (Batch U)) (pool : List (Option (HeldBatch S))) (taken : ℕ) (all : List (batches.Batch Operation)) → n.batches.items ≡ bs → n.pool ≡ pool → n.taken ≡ taken
+      → AreBatchesOf (any_lists k) bs pool all → AreFew taken pool → IsShaped k n
+  shape_from n bs pool taken all e f g is few = record {
+    all = all;
+    batches = subst (λ (xs : List (Batch U)). AreBatchesOf (any_lists k) xs n.pool all) (sym e) (subst (λ (p : List (Option (HeldBatch S))). AreBatchesOf (any_lists k) bs p all) (sym f) is);
+    few = subst (λ (p : List (Option (HeldBatch S))). AreFew n.taken p) (sym f) (subst (λ (t : ℕ). AreFew t pool) (sym g) few);
+  }
+
+  pub state_from : (db : Db) (n : Numbers S U) (s : State Operation) (bs : List (Batch U)) (pool : List (Option (HeldBatch S))) → n.batches.items ≡ bs → n.pool ≡ pool → k.is_of s.ops s.start db
+      → AreBatchesOf (same_lists k) bs pool s.batches → IsStateOf k db n s
+  state_from db n s bs pool e f log is = record {
+    log = log;
+    batches = subst (λ (xs : List (Batch U)). AreBatchesOf (same_lists k) xs n.pool s.batches) (sym e) (subst (λ (p : List (Option (HeldBatch S))). AreBatchesOf (same_lists k) bs p s.batches) (sym f) is);
+  }
+
+  pub meets : (db : Db) (new : Numbers S U) (o p : Outcome) (a : Answer) → o ≡ p → a ≡ p.0 → IsStateOf k db new p.1 → Meets k o db new a
+  meets db new o p a e same is = subst (λ (q : Outcome). Meets k q db new a) (sym e) (same, is)
+
+  pub size_is : (u : U) (w : batches.UnsealedBatch Operation) → IsUnsealedAs k u w → size_of k u ≡ batches.size_of w
+  size_is u w is =
+      let base = ap (λ (d : Commitment Mmr Sha256Digest). d.size) (k.base_is w.list u is.list) in
+      let same = is.base in
+      let own = ap length is.pending in
+      omega (arith, base, same, own)
+
+  pub size_answer : (db : Db) (n : Numbers S U) (s : State Operation) → IsStateOf k db n s → (length s.ops ≡ (k.state db).size) × (floor_of meaning s.ops ≡ k.floor db)
+  size_answer db n s is = (sym (ap (λ (d : Commitment Mmr Sha256Digest). d.size) (k.state_is s.ops s.start db is.log)), sym (k.floor_is s.ops s.start db is.log))
+
+  -- what follows each state follows those of which size and root tell the lists
+  pub follows_told : (step : State Operation → Outcome) (db made : Db) (old new : Numbers S U) (a : Answer) → Follows k step db made old new a → FollowsTold k step db made old new a
+  follows_told step db made old new a f = record { shaped = f.shaped; follows = λ s told is. f.follows s is }
+
+  module _ (db : Db) (old : Numbers S U) (sh : IsShaped k old) (new : Numbers S U) (taken : new.taken ≡ old.taken) where
+    abbrev Old : List (Batch U)
+    Old = old.batches.items
+
+    -- ---- nothing changes
+
+    module _ (items : new.batches.items ≡ Old) (pool : new.pool ≡ old.pool) where
+      still : IsShaped k new
+      still = shape_from new Old old.pool old.taken sh.all items pool taken sh.batches sh.few
+
+      still_state : (s : State Operation) → IsStateOf k db old s → IsStateOf k db new s
+      still_state s is = state_from db new s Old old.pool items pool is.log is.batches
+
+      pub stays : (step : State Operation → Outcome) (a : Answer) → ((s : State Operation) → IsStateOf k db old s → step s ≡ (a, s)) → Follows k step db db old new a
+      stays step a e = record { shaped = still; follows = λ s is. meets db new (step s) (a, s) a (e s is) refl (still_state s is) }
+
+      pub stays_told : (step : State Operation → Outcome) (a : Answer) → ((s : State Operation) → IsTold s → IsStateOf k db old s → step s ≡ (a, s)) → FollowsTold k step db db old new a
+      stays_told step a e = record { shaped = still; follows = λ s told is. meets db new (step s) (a, s) a (e s told is) refl (still_state s is) }
+
+    -- ---- a new batch
+
+    module _ (room : HasRoom old) (u : U) (items : new.batches.items ≡ Old ++ (Unsealed u ∷ [])) (pending : k.pending u ≡ []) where
+      begun_few : (link : Option ℕ) → ForSome link (λ id. 0 < holds_of old.pool id) → AreFew old.taken (link_held old.pool link)
+      begun_few link held = few_held old.taken old.pool sh.few room.holds link held
+
+      -- on the present list
+      module _ (parent : k.parent u ≡ None) (pool : new.pool ≡ old.pool) (list : (ops : List Operation) (start : ℕ) → k.is_of ops start db → k.is_unsealed ops u) where
+        none_held : ForSome (k.parent u) (λ id. 0 < holds_of old.pool id)
+        none_held = λ id e. absurd (none-some id (sym parent ∙ e))
+
+        none_pool : link_held old.pool (k.parent u) ≡ old.pool
+        none_pool = ap (link_held old.pool) parent
+
+        none_link : LinkIs Old (length Old) (k.parent u) None
+        none_link = subst (λ (l : Option ℕ). LinkIs Old (length Old) l None) (sym parent) tt
+
+        pub begun_here : Follows k (λ s. begin s None) db db old new (answer.Batch (length Old))
+        begun_here = record {
+          shaped =
+              let made = batches_begun (any_lists k) Old old.pool sh.all sh.batches u (begun_on None []) tt none_link none_held in
+              shape_from new (Old ++ (Unsealed u ∷ [])) (link_held old.pool (k.parent u)) old.taken _ items (pool ∙ sym none_pool) taken made (begun_few (k.parent u) none_held);
+          follows = λ s is.
+              let w : batches.UnsealedBatch Operation = begun_on None s.ops in
+              let made = batches_begun (same_lists k) Old old.pool s.batches is.batches u w (record { list = list s.ops s.start is.log; base = refl; pending = sym pending }) none_link none_held in (
+                ap answer.Batch (sym is.batches.count),
+                state_from db new (begun s None s.ops) (Old ++ (Unsealed u ∷ [])) (link_held old.pool (k.parent u)) items (pool ∙ sym none_pool) is.log made,
+              );
+        }
+
+      -- on a sealed batch
+      module _ (p : ℕ) (j : Holding) (at : held_in Old p ≡ Some j) (parent : k.parent u ≡ Some j.id) (pool : new.pool ≡ link_held old.pool (Some j.id))
+          (list : (x : S) → item_at old.pool j.id ≡ Some x → (l : List Operation) → k.is_sealed l x → k.is_unsealed l u) where
+        some_link : LinkIs Old (length Old) (k.parent u) (Some p)
+        some_link = let sealed = (held_some (get_or Old p Gone) j at).0 in
+            subst (λ (l : Option ℕ). LinkIs Old (length Old) l (Some p)) (sym parent) (sealed_within Old p j sealed, record { holding = j; sealed = sealed; id_is = refl })
+
+        some_pool : new.pool ≡ link_held old.pool (k.parent u)
+        some_pool = pool ∙ ap (link_held old.pool) (sym parent)
+
+        some_parent : 0 < holds_of old.pool j.id → ForSome (k.parent u) (λ id. 0 < holds_of old.pool id)
+        some_parent held = λ id e. subst (λ i. 0 < holds_of old.pool i) (same_Some j.id id (sym parent ∙ e)) held
+
+        pub begun_on_batch : Follows k (λ s. begin s (Some p)) db db old new (answer.Batch (length Old))
+        begun_on_batch = record {
+          shaped =
+              let t = held_there (any_lists k) Old old.pool sh.all sh.batches p j at in
+              let held = some_parent t.pool_held in
+              let made = batches_begun (any_lists k) Old old.pool sh.all sh.batches u (begun_on (Some p) []) tt some_link held in
+              shape_from new (Old ++ (Unsealed u ∷ [])) (link_held old.pool (k.parent u)) old.taken _ items some_pool taken made (begun_few (k.parent u) held);
+          follows = λ s is.
+              let t = held_there (same_lists k) Old old.pool s.batches is.batches p j at in
+              let e = held_item (same_lists k) Old old.pool s.batches is.batches p j t in
+              let w : batches.UnsealedBatch Operation = begun_on (Some p) t.batch.list in
+              let same : IsUnsealedAs k u w = record { list = list e.0.item (item_is (same_lists k) Old old.pool s.batches is.batches p j t e.0 e.1) t.batch.list e.2.is.list; base = refl; pending = sym pending } in
+              let made = batches_begun (same_lists k) Old old.pool s.batches is.batches u w same some_link (some_parent t.pool_held) in
+              meets db new (begin s (Some p)) (answer.Batch (length s.batches), begun s (Some p) t.batch.list) (answer.Batch (length Old))
+              (ap (begin_on s p) t.machine ∙ begin_held s p t.batch t.held)
+              (ap answer.Batch (sym is.batches.count))
+              (state_from db new (begun s (Some p) t.batch.list) (Old ++ (Unsealed u ∷ [])) (link_held old.pool (k.parent u)) items some_pool is.log made);
+        }
+
+    -- ---- an append
+
+    module _ (b : ℕ) (u : U) (at : get_or Old b Gone ≡ Unsealed u) (limit : ℕ) (value : List ℕ) where
+      abbrev Step : State Operation → Outcome
+      Step s = append_to limit s b value (batch_at s b)
+
+      unsealed_here : (s : State Operation) → IsStateOf k db old s → (w : batches.UnsealedBatch Operation) × (batch_at s b ≡ batches.Unsealed w) × IsUnsealedOf (same_lists k) Old b u w
+      unsealed_here s is = unsealed_there (same_lists k) Old old.pool s.batches is.batches b u at
+
+      module _ (items : new.batches.items ≡ Old) (pool : new.pool ≡ old.pool) where
+        pub append_too_long : limit < length value → Follows k (λ s. append_to limit s b value (batch_at s b)) db db old new (answer.Refused (ValueTooLong (length value)))
+        append_too_long long = stays items pool Step (answer.Refused (ValueTooLong (length value))) (λ s is. let w = unsealed_here s is in ap (append_to limit s b value) w.1 ∙ append_long s b w.0 limit value long)
+
+        pub append_no_room : (size : ℕ) → length value ≤ limit → size ≡ size_of k u → max_leaves ≤ size → Follows k (λ s. append_to limit s b value (batch_at s b)) db db old new (answer.Refused (LocationOverflow (size + 1)))
+        append_no_room size short here full = stays items pool Step (answer.Refused (LocationOverflow (size + 1))) (λ s is.
+            let w = unsealed_here s is in
+            let same : size ≡ batches.size_of w.0 = here ∙ size_is u w.0 w.2.is in
+            ap (append_to limit s b value) w.1 ∙ append_full s b w.0 limit value short (omega (arith, same, full)) ∙ ap (λ n. refused s (LocationOverflow (n + 1))) (sym same))
+
+      module _ (v : U) (items : new.batches.items ≡ set Old b (Unsealed v)) (pool : new.pool ≡ old.pool) (parent : k.parent v ≡ k.parent u) (pending : k.pending v ≡ k.pending u ++ (Append value ∷ []))
+          (list : (l : List Operation) → k.is_unsealed l u → k.is_unsealed l v) where
+        pub append_follows : length value ≤ limit → size_of k u < max_leaves → Follows k (λ s. append_to limit s b value (batch_at s b)) db db old new answer.Done
+        append_follows short few = record {
+          shaped =
+              let w = unsealed_there (any_lists k) Old old.pool sh.all sh.batches b u at in
+              shape_from new (set Old b (Unsealed v)) old.pool old.taken _ items pool taken
+              (batches_appended (any_lists k) Old old.pool sh.all sh.batches b u at w.0 w.1 w.2 v (Append value) parent tt) sh.few;
+          follows = λ s is.
+              let w = unsealed_here s is in
+              let same = size_is u w.0 w.2.is in
+              let is_as : IsUnsealedAs k v (batches.appended w.0 (Append value)) = record { list = list w.0.list w.2.is.list; base = w.2.is.base; pending = ap (λ (ops : List Operation). ops ++ (Append value ∷ [])) w.2.is.pending ∙ sym pending } in
+              meets db new (append_to limit s b value (batch_at s b)) (answer.Done, with_batch s b (batches.Unsealed (batches.appended w.0 (Append value)))) answer.Done
+              (ap (append_to limit s b value) w.1 ∙ append_done s b w.0 limit value short (omega (arith, same, few)))
+              refl
+              (state_from db new (with_batch s b (batches.Unsealed (batches.appended w.0 (Append value)))) (set Old b (Unsealed v)) old.pool items pool is.log
+              (batches_appended (same_lists k) Old old.pool s.batches is.batches b u at w.0 w.1 w.2 v (Append value) parent is_as));
+        }
+
+    -- ---- holds
+
+    module _ (b : ℕ) (j : Holding) (at : get_or Old b Gone ≡ Sealed j) (some : 0 < j.holds) where
+      at_shape : Held (any_lists k) Old old.pool sh.all b j
+      at_shape = held_at (any_lists k) Old old.pool sh.all sh.batches b j at some
+
+      at_state : (s : State Operation) → IsStateOf k db old s → Held (same_lists k) Old old.pool s.batches b j
+      at_state s is = held_at (same_lists k) Old old.pool s.batches is.batches b j at some
+
+      link_is_held : ForSome (Some j.id) (λ id. 0 < holds_of old.pool id)
+      link_is_held id e = let h = at_shape in subst (λ i. 0 < holds_of old.pool i) (same_Some j.id id e) h.pool_held
+
+      keeps_held : (c : batches.SealedBatch Operation) (x : S) → IsSealedAs k x c → IsSealedAs k x (batches.with_hold c)
+      keeps_held c x is = record { list = is.list; base = is.base; boundary = is.boundary; tips = is.tips; floor = is.floor }
+
+      keeps_let_go : (c : batches.SealedBatch Operation) (x : S) → IsSealedAs k x c → IsSealedAs k x (batches.without_hold c)
+      keeps_let_go c x is = record { list = is.list; base = is.base; boundary = is.boundary; tips = is.tips; floor = is.floor }
+
+      module _ (room : HasRoom old) (items : new.batches.items ≡ set Old b (Sealed (record { id = j.id; holds = j.holds + 1 }))) (pool : new.pool ≡ link_held old.pool (Some j.id)) where
+        pub hold_follows : Follows k (λ s. hold s b (batch_at s b)) db db old new answer.Done
+        hold_follows = record {
+          shaped =
+              let t = at_shape in
+              shape_from new _ _ old.taken _ items pool taken
+              (batches_held (any_lists k) Old old.pool sh.all sh.batches b j t.sealed t.batch t.machine t.is t.some (record { id = j.id; holds = j.holds + 1 }) refl (batches.with_hold t.batch) (λ x h. h) refl refl refl)
+              (few_held old.taken old.pool sh.few room.holds (Some j.id) link_is_held);
+          follows = λ s is.
+              let t = at_state s is in
+              meets db new (hold s b (batch_at s b)) (answer.Done, with_batch s b (batches.Sealed (batches.with_hold t.batch))) answer.Done (ap (hold s b) t.machine ∙ hold_done s b t.batch t.held) refl
+              (state_from db new (with_batch s b (batches.Sealed (batches.with_hold t.batch))) _ _ items pool is.log
+              (batches_held (same_lists k) Old old.pool s.batches is.batches b j t.sealed t.batch t.machine t.is t.some (record { id = j.id; holds = j.holds + 1 }) refl (batches.with_hold t.batch) (keeps_held t.batch) refl refl refl));
+        }
+
+      module _ (items : new.batches.items ≡ set Old b (Sealed (record { id = j.id; holds = j.holds - 1 }))) (pool : new.pool ≡ link_released old.pool (Some j.id)) where
+        pub let_go_follows : Follows k (λ s. release s b (batch_at s b)) db db old new answer.Done
+        let_go_follows = record {
+          shaped =
+              let t = at_shape in
+              shape_from new _ _ old.taken _ items pool taken
+              (batches_released (any_lists k) Old old.pool sh.all sh.batches b j t.sealed t.batch t.machine t.is t.some (record { id = j.id; holds = j.holds - 1 }) refl (batches.without_hold t.batch) (λ x h. h) refl refl refl)
+              (few_released old.taken old.pool sh.few (Some j.id) link_is_held);
+          follows = λ s is.
+              let t = at_state s is in
+              meets db new (release s b (batch_at s b)) (answer.Done, with_batch s b (batches.Sealed (batches.without_hold t.batch))) answer.Done (ap (release s b) t.machine ∙ release_done s b t.batch t.held) refl
+              (state_from db new (with_batch s b (batches.Sealed (batches.without_hold t.batch))) _ _ items pool is.log
+              (batches_released (same_lists k) Old old.pool s.batches is.batches b j t.sealed t.batch t.machine t.is t.some (record { id = j.id; holds = j.holds - 1 }) refl (batches.without_hold t.batch) (keeps_let_go t.batch) refl refl refl));
+        }
+
+    -- ---- an unsealed batch is given up
+
+    module _ (b : ℕ) (u : U) (at : get_or Old b Gone ≡ Unsealed u) (items : new.batches.items ≡ set Old b Gone) (pool : new.pool ≡ link_released old.pool (k.parent u)) where
+      pub lost_shape : IsShaped k new
+      lost_shape =
+          let w = unsealed_there (any_lists k) Old old.pool sh.all sh.batches b u at in
+          shape_from new _ _ old.taken _ items pool taken (batches_lost (any_lists k) Old old.pool sh.all sh.batches b u at w.0 w.1 w.2)
+          (few_released old.taken old.pool sh.few (k.parent u) (parent_held (any_lists k) Old old.pool sh.all sh.batches b u at))
+
+      pub lost_state : (s : State Operation) → IsStateOf k db old s → IsStateOf k db new (with_batch s b batches.Gone)
+      lost_state s is =
+          let w = unsealed_there (same_lists k) Old old.pool s.batches is.batches b u at in
+          state_from db new (with_batch s b batches.Gone) _ _ items pool is.log (batches_lost (same_lists k) Old old.pool s.batches is.batches b u at w.0 w.1 w.2)
+
+    -- ---- a snapshot
+
+    module _ (room : HasRoom old) (x : S) (j : Holding) (number : j.id ≡ length old.pool) (once : j.holds ≡ 1) (items : new.batches.items ≡ Old ++ (Sealed j ∷ [])) (pool : new.pool ≡ old.pool ++ (Some (record { item = x; parent = None; holds = 1 }) ∷ []))
+        (bounds : k.bounds x ≡ snapshot_of k db) (list : (ops : List Operation) (start : ℕ) → k.is_of ops start db → k.is_sealed ops x) where
+      abbrev Taken : HeldBatch S
+      Taken = record { item = x; parent = None; holds = 1 }
+
+      new_there : slots.slot_at (old.pool ++ (Some Taken ∷ [])) j.id ≡ Some Taken
+      new_there = subst (λ i. slots.slot_at (old.pool ++ (Some Taken ∷ [])) i ≡ Some Taken) (sym number) (put_new old.pool (Some Taken))
+
+      taken_as : (s : State Operation) → k.is_of s.ops s.start db → IsSealedAs k x (batches.snapshot_of s.ops (floor_of meaning s.ops))
+      taken_as s log =
+          let size : length s.ops ≡ (k.state db).size = sym (ap (λ (d : Commitment Mmr Sha256Digest). d.size) (k.state_is s.ops s.start db log)) in
+          record {
+            list = list s.ops s.start log;
+            base = size ∙ sym (ap (λ (d : Bounds Mmr Sha256Digest). d.base.size) bounds);
+            boundary = size ∙ sym (ap (λ (d : Bounds Mmr Sha256Digest). d.db.size) bounds);
+            tips = sym (ap (λ (d : Bounds Mmr Sha256Digest). sizes d.ancestors) bounds);
+            floor = sym (ap (λ (d : Bounds Mmr Sha256Digest). d.inactivity_floor) bounds ∙ k.floor_is s.ops s.start db log);
+          }
+
+      pub snapshot_follows : Follows k snapshot db db old new (answer.Batch (length Old))
+      snapshot_follows = record {
+        shaped =
+            let put = batches_put (any_lists k) Old old.pool sh.all sh.batches Taken (omega arith) in
+            shape_from new _ _ old.taken _ items pool taken
+            (batches_added (any_lists k) Old (old.pool ++ (Some Taken ∷ [])) sh.all put j (batches.snapshot_of [] 0) Taken new_there refl once refl
+            (λ q i sealed same. let d = (sealed_there (any_lists k) Old old.pool sh.all sh.batches q i sealed).2.drawn in omega (arith, d, same, number))
+            (record { is = tt; link = tt }))
+            (few_put old.taken old.pool sh.few Taken room.drawn refl);
+        follows = λ s is.
+            let put = batches_put (same_lists k) Old old.pool s.batches is.batches Taken (omega arith) in
+            let c : batches.SealedBatch Operation = batches.snapshot_of s.ops (floor_of meaning s.ops) in (
+              ap answer.Batch (sym is.batches.count),
+              state_from db new (snapshot s).1 _ _ items pool is.log
+                  (batches_added (same_lists k) Old (old.pool ++ (Some Taken ∷ [])) s.batches put j c Taken new_there refl once refl
+                  (λ q i sealed same. let d = (sealed_there (same_lists k) Old old.pool s.batches is.batches q i sealed).2.drawn in omega (arith, d, same, number))
+                  (record { is = taken_as s is.log; link = tt })),
+            );
       }
 
-  pub held_there : (j : Holding) → held_in m.batches.items b ≡ Some j → Held m s b j
-  held_there j e = let t = held_some (get_or m.batches.items b Gone) j e in held_at j t.0 t.1
+  -- ---- an apply
 
-  -- its batch in the pool
-  module _ (j : Holding) (t : Held m s b j) (x : SealedBatch) (found : item_at m.pool j.id ≡ Some x) where
-    pub held_item : (e : HeldBatch SealedBatch) × (slots.slot_at m.pool j.id ≡ Some e) × (e.item ≡ x)
-    held_item = item_some m.pool j.id x found
-
-    pub item_there : x.list < count_in m.history
-    item_there = let e = held_item in subst (λ (y : SealedBatch). y.list < count_in m.history) e.2 (k.batches.kept j.id e.0 e.1).there
-
-    pub item_bounds : AreBounds (list_at (lists_in m.history) x.list) x.bounds
-    item_bounds = let e = held_item in subst (λ (y : SealedBatch). AreBounds (list_at (lists_in m.history) y.list) y.bounds) e.2 (k.batches.kept j.id e.0 e.1).bounds
-
-    pub item_list : t.batch.list ≡ list_at (lists_in m.history) x.list
-    item_list = let e = held_item in (t.is.item e.0 e.1).list ∙ ap (λ (y : SealedBatch). list_at (lists_in m.history) y.list) e.2
-
-    item_boundary : t.batch.boundary ≡ x.bounds.db.size
-    item_boundary = let e = held_item in (t.is.item e.0 e.1).boundary ∙ ap (λ (y : SealedBatch). y.bounds.db.size) e.2
-
-    item_tips : t.batch.tips ≡ sizes x.bounds.ancestors
-    item_tips = let e = held_item in (t.is.item e.0 e.1).tips ∙ ap (λ (y : SealedBatch). sizes y.bounds.ancestors) e.2
-
-    -- its list becomes the log's
-    pub item_applied : IsStateOf (record m { head = x.list }) (applied s t.batch)
-    item_applied = record {
-      log = record { history = k.log.history; head = item_there };
-      start = k.start;
-      ops = item_list;
-      batches = k.batches;
-      few = k.few;
-    }
+  module _ (db : Db) (old : Numbers S U) (sh : IsShaped k old) (b : ℕ) (j : Holding) (at : held_in old.batches.items b ≡ Some j) {A E : Type 0} (r : Result A E)
+      (stands : (x : S) → item_at old.pool j.id ≡ Some x → Decides (is_ok r) (Contains ((k.bounds x).db ∷ (k.bounds x).ancestors) (k.state db))) where
+    there_in : (s : State Operation) → IsStateOf k db old s → Held (same_lists k) old.batches.items old.pool s.batches b j
+    there_in s is = held_there (same_lists k) old.batches.items old.pool s.batches is.batches b j at
 
     -- where size and root tell the lists of the state, it may be applied where they say so
-    pub item_applies : IsTold s → stands_on same_state s (list_at (lists_in m.history) x.list) x.bounds.db.size (sizes x.bounds.ancestors) ≡ may_apply one_list s t.batch
-    item_applies told =
-        stands_same same_state s (list_at (lists_in m.history) x.list) t.batch.list x.bounds.db.size t.batch.boundary (sizes x.bounds.ancestors) t.batch.tips (sym item_list) (sym item_boundary) (sym item_tips)
-        ∙ told.applies b t.batch t.machine
+    applies : (s : State Operation) → IsTold s → (is : IsStateOf k db old s) → may_apply one_list s (there_in s is).batch ≡ is_ok r
+    applies s told is =
+        let t = there_in s is in
+        let c : batches.SealedBatch Operation = t.batch in
+        let e = held_item (same_lists k) old.batches.items old.pool s.batches is.batches b j t in
+        let x : S = e.0.item in
+        let fits = e.2.is in
+        let bounds : AreBounds c.list (k.bounds x) = k.bounded c.list x fits.list in
+        let here = stands x (item_is (same_lists k) old.batches.items old.pool s.batches is.batches b j t e.0 e.1) in
+        let now = subst (λ (d : Commitment Mmr Sha256Digest). Decides (is_ok r) (Contains ((k.bounds x).db ∷ (k.bounds x).ancestors) d)) (k.state_is s.ops s.start db is.log) here in
+        let test = one_answer (is_ok r) (stands_on same_state s c.list (k.bounds x).db.size (sizes (k.bounds x).ancestors)) now (stands_decides s c.list (k.bounds x).db (k.bounds x).ancestors bounds.db bounds.ancestors) in
+        sym (test ∙ stands_same same_state s c.list c.list (k.bounds x).db.size c.boundary (sizes (k.bounds x).ancestors) c.tips refl (sym fits.boundary) (sym fits.tips) ∙ told.applies b c t.machine)
 
--- a batch that is put in its own place
-pub set_same : (bs : List Batch) (b : ℕ) (x : Batch) → get_or bs b Gone ≡ x → set bs b x ≡ bs
-set_same bs b x e = ap (set bs b) (sym e) ∙ set-get_or bs b Gone
+    pub apply_refused : is_ok r ≡ false → FollowsTold k (λ s. apply s b (batch_at s b)) db db old old (answer.Refused StaleBatch)
+    apply_refused unlike = record {
+      shaped = sh;
+      follows = λ s told is.
+          let t = there_in s is in
+          meets db old (apply s b (batch_at s b)) (refused s StaleBatch) (answer.Refused StaleBatch) (ap (apply s b) t.machine ∙ apply_stale s b t.batch t.held (applies s told is ∙ unlike)) refl is;
+    }
 
-pub meets : (new : Machine) (o p : Outcome) (a : Answer) → o ≡ p → a ≡ p.0 → IsStateOf new p.1 → Meets o new a
-meets new o p a e same k = subst (λ (q : Outcome). Meets q new a) (sym e) (same, k)
+    pub apply_follows : is_ok r ≡ true → (made : Db)
+        → ((x : S) → item_at old.pool j.id ≡ Some x → (ops more : List Operation) (start : ℕ) → k.is_of ops start db → k.is_sealed (ops ++ more) x → k.is_of (ops ++ more) start made)
+        → FollowsTold k (λ s. apply s b (batch_at s b)) db made old old answer.Applied
+    apply_follows alike made goes = record {
+      shaped = sh;
+      follows = λ s told is.
+          let t = there_in s is in
+          let c : batches.SealedBatch Operation = t.batch in
+          let e = held_item (same_lists k) old.batches.items old.pool s.batches is.batches b j t in
+          let may : may_apply one_list s c ≡ true = applies s told is ∙ alike in
+          let more = begins_where s c.list c.boundary c.tips may in
+          let sealed : k.is_sealed (s.ops ++ more.0) e.0.item = subst (λ (l : List Operation). k.is_sealed l e.0.item) more.1 e.2.is.list in
+          let log : k.is_of (s.ops ++ more.0) s.start made = goes e.0.item (item_is (same_lists k) old.batches.items old.pool s.batches is.batches b j t e.0 e.1) s.ops more.0 s.start is.log sealed in
+          meets made old (apply s b (batch_at s b)) (answer.Applied, applied s c) answer.Applied (ap (apply s b) t.machine ∙ apply_done s b c t.held may) refl
+          (record { log = subst (λ (l : List Operation). k.is_of l s.start made) (sym more.1) log; batches = is.batches });
+    }
+
+  -- ---- a side of no batches
+
+  none_of : (like : Likeness S U) → AreBatchesOf like [] [] []
+  none_of like = record { count = refl; each = λ b. tt; apart = λ p q j l e f same. absurd (cc); kept = λ id e there. absurd (none-some e there) }
+
+  pub opened_shape : (n : Numbers S U) → n.batches.items ≡ [] → n.pool ≡ [] → n.taken ≡ 0 → IsShaped k n
+  opened_shape n items pool taken = shape_from n [] [] 0 [] items pool taken (none_of (any_lists k)) (record { drawn = omega arith; holds = λ id. omega arith })
+
+  pub opened_state : (db : Db) (n : Numbers S U) (s : State Operation) → s.batches ≡ [] → n.batches.items ≡ [] → n.pool ≡ [] → k.is_of s.ops s.start db → IsStateOf k db n s
+  opened_state db n s none items pool log = state_from db n s [] [] items pool log (rw none (none_of (same_lists k)))
+
+  -- ---- a step is counted
+
+  module _ (old new : Numbers S U) (items : new.batches ≡ old.batches) (pool : new.pool ≡ old.pool) where
+    pub counted_shape : IsShaped k old → new.taken ≡ old.taken + 1 → IsShaped k new
+    counted_shape sh taken = shape_from new old.batches.items old.pool (old.taken + 1) sh.all (ap (λ v. v.items) items) pool taken sh.batches (record {
+      drawn = let few = sh.few.drawn in omega (arith, few);
+      holds = λ id. let few = sh.few.holds id in omega (arith, few);
+    })
+
+    pub counted_room : IsShaped k old → new.taken ≡ old.taken + 1 → new.taken < 2 ^ 64 → HasRoom new
+    counted_room sh taken within = record {
+      within = within;
+      drawn = let few = sh.few.drawn in let n = ap length pool in omega (arith, few, n, taken);
+      holds = λ id. let few = sh.few.holds id in let n : holds_of new.pool id ≡ holds_of old.pool id = ap (λ (p : List (Option (HeldBatch S))). holds_of p id) pool in omega (arith, few, n, taken);
+    }
+
+    pub counted_state : (db : Db) (s : State Operation) → IsStateOf k db old s → IsStateOf k db new s
+    counted_state db s is = state_from db new s old.batches.items old.pool (ap (λ v. v.items) items) pool is.log is.batches

@@ -3,12 +3,12 @@ pub mod Endings
 pub mod RunLaws
 pub mod RunGood
 pub mod StateLaws
-pub mod HistoryLemmas
+pub mod ListLemmas
 pub mod Fronts
 pub mod Matching
 pub mod Changes
 pub mod Reaching
-pub mod States
 pub mod Handlers
+pub mod Writing
 pub mod Sealing
 pub mod NamesApart

@@ -1,182 +1,165 @@
--- What a seal and a snapshot put into the pool.
-use Rattle.std.proofs.Common.{◌≡◌, ℕ, ◌+◌, ◌<◌, ◌≤◌, Bool, true, false, cond, List, [], ◌∷◌, ◌++◌, length, take, get_or, set, Option, Some, None, refl, sym, ◌∙◌, ap, ap₂, subst, arith}
-use Rattle.std.specs.Prelude.{nat_lt}
-use Rattle.std.specs.Option.{ForSome}
-use Rattle.std.proofs.Math.Seq.{take-length}
-use Rattle.std.proofs.lemmas.Bool.Decides.{nat_tests}
-use Rattle.std.proofs.lemmas.List.{take-append-le}
-use Rattle.std.proofs.lemmas.Option.{none-some}
+-- What a seal answers, and what it puts into the pool.
+use Rattle.std.proofs.Common.{◌≡◌, inl, inr, ℕ, List, [], ◌∷◌, ◌++◌, length, get_or, set, Option, Some, None, refl, sym, ◌∙◌, ap, ap₂, subst, arith}
+use Rattle.std.specs.Prelude.{IsSome}
+use Rattle.std.specs.Option.{ForSome, option_map}
+use Rattle.std.proofs.lemmas.Option.{none-some, same_Some}
+use Rattle.chain_core.specs.Reached.{item_at}
 use Rattle.chain_core.specs.Slots as slots
-use Rattle.chain_core.specs.Slots.{holds_of, IsAlive}
+use Rattle.chain_core.specs.Slots.{IsAlive, link_released}
+use Rattle.chain_core.specs.Sealing.{refusal_of, is_at, place_refusal}
+use Rattle.chain_core.specs.declared.error.Error.{Error}
+use Rattle.chain_core.specs.declared.error.Error.TheVariants.{Memory}
+use Rattle.chain_core.specs.States.{sizes}
 use Rattle.chain_core.specs.declared.commitment.Commitment.{Commitment}
 use Rattle.chain_core.specs.declared.place.Place.{Place}
 use Rattle.chain_core.specs.declared.pool.HeldBatch.{HeldBatch}
+use Rattle.chain_core.proofs.PoolLemmas.{released_length, put_new, alive_is}
+use Rattle.chain_core.proofs.StateLemmas.{stands_there}
+use Rattle.tree_shape.specs.Mmr.{mmr}
+use Rattle.tree_shape.specs.Sha256Codec.{bytes_of}
 use Rattle.tree_shape.specs.declared.mmr.Mmr.{Mmr}
 use Rattle.tree_shape.specs.declared.sha256.Sha256Digest.{Sha256Digest}
 use Rattle.log_model.specs.StateBatches as batches
-use Rattle.log_model.specs.Machine.{State, SameTest, batch_at, max_leaves}
-use Rattle.log_model.specs.Operations.{floor_of}
-use Rattle.log_model.specs.Reach.{may_seal, sealed_here}
-use Rattle.op_codec.specs.declared.keyless.Operation.TheVariants.{Commit}
+use Rattle.log_model.specs.Machine.{State, batch_at, with_batch}
+use Rattle.log_model.specs.Reach.{may_seal, floor_below, sealed_here, effective_boundary, reach, tips_of}
 use Rattle.log_model.specs.declared.refusal.Refusal.{Refusal}
-use Rattle.tree_shape.specs.Mmr.{mmr}
+use Rattle.op_codec.specs.declared.keyless.Operation.TheVariants.{Commit}
+use Rattle.command_text.specs.declared.command.Answer.TheVariants as answer
 use Rattle.twin_run.specs.Operation.{Operation, meaning, sha}
-use Rattle.twin_run.specs.Commitments.{commitment_of, IsStateIn, AreStatesIn, AreBounds}
-use Rattle.log_model.specs.Refusals.{seal_refusal}
-use Rattle.twin_run.specs.Lists.{list_at, lists_in, count_in, Extends}
-use Rattle.chain_core.specs.Slots.{link_released}
-use Rattle.twin_run.specs.Pool.{Slots}
-use Rattle.chain_core.specs.States.{sizes}
-use Rattle.twin_run.specs.StateOf.{LinkList, IsKeptItem, IsUnsealedOf, AreBatchesOf, AreFew, IsStateOf, HasRoom, IsUnsealedIn, IsPlace}
-use Rattle.twin_run.specs.declared.batch.Batch.TheVariants.{Unsealed, Sealed, Gone}
-use Rattle.twin_run.specs.declared.batch.UnsealedBatch.{UnsealedBatch}
-use Rattle.twin_run.specs.declared.batch.SealedBatch.{SealedBatch}
-use Rattle.twin_run.specs.declared.batch.Holding.{Holding}
-use Rattle.twin_run.specs.declared.history.History.{History}
-use Rattle.twin_run.specs.declared.machine.Machine.{Machine}
-use Rattle.chain_core.proofs.StateLemmas.{state_of_front, longer, whole, state_longer, states_longer}
-use Rattle.chain_core.proofs.PoolLemmas.{put_goes, put_new}
-use Rattle.twin_run.proofs.Matching.{still_list, unsealed_within, unsealed_there, parent_held, sealed_there, alive_where, extends_self}
-use Rattle.twin_run.proofs.Changes.{batches_put, batches_sealed, batches_added, few_put, few_released}
-use Rattle.twin_run.proofs.States.{same_machine}
+use Rattle.twin_run.specs.Commitments.{same_state, IsStateIn, AreBounds}
+use Rattle.twin_run.specs.Told.{IsTold}
+use Rattle.twin_run.specs.Kind.{Kind, size_of, IsPoolOf, HasPlace, IsRefused, WhyNotSealed, IsSealedIn}
+use Rattle.twin_run.specs.Step.{lost, done_sealing, sealed_or_lost, seal_refusal}
+use Rattle.twin_run.specs.StateOf.{IsUnsealedOf, HasRoom, IsSealedAs, same_lists, any_lists, IsShaped, IsStateOf, Meets}
+use Rattle.twin_run.specs.declared.numbers.Batch.{Batch}
+use Rattle.twin_run.specs.declared.numbers.Batch.TheVariants.{Unsealed, Sealed, Gone}
+use Rattle.twin_run.specs.declared.numbers.Holding.{Holding}
+use Rattle.twin_run.specs.declared.numbers.Numbers.{Numbers}
+use Rattle.twin_run.proofs.Matching.{unsealed_there, parent_held, alive_where}
+use Rattle.twin_run.proofs.Changes.{batches_sealed, few_put, few_released}
+use Rattle.twin_run.proofs.Reaching.{pool_of, place_floor, place_tips, place_tips_in, place_boundary, place_boundary_in}
+use Rattle.twin_run.proofs.Handlers.{same_machine, stands_same, shape_from, state_from, meets, size_is}
 
--- a seal that nothing refuses leaves room for its commit
-seal_few-if : (a b : Bool) (x z : Refusal) (y : Option Refusal) → cond a (cond b (Some x) y) (Some z) ≡ None → b ≡ false
-seal_few-if true true x z y e = absurd (none-some x (sym e))
-seal_few-if true false x z y e = refl
-seal_few-if false b x z y e = absurd (none-some z (sym e))
+-- ---- what was put into the pool
 
-not_above : (m n : ℕ) → nat_lt m n ≡ false → n ≤ m
-not_above m n e = grind (arith, nat_tests)
+module _ {S : Type 0} (pool new : List (Option (HeldBatch S))) (link : Option ℕ) (e : HeldBatch S) (is : new ≡ link_released pool link ++ (Some e ∷ [])) (id : ℕ) (number : id ≡ length pool) where
+  made_there : slots.slot_at new id ≡ Some e
+  made_there =
+      subst (λ (p : List (Option (HeldBatch S))). slots.slot_at p id ≡ Some e) (sym is)
+      (subst (λ i. slots.slot_at (link_released pool link ++ (Some e ∷ [])) i ≡ Some e) (released_length pool link ∙ sym number) (put_new (link_released pool link) (Some e)))
 
-pub seal_few : (one : SameTest Operation) (s : State Operation) (w : batches.UnsealedBatch Operation) (floor : ℕ) → seal_refusal one meaning s w floor ≡ None → batches.size_of w + 1 ≤ max_leaves
-seal_few one s w floor e = not_above max_leaves (batches.size_of w + 1) (seal_few-if (may_seal one s w) (nat_lt max_leaves (batches.size_of w + 1)) _ _ _ e)
+  pub made_alive : IsAlive new id
+  made_alive = alive_is (slots.slot_at new id) e made_there
 
--- ---- a seal
+  pub made_item : (x : S) → item_at new id ≡ Some x → x ≡ e.item
+  made_item x there = same_Some x e.item (sym there ∙ ap (option_map (λ (b : HeldBatch S). b.item)) made_there)
 
-module _ (m : Machine) (s : State Operation) (k : IsStateOf m s) (b : ℕ) (u : UnsealedBatch) (at : get_or m.batches.items b Gone ≡ Unsealed u) (h : History) (more : Extends m.history h)
-    (x : SealedBatch) (metadata : Option (List ℕ)) (floor : ℕ) (there : x.list < count_in h)
-    (list : list_at (lists_in h) x.list ≡ list_at (lists_in m.history) u.base ++ (u.own.items ++ (Commit metadata floor ∷ [])))
-    (base : x.bounds.base ≡ commitment_of (list_at (lists_in m.history) u.base)) (tip : x.bounds.tip ≡ commitment_of (list_at (lists_in h) x.list))
-    (p : Place Mmr Sha256Digest) (db_is : x.bounds.db ≡ p.boundary) (tips_are : x.bounds.ancestors ≡ p.ancestors) (place : IsPlace m u p) where
-  abbrev Base : List Operation
-  Base = list_at (lists_in m.history) u.base
+-- ---- why a batch isn't sealed
 
-  abbrev Own : List Operation
-  Own = u.own.items ++ (Commit metadata floor ∷ [])
+module _ {Db S U : Type 0} (k : Kind Db S U) (pool : List (Option (HeldBatch S))) (u : U) (db : Db) (floor : ℕ) where
+  pub why_refused : (e : Error Mmr) (r : Refusal) → WhyNotSealed k pool u db floor e → refusal_of e ≡ Some r → IsRefused k pool u db floor (Some r)
+  why_refused e r (inl memory) is = absurd (none-some r (sym (ap refusal_of memory) ∙ is))
+  why_refused e r (inr why) is = subst (IsRefused k pool u db floor) is why.1
 
-  abbrev Entry : HeldBatch SealedBatch
-  Entry = record { item = x; parent = u.parent; holds = 1 }
+  pub why_memory : (e : Error Mmr) → WhyNotSealed k pool u db floor e → refusal_of e ≡ None → e ≡ Memory
+  why_memory e (inl memory) is = memory
+  why_memory e (inr why) is = absurd (none_is (refusal_of e) is why.0)
+    where
+      none_is : (o : Option Refusal) → o ≡ None → IsSome o → ⊥
+      none_is None e h = cc
+      none_is (Some x) e h = cc
 
-  abbrev Put : Slots
-  Put = m.pool ++ (Some Entry ∷ [])
+module _ {Db S U : Type 0} (k : Kind Db S U) (old : Numbers S U) (b : ℕ) (u : U) (at : get_or old.batches.items b Gone ≡ Unsealed u) where
+  abbrev Old : List (Batch U)
+  Old = old.batches.items
 
-  base_size : x.bounds.base.size ≡ length Base
-  base_size = ap (λ (d : Commitment Mmr Sha256Digest). d.size) base
+  -- ---- the shape
 
-  under : take x.bounds.base.size (list_at (lists_in h) x.list) ≡ Base
-  under = rw (base_size, list) (take-append-le (length Base) Base Own (omega arith) ∙ take-length Base)
+  module _ (sh : IsShaped k old) where
+    pub parent_lives : ForSome (k.parent u) (IsAlive old.pool)
+    parent_lives = alive_where old.pool (k.parent u) (parent_held (any_lists k) Old old.pool sh.all sh.batches b u at)
 
-  bounded : AreBounds (list_at (lists_in h) x.list) x.bounds
-  bounded = record {
-    base = rw (base, list) (state_of_front mmr sha meaning Base (Base ++ Own) (longer Base Own));
-    db = rw list (state_longer mmr sha meaning Base Own x.bounds.db (subst (IsStateIn Base) (sym db_is) place.boundary_in));
-    ancestors = rw list (states_longer mmr sha meaning Base Own x.bounds.ancestors (subst (AreStatesIn Base) (sym tips_are) place.tips_in));
-    tip = tip;
-  }
+    pub sealed_shape : (room : HasRoom old) (new : Numbers S U) (taken : new.taken ≡ old.taken) (x : S) (j : Holding) → j.id ≡ length old.pool → j.holds ≡ 1 → new.batches.items ≡ set Old b (Sealed j)
+        → new.pool ≡ link_released old.pool (k.parent u) ++ (Some (record { item = x; parent = k.parent u; holds = 1 }) ∷ []) → IsShaped k new
+    sealed_shape room new taken x j number once items pool =
+        let w = unsealed_there (any_lists k) Old old.pool sh.all sh.batches b u at in
+        let made : HeldBatch S = record { item = x; parent = k.parent u; holds = 1 } in
+        let left = few_released old.taken old.pool sh.few (k.parent u) (parent_held (any_lists k) Old old.pool sh.all sh.batches b u at) in
+        let n = released_length old.pool (k.parent u) in
+        let drawn = room.drawn in
+        shape_from k new _ _ old.taken _ items pool taken
+        (batches_sealed (any_lists k) Old old.pool sh.all sh.batches b u at w.0 w.1 w.2 x (batches.sealed w.0 0 [] (Commit None 0) 0) tt refl refl j number once)
+        (few_put old.taken (link_released old.pool (k.parent u)) left made (omega (arith, n, drawn)) refl)
 
-  was : (w : batches.UnsealedBatch Operation) × (batch_at s b ≡ batches.Unsealed w) × IsUnsealedOf m.history m.batches.items m.pool b u w
-  was = unsealed_there m.history m.batches.items m.pool s.batches k.batches b u at (unsealed_within m.batches.items b u at)
+  -- ---- a state
 
-  fits : IsKeptItem h Put Entry
-  fits = record {
-    held = omega arith;
-    there = there;
-    bounds = bounded;
-    parent = subst (λ (xs : List Operation). LinkList (lists_in h) Put xs u.parent) (sym under)
-        (still_list m.history h more m.batches.items m.batches.items (λ p i st. st) m.pool Put (put_goes m.pool (Some Entry)) k.batches.kept Base u.parent was.2.parent);
-  }
+  module _ (db : Db) (s : State Operation) (told : IsTold s) (is : IsStateOf k db old s) (w : batches.UnsealedBatch Operation) (machine : batch_at s b ≡ batches.Unsealed w) where
+    was : IsUnsealedOf (same_lists k) Old b u w
+    was = let t = unsealed_there (same_lists k) Old old.pool s.batches is.batches b u at in
+        subst (IsUnsealedOf (same_lists k) Old b u) (same_machine t.0 w (sym t.1 ∙ machine)) t.2
 
-  pub put_batches : AreBatchesOf h m.batches.items (m.pool ++ (Some (record { item = x; parent = u.parent; holds = 1 }) ∷ [])) s.batches
-  put_batches = batches_put m.history h more m.batches.items m.pool s.batches k.batches Entry fits
+    alive : ForSome (k.parent u) (IsAlive old.pool)
+    alive = alive_where old.pool (k.parent u) (parent_held (same_lists k) Old old.pool s.batches is.batches b u at)
 
-  parent_holds : ForSome u.parent (λ id. 0 < holds_of Put id)
-  parent_holds = parent_held h m.batches.items Put s.batches put_batches b u at (unsealed_within m.batches.items b u at)
+    pub pool_here : IsPoolOf k old.pool (k.parent u) w.list
+    pool_here = pool_of k Old old.pool s is.batches told.parents b u w machine was
 
-  pub parent_lives : ForSome u.parent (IsAlive (m.pool ++ (Some (record { item = x; parent = u.parent; holds = 1 }) ∷ [])))
-  parent_lives = alive_where Put u.parent parent_holds
+    module _ (place : Place Mmr Sha256Digest) (found : HasPlace k old.pool u db place) where
+      boundary_size : place.boundary.size ≡ effective_boundary s w
+      boundary_size = ap (λ (d : Commitment Mmr Sha256Digest). d.size) found.boundary ∙ place_boundary k Old old.pool s is.batches told.parents b u w machine was alive place.ancestors found.oldest found.reach
 
-  pub few_sealed : HasRoom m → AreFew m.taken (link_released (m.pool ++ (Some (record { item = x; parent = u.parent; holds = 1 }) ∷ [])) u.parent)
-  few_sealed room = few_released m.taken Put (few_put m.taken m.pool k.few Entry room.drawn refl) u.parent parent_holds
+      tips_are : sizes place.ancestors ≡ tips_of (reach s w)
+      tips_are = place_tips k Old old.pool s is.batches told.parents b u w machine was alive place.ancestors found.oldest found.reach
 
-  module _ (w : batches.UnsealedBatch Operation) (machine : batch_at s b ≡ batches.Unsealed w) (low : x.bounds.inactivity_floor ≡ floor) where
-    of : IsUnsealedOf m.history m.batches.items m.pool b u w
-    of = subst (IsUnsealedOf m.history m.batches.items m.pool b u) (same_machine was.0 w (sym was.1 ∙ machine)) was.2
+      stands_here : is_at bytes_of (k.state db) (place.boundary ∷ place.ancestors) ≡ may_seal same_state s w
+      stands_here =
+          ap (λ (c : Commitment Mmr Sha256Digest). is_at bytes_of c (place.boundary ∷ place.ancestors)) (k.state_is s.ops s.start db is.log)
+          ∙ stands_there mmr sha meaning s w.list place.boundary place.ancestors
+          (subst (IsStateIn w.list) (sym found.boundary) (place_boundary_in k Old old.pool s is.batches told.parents b u w machine was alive place.ancestors found.oldest found.reach))
+          (place_tips_in k Old old.pool s is.batches told.parents b u w machine was alive place.ancestors found.oldest found.reach)
+          ∙ stands_same same_state s w.list w.list place.boundary.size (effective_boundary s w) (sizes place.ancestors) (tips_of (reach s w)) refl boundary_size tips_are
 
-    here : IsUnsealedIn m u s w
-    here = record { state = k; number = b; memory = at; machine = machine }
+      floor_is : place.floor ≡ floor_below meaning s w
+      floor_is = found.floor_is ∙ place_floor k Old old.pool s is.batches told.parents b u w machine was alive db is.log (k.parent u) w.parent was.link alive
 
-    pub sealed_list : list_at (lists_in h) x.list ≡ (sealed_here s w (Commit metadata floor) floor).list
-    sealed_list = list ∙ sym (ap₂ (λ (xs ys : List Operation). xs ++ (ys ++ (Commit metadata floor ∷ []))) of.list of.pending)
+      -- its place refuses a seal exactly where the state does
+      pub place_refuses : (floor : ℕ) → place_refusal bytes_of place (k.state db) (size_of k u) floor ≡ seal_refusal s w floor
+      place_refuses floor = rw (stands_here ∙ told.seals b w machine, size_is k u w was.is, floor_is) refl
 
-    pub sealed_batches : (j : Holding) → j.id ≡ length m.pool → j.holds ≡ 1
-        → AreBatchesOf h (set m.batches.items b (Sealed j)) (link_released (m.pool ++ (Some (record { item = x; parent = u.parent; holds = 1 }) ∷ [])) u.parent) (set s.batches b (batches.Sealed (sealed_here s w (Commit metadata floor) floor)))
-    sealed_batches j number once =
-        let t = unsealed_there h m.batches.items Put s.batches put_batches b u at (unsealed_within m.batches.items b u at) in
-        batches_sealed h m.batches.items Put s.batches put_batches b u at (unsealed_within m.batches.items b u at) w machine (subst (IsUnsealedOf h m.batches.items Put b u) (same_machine t.0 w (sym t.1 ∙ machine)) t.2)
-        j (sealed_here s w (Commit metadata floor) floor) Entry (subst (λ i. slots.slot_at Put i ≡ Some Entry) (sym number) (put_new m.pool (Some Entry))) refl once refl
-        (λ q i sealed same. let d = (sealed_there m.history m.batches.items m.pool s.batches k.batches q i sealed).2.drawn in omega (arith, d, same, number))
-        refl (record {
-          list = sym sealed_list;
-          base = of.base ∙ sym base_size;
-          boundary = sym (ap (λ (d : Commitment Mmr Sha256Digest). d.size) db_is ∙ place.boundary_is s w here);
-          tips = sym (ap sizes tips_are ∙ place.tips_are s w here);
-          floor = sym low;
-          link = of.link;
-        })
+    pub refused_here : (floor : ℕ) (why : Option Refusal) → IsRefused k old.pool u db floor why → seal_refusal s w floor ≡ why
+    refused_here floor why r = sym (place_refuses r.place r.place_of floor) ∙ r.why_is
 
--- ---- a snapshot
+    module _ (metadata : Option (List ℕ)) (floor : ℕ) where
+      -- a refusal loses it
+      pub lost_meets : (new : Numbers S U) (refusal : Refusal) → IsRefused k old.pool u db floor (Some refusal) → IsStateOf k db new (with_batch s b batches.Gone)
+          → Meets k (sealed_or_lost s b w metadata floor (seal_refusal s w floor)) db new (answer.Refused refusal)
+      lost_meets new refusal r gone =
+          meets k db new _ (lost s b refusal) (answer.Refused refusal) (ap (sealed_or_lost s b w metadata floor) (refused_here floor (Some refusal) r)) refl gone
 
-module _ (m : Machine) (s : State Operation) (k : IsStateOf m s) (x : SealedBatch) (list : x.list ≡ m.head)
-    (base : x.bounds.base ≡ commitment_of (list_at (lists_in m.history) m.head)) (db : x.bounds.db ≡ commitment_of (list_at (lists_in m.history) m.head))
-    (tip : x.bounds.tip ≡ commitment_of (list_at (lists_in m.history) m.head)) (none : x.bounds.ancestors ≡ []) (low : x.bounds.inactivity_floor ≡ floor_of meaning (list_at (lists_in m.history) m.head)) where
-  abbrev Here : List Operation
-  Here = list_at (lists_in m.history) m.head
+      module _ (x : S) (in_place : IsSealedIn k old.pool u db floor (k.bounds x))
+          (sealed : (list : List Operation) → k.is_unsealed list u → IsPoolOf k old.pool (k.parent u) list → k.is_sealed (list ++ (k.pending u ++ (Commit metadata floor ∷ []))) x) where
+        abbrev Made : batches.SealedBatch Operation
+        Made = sealed_here s w (Commit metadata floor) floor
 
-  abbrev Taken : HeldBatch SealedBatch
-  Taken = record { item = x; parent = None; holds = 1 }
+        made_as : IsSealedAs k x Made
+        made_as = record {
+          list = subst (λ (ops : List Operation). k.is_sealed (w.list ++ (ops ++ (Commit metadata floor ∷ []))) x) (sym was.is.pending) (sealed w.list was.is.list pool_here);
+          base = was.is.base ∙ sym (ap (λ (d : Commitment Mmr Sha256Digest). d.size) (in_place.base ∙ k.base_is w.list u was.is.list));
+          boundary = sym (ap (λ (d : Commitment Mmr Sha256Digest). d.size) in_place.db_is ∙ boundary_size in_place.place in_place.place_of);
+          tips = sym (ap sizes in_place.ancestors ∙ tips_are in_place.place in_place.place_of);
+          floor = sym in_place.floored;
+        }
 
-  abbrev After : Slots
-  After = m.pool ++ (Some Taken ∷ [])
-
-  snapshot_fits : IsKeptItem m.history After Taken
-  snapshot_fits = record {
-    held = omega arith;
-    there = rw list k.log.head;
-    bounds = record {
-      base = rw (base, list) (state_of_front mmr sha meaning Here Here (whole Here));
-      db = rw (db, list) (state_of_front mmr sha meaning Here Here (whole Here));
-      ancestors = rw none tt;
-      tip = rw list tip;
-    };
-    parent = tt;
-  }
-
-  pub few_taken : HasRoom m → AreFew m.taken (m.pool ++ (Some (record { item = x; parent = None; holds = 1 }) ∷ []))
-  few_taken room = few_put m.taken m.pool k.few Taken room.drawn refl
-
-  pub snapshot_batches : (j : Holding) → j.id ≡ length m.pool → j.holds ≡ 1
-      → AreBatchesOf m.history (m.batches.items ++ (Sealed j ∷ [])) (m.pool ++ (Some (record { item = x; parent = None; holds = 1 }) ∷ [])) (s.batches ++ (batches.Sealed (batches.snapshot_of s.ops (floor_of meaning s.ops)) ∷ []))
-  snapshot_batches j number once =
-      let put = batches_put m.history m.history (extends_self m.history) m.batches.items m.pool s.batches k.batches Taken snapshot_fits in
-      let size = λ (d : Commitment Mmr Sha256Digest). d.size in
-      batches_added m.history m.batches.items After s.batches put j (batches.snapshot_of s.ops (floor_of meaning s.ops)) Taken (subst (λ i. slots.slot_at After i ≡ Some Taken) (sym number) (put_new m.pool (Some Taken))) refl once refl
-      (λ q i sealed same. let d = (sealed_there m.history m.batches.items m.pool s.batches k.batches q i sealed).2.drawn in omega (arith, d, same, number))
-      (omega arith) (record {
-        list = k.ops ∙ ap (list_at (lists_in m.history)) (sym list);
-        base = ap length k.ops ∙ sym (ap size base);
-        boundary = ap length k.ops ∙ sym (ap size db);
-        tips = sym (ap sizes none);
-        floor = ap (floor_of meaning) k.ops ∙ sym low;
-        link = tt;
-      })
+        -- otherwise it is sealed
+        pub sealed_meets : (new : Numbers S U) (j : Holding) (size : ℕ) (root : Sha256Digest) → j.id ≡ length old.pool → j.holds ≡ 1 → new.batches.items ≡ set Old b (Sealed j)
+            → new.pool ≡ link_released old.pool (k.parent u) ++ (Some (record { item = x; parent = k.parent u; holds = 1 }) ∷ [])
+            → size ≡ (k.bounds x).tip.size → root ≡ (k.bounds x).tip.root
+            → Meets k (sealed_or_lost s b w metadata floor (seal_refusal s w floor)) db new (answer.Sealed size root)
+        sealed_meets new j size root number once items pool size_at root_at =
+            let fits = made_as in
+            let bounds : AreBounds Made.list (k.bounds x) = k.bounded Made.list x fits.list in
+            meets k db new _ (done_sealing s b Made) (answer.Sealed size root)
+            (ap (sealed_or_lost s b w metadata floor) (sym (place_refuses in_place.place in_place.place_of floor) ∙ in_place.may))
+            (ap₂ answer.Sealed (size_at ∙ ap (λ (d : Commitment Mmr Sha256Digest). d.size) bounds.tip) (root_at ∙ ap (λ (d : Commitment Mmr Sha256Digest). d.root) bounds.tip))
+            (state_from k db new (with_batch s b (batches.Sealed Made)) _ _ items pool is.log
+            (batches_sealed (same_lists k) Old old.pool s.batches is.batches b u at w machine was x Made fits refl refl j number once))

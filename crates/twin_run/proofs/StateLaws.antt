@@ -123,4 +123,8 @@ module _ (limit : ℕ) (small : limit < 2 ^ 64) (law : RootsTellLists limit) (li
 
 -- where nothing clashes, size and root tell the lists of a good state
 pub are_told : (limit : ℕ) → limit < 2 ^ 64 → RootsTellLists limit → StatesAreTold limit
-are_told limit small law lists s none g = record { seals = seals_same limit small law lists none s g; applies = applies_same limit small law lists none s g }
+are_told limit small law lists s none g = record {
+  seals = seals_same limit small law lists none s g;
+  applies = applies_same limit small law lists none s g;
+  parents = g.good.parents;
+}

@@ -7,7 +7,8 @@ pub mod Trace
 pub mod GoodRuns
 pub mod Told
 pub mod Lists
-pub mod Pool
+pub mod Kind
+pub mod ListKind
 pub mod StateOf
 pub mod Outcome
 pub mod Report

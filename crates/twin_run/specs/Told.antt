@@ -1,6 +1,7 @@
 -- What size and root tell of the lists of a state.
 use Rattle.std.specs.Prelude.{◌≡◌, ℕ, List, Contains}
 use Rattle.log_model.specs.StateBatches.{UnsealedBatch, SealedBatch, Unsealed, Sealed}
+use Rattle.log_model.specs.Good.{HasParent}
 use Rattle.log_model.specs.Hashed.{NoClash}
 use Rattle.log_model.specs.Machine.{State, batch_at}
 use Rattle.log_model.specs.Reach.{may_seal, may_apply}
@@ -9,12 +10,13 @@ use Rattle.twin_run.specs.Operation.{Operation, meaning, sha, one_list}
 use Rattle.twin_run.specs.Commitments.{same_state}
 use Rattle.twin_run.specs.GoodRuns.{IsGoodState}
 
--- By size and root, each batch of a state may be sealed and applied exactly where it may by operations.
+-- By size and root, each batch of a state may be sealed and applied exactly where it may by operations; and it stands on its parent's list.
 pub record IsTold (s : State Operation) : Type 0 where
   pub seals : (b : ℕ) (u : UnsealedBatch Operation) → batch_at s b ≡ Unsealed u
       → may_seal same_state s u ≡ may_seal one_list s u
   pub applies : (b : ℕ) (c : SealedBatch Operation) → batch_at s b ≡ Sealed c
       → may_apply same_state s c ≡ may_apply one_list s c
+  pub parents : (b : ℕ) → HasParent s b (batch_at s b)
 
 -- So it is in a good state whose lists are among some of which nothing clashes that is hashed for them.
 abbrev pub StatesAreTold : ℕ → Type 0

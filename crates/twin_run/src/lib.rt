@@ -3,16 +3,19 @@
 
 mod batch;
 mod config;
+mod database;
 mod ending;
-mod history;
 mod laws;
+mod list_db;
+mod log_list;
 mod machine;
 mod main_call;
+mod numbers;
 mod operation;
-mod pool;
 mod report;
 mod rows;
 mod run;
+mod side;
 
 pub use config::{ConfigError, TwinConfig, VALUE_LIMIT};
 pub use ending::{Fault, Status, Stopped};

@@ -8,7 +8,8 @@ ghost use Rattle.twin_run.specs.Trace.{trace, fresh_state, HasNoClash, IsFreshLo
 use crate::config::TwinConfig;
 use crate::ending::{Fault, Stopped};
 use crate::laws::states_are_told;
-use crate::machine::Machine;
+use crate::list_db::ListDb;
+use crate::side::Side;
 use codec_base::{CodecError, ListOf};
 use command_text::{Answer, Command, Replies};
 use std::alloc::Global;
@@ -16,13 +17,15 @@ use volume_base::{Volume, VolumeError};
 
 /// Opens the list on a fresh volume and answers each command. Where memory runs out, the replies before are there.
 #[tactic(auto, unfolding(crate::specs::Trace::trace))]
-fn answer_all(
+fn answer_all<V: Volume>(
     alloc: Global,
     limit: u64,
+    volume: &mut V,
     commands: &[Command],
     replies: &mut Replies,
 ) -> Result<(), CodecError>
     requires { replies.old ≡ [] }
+    ensures still { volume.new ≡ volume.old }
     ensures ok { OnOk result (HasNoClash limit fresh_state commands.now →
         replies.new ≡ trace limit fresh_state commands.now) }
     ensures err { OnErr result (HasNoClash limit fresh_state commands.now →
@@ -30,11 +33,16 @@ fn answer_all(
     ensures memory { IsOkUnless result CodecError.Memory }
 {
     states_are_told(limit);
-    let mut machine = Machine::new(alloc, limit)?;
+    let mut machine = Side::<ListDb>::new(alloc, limit)?;
     let opening = machine.reply(Answer::Opened { size: 1, start: 0 });
     replies.push(opening)?;
     for command in commands {
-        let reply = machine.step(command)?;
+        let step = match machine.step(volume, command) {
+            Ok(step) => step,
+            Err(_) => return Err(CodecError::Memory),
+        };
+        let (next, reply) = step;
+        machine = next;
         replies.push(reply)?;
     }
     Ok(())
@@ -147,7 +155,7 @@ pub fn run_twins<V: Volume>(
         });
     };
     let mut replies = ListOf::from_vec(room);
-    match answer_all(alloc, config.value_limit(), commands, &mut replies) {
+    match answer_all(alloc, config.value_limit(), volume, commands, &mut replies) {
         Ok(()) => Ok(replies),
         Err(_) => Err(Stopped {
             fault: Fault::Memory,

@@ -1,0 +1,36 @@
+-- What the database that is a list in memory and its batches stand for.
+use Rattle.std.specs.Prelude.{◌≡◌}
+use Rattle.std.proofs.Common.{ap}
+use Rattle.log_model.specs.Operations.{floor_of}
+use Rattle.chain_core.specs.declared.bounds.Bounds.{Bounds}
+use Rattle.tree_shape.specs.declared.mmr.Mmr.{Mmr}
+use Rattle.tree_shape.specs.declared.sha256.Sha256Digest.{Sha256Digest}
+use Rattle.twin_run.specs.Operation.{meaning}
+use Rattle.twin_run.specs.Commitments.{commitment_of, AreBounds}
+use Rattle.twin_run.specs.Kind.{Kind}
+use Rattle.twin_run.specs.declared.batch.SealedBatch.{SealedBatch}
+use Rattle.twin_run.specs.declared.batch.UnsealedBatch.{UnsealedBatch}
+use Rattle.twin_run.specs.declared.list_db.ListDb.{ListDb}
+
+-- What a sealed batch carries.
+abbrev pub bounds_of : SealedBatch → Bounds Mmr Sha256Digest
+bounds_of x = x.bounds
+
+-- Each is its list, of which nothing is given up, and all are in memory.
+abbrev pub list_kind : Kind ListDb SealedBatch UnsealedBatch
+list_kind = record {
+  is_of = λ ops start db. (db.list ≡ ops) × (start ≡ 0);
+  is_sealed = λ list x. (x.list ≡ list) × AreBounds list x.bounds;
+  is_unsealed = λ list u. u.list ≡ list;
+  state = λ db. commitment_of db.list;
+  floor = λ db. floor_of meaning db.list;
+  bounds = bounds_of;
+  base = λ u. commitment_of u.list;
+  pending = λ u. u.own.items;
+  parent = λ u. u.parent;
+  in_memory = Unit {0};
+  state_is = λ ops start db is. ap commitment_of is.0;
+  floor_is = λ ops start db is. ap (floor_of meaning) is.0;
+  bounded = λ list x is. is.1;
+  base_is = λ list u is. ap commitment_of is;
+}

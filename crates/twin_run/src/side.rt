@@ -1,0 +1,282 @@
+//! One side of the run: a database, and the batches of the run's numbers.
+ghost use Rattle.std.specs.Prelude.{◌≡◌, ◌<◌, ℕ, length, slice_index_or, IfOk, IsOkUnless};
+ghost use Rattle.log_model.specs.StateBatches as batches;
+ghost use Rattle.log_model.specs.Machine.{State, batch_at, with_batch};
+ghost use Rattle.volume_base.specs.Volume.{Writes};
+ghost use Rattle.twin_run.specs.Operation.{Operation};
+ghost use Rattle.twin_run.specs.Step.{begin, append_to, metadata_length, seal, apply, hold, release, snapshot, size, metadata};
+ghost use Rattle.twin_run.specs.StateOf.{IsShaped, HasRoom, IsStateOf, Follows, FollowsTold, Ends};
+ghost use Rattle.twin_run.specs.declared.numbers.Batch.TheVariants.{Unsealed, Gone};
+
+use crate::database::Database;
+use crate::numbers::{Batch, Holding, Numbers};
+use chain_core::Error;
+use codec_base::{Bytes, Duplicate};
+use command_text::{Answer, Refusal};
+use std::mem::replace;
+use tree_shape::{MAX_LEAVES, Mmr};
+use volume_base::Volume;
+
+/// A database, and the batches of the run's numbers on it. Values and metadata have at most so many bytes.
+#[derive(Drop)]
+pub struct Side<D: Database> {
+    pub db: D,
+    pub numbers: Numbers<D::Sealed, D::Unsealed>,
+    pub limit: u64,
+}
+
+/// The length of metadata, 0 where there is none.
+fn metadata_length(metadata: &Option<Bytes>) -> u64
+    ensures { result ≡ metadata_length metadata.now }
+{
+    match metadata {
+        Some(bytes) => bytes.len(),
+        None => 0,
+    }
+}
+
+impl<D: Database> Side<D> {
+    /// Makes an unsealed batch on the present list, or on a sealed batch.
+    pub fn begin(&mut self, parent: Option<u64>) -> Result<Answer, Error<Mmr>>
+        requires shaped { IsShaped D.kind self.old.numbers }
+        requires room { HasRoom self.old.numbers }
+        ensures ok { IfOk result
+            (λ a. Follows D.kind (λ s. begin s parent) self.old.db self.new.db self.old.numbers self.new.numbers a) }
+        ensures limit { self.new.limit ≡ self.old.limit }
+        ensures taken { self.new.numbers.taken ≡ self.old.numbers.taken }
+        ensures memory { IsOkUnless result Error.Memory }
+    {
+        let number = self.numbers.batches.len() as u64;
+        let Some(p) = parent else {
+            let batch = self.db.new_batch()?;
+            self.numbers.batches.push(Batch::Unsealed(batch))?;
+            return Ok(Answer::Batch(number));
+        };
+        let Some(held) = self.numbers.held(p) else {
+            return Ok(Answer::Refused(Refusal::NoBatch(p)));
+        };
+        let batch = D::child(&mut self.numbers.pool, held.id)?;
+        self.numbers.batches.push(Batch::Unsealed(batch))?;
+        Ok(Answer::Batch(number))
+    }
+
+    /// Adds a value to an unsealed batch.
+    pub fn append(&mut self, b: u64, value: &Bytes) -> Result<Answer, Error<Mmr>>
+        requires { IsShaped D.kind self.old.numbers }
+        ensures ok { IfOk result
+            (λ a. Follows D.kind (λ s. append_to self.old.limit s b value.now (batch_at s b)) self.old.db self.new.db
+            self.old.numbers self.new.numbers a) }
+        ensures limit { self.new.limit ≡ self.old.limit }
+        ensures taken { self.new.numbers.taken ≡ self.old.numbers.taken }
+        ensures memory { IsOkUnless result Error.Memory }
+    {
+        if b >= self.numbers.batches.len() as u64 {
+            return Ok(Answer::Refused(Refusal::NoBatch(b)));
+        }
+        match &mut self.numbers.batches[b as usize] {
+            Batch::Unsealed(batch) => {
+                if value.len() > self.limit {
+                    return Ok(Answer::Refused(Refusal::ValueTooLong(value.len())));
+                }
+                let size = D::size(batch);
+                if size >= MAX_LEAVES {
+                    return Ok(Answer::Refused(Refusal::LocationOverflow(size + 1)));
+                }
+                D::append(batch, value)?;
+                Ok(Answer::Done)
+            }
+            _ => Ok(Answer::Refused(Refusal::NoBatch(b))),
+        }
+    }
+
+    /// Ends batch b, which is unsealed, by a commit, or loses it.
+    fn end(&mut self, b: u64, metadata: Option<Bytes>, floor: u64) -> Result<Answer, Error<Mmr>>
+        requires shaped { IsShaped D.kind self.old.numbers }
+        requires room { HasRoom self.old.numbers }
+        requires there { b < length self.old.numbers.batches.items }
+        requires unsealed { (u : D.Unsealed) × (slice_index_or self.old.numbers.batches.items b Gone ≡ Unsealed u) }
+        ensures ok { IfOk result (λ a. Ends D.kind b metadata floor self.old.db self.new.db self.old.numbers
+            self.new.numbers a) }
+        ensures limit { self.new.limit ≡ self.old.limit }
+        ensures taken { self.new.numbers.taken ≡ self.old.numbers.taken }
+        ensures memory { IsOkUnless result Error.Memory }
+    {
+        let Batch::Unsealed(batch) = replace(&mut self.numbers.batches[b as usize], Batch::Gone)
+        else {
+            unreachable!();
+        };
+        match self.db.seal(batch, &mut self.numbers.pool, metadata, floor) {
+            Ok(id) => {
+                self.numbers.batches[b as usize] = Batch::Sealed(Holding { id, holds: 1 });
+                let tip = &D::bounds(self.numbers.pool.item(id)).tip;
+                Ok(Answer::Sealed {
+                    size: tip.size.as_u64(),
+                    root: tip.root,
+                })
+            }
+            Err(error) => match error.refusal() {
+                Some(refusal) => Ok(Answer::Refused(refusal)),
+                None => Err(error),
+            },
+        }
+    }
+
+    /// Ends an unsealed batch by a commit, or loses it.
+    pub fn seal(
+        &mut self,
+        b: u64,
+        metadata: &Option<Bytes>,
+        floor: u64,
+    ) -> Result<Answer, Error<Mmr>>
+        requires shaped { IsShaped D.kind self.old.numbers }
+        requires room { HasRoom self.old.numbers }
+        ensures ok { IfOk result
+            (λ a. FollowsTold D.kind (λ s. seal self.old.limit s b metadata.now floor (batch_at s b)) self.old.db
+            self.new.db self.old.numbers self.new.numbers a) }
+        ensures limit { self.new.limit ≡ self.old.limit }
+        ensures taken { self.new.numbers.taken ≡ self.old.numbers.taken }
+        ensures memory { IsOkUnless result Error.Memory }
+    {
+        if b >= self.numbers.batches.len() as u64 {
+            return Ok(Answer::Refused(Refusal::NoBatch(b)));
+        }
+        let Batch::Unsealed(_) = &self.numbers.batches[b as usize] else {
+            return Ok(Answer::Refused(Refusal::NoBatch(b)));
+        };
+        let long = metadata_length(metadata);
+        if long > self.limit {
+            return Ok(Answer::Refused(Refusal::ValueTooLong(long)));
+        }
+        let Ok(metadata) = metadata.duplicate() else {
+            return Err(Error::Memory);
+        };
+        self.end(b, metadata, floor)
+    }
+
+    /// Makes the list that of a sealed batch. Where it fails there is no side any more.
+    pub fn apply<V: Volume>(self, volume: &mut V, b: u64) -> Result<(Self, Answer), Error<Mmr>>
+        requires { IsShaped D.kind self.numbers }
+        ensures ok { IfOk result
+            (λ r. FollowsTold D.kind (λ s. apply s b (batch_at s b)) self.db r.0.db self.numbers r.0.numbers r.1) }
+        ensures limit { IfOk result (λ r. r.0.limit ≡ self.limit) }
+        ensures taken { IfOk result (λ r. r.0.numbers.taken ≡ self.numbers.taken) }
+        ensures writes { Writes V.tells Error.Volume (V.state volume.old) (V.state volume.new) result }
+        ensures still { D.kind.in_memory → volume.new ≡ volume.old }
+        ensures memory { D.kind.in_memory → IsOkUnless result Error.Memory }
+    {
+        let Some(held) = self.numbers.held(b) else {
+            return Ok((self, Answer::Refused(Refusal::NoBatch(b))));
+        };
+        if self.db.validate(&self.numbers.pool, held.id).is_err() {
+            return Ok((self, Answer::Refused(Refusal::StaleBatch)));
+        }
+        let Side { db, numbers, limit } = self;
+        let db = match db.apply(volume, &numbers.pool, held.id) {
+            Ok(db) => db,
+            Err(error) => return Err(error),
+        };
+        let side = Side { db, numbers, limit };
+        Ok((side, Answer::Applied))
+    }
+
+    /// Holds a sealed batch once more.
+    pub fn hold(&mut self, b: u64) -> Answer
+        requires shaped { IsShaped D.kind self.old.numbers }
+        requires room { HasRoom self.old.numbers }
+        ensures ok { Follows D.kind (λ s. hold s b (batch_at s b)) self.old.db self.new.db self.old.numbers
+            self.new.numbers result }
+        ensures limit { self.new.limit ≡ self.old.limit }
+        ensures taken { self.new.numbers.taken ≡ self.old.numbers.taken }
+    {
+        let Some(held) = self.numbers.held(b) else {
+            return Answer::Refused(Refusal::NoBatch(b));
+        };
+        self.numbers.hold(b, held);
+        Answer::Done
+    }
+
+    /// Gives up batch b, which is unsealed.
+    fn lose(&mut self, b: u64)
+        requires shaped { IsShaped D.kind self.old.numbers }
+        requires there { b < length self.old.numbers.batches.items }
+        requires unsealed { (u : D.Unsealed) × (slice_index_or self.old.numbers.batches.items b Gone ≡ Unsealed u) }
+        ensures shaped { IsShaped D.kind self.new.numbers }
+        ensures lost { (s : State Operation) → IsStateOf D.kind self.old.db self.old.numbers s →
+            IsStateOf D.kind self.new.db self.new.numbers (with_batch s b batches.Gone) }
+        ensures limit { self.new.limit ≡ self.old.limit }
+        ensures taken { self.new.numbers.taken ≡ self.old.numbers.taken }
+    {
+        let Batch::Unsealed(batch) = replace(&mut self.numbers.batches[b as usize], Batch::Gone)
+        else {
+            unreachable!();
+        };
+        D::discard(batch, &mut self.numbers.pool);
+    }
+
+    /// Holds a sealed batch once less, or gives up an unsealed one.
+    pub fn release(&mut self, b: u64) -> Answer
+        requires { IsShaped D.kind self.old.numbers }
+        ensures ok { Follows D.kind (λ s. release s b (batch_at s b)) self.old.db self.new.db self.old.numbers
+            self.new.numbers result }
+        ensures limit { self.new.limit ≡ self.old.limit }
+        ensures taken { self.new.numbers.taken ≡ self.old.numbers.taken }
+    {
+        if b >= self.numbers.batches.len() as u64 {
+            return Answer::Refused(Refusal::NoBatch(b));
+        }
+        match &self.numbers.batches[b as usize] {
+            Batch::Unsealed(_) => {
+                self.lose(b);
+                Answer::Done
+            }
+            Batch::Sealed(holding) => {
+                let held = *holding;
+                if held.holds == 0 {
+                    return Answer::Refused(Refusal::NoBatch(b));
+                }
+                self.numbers.let_go(b, held);
+                Answer::Done
+            }
+            Batch::Gone => Answer::Refused(Refusal::NoBatch(b)),
+        }
+    }
+
+    /// Makes a sealed batch of the whole list.
+    pub fn snapshot(&mut self) -> Result<Answer, Error<Mmr>>
+        requires shaped { IsShaped D.kind self.old.numbers }
+        requires room { HasRoom self.old.numbers }
+        ensures ok { IfOk result
+            (λ a. Follows D.kind snapshot self.old.db self.new.db self.old.numbers self.new.numbers a) }
+        ensures limit { self.new.limit ≡ self.old.limit }
+        ensures taken { self.new.numbers.taken ≡ self.old.numbers.taken }
+        ensures memory { IsOkUnless result Error.Memory }
+    {
+        let id = self.db.snapshot(&mut self.numbers.pool)?;
+        let number = self.numbers.batches.len() as u64;
+        self.numbers
+            .batches
+            .push(Batch::Sealed(Holding { id, holds: 1 }))?;
+        Ok(Answer::Batch(number))
+    }
+
+    /// The size and the floor of the list, which is kept from `start` on.
+    pub fn size(&self, start: u64) -> Answer
+        ensures { (s : State Operation) → IsStateOf D.kind self.now.db self.now.numbers s → s.start ≡ start →
+            result ≡ (size s).0 }
+    {
+        Answer::Size {
+            size: self.db.commitment().size.as_u64(),
+            start,
+            floor: self.db.floor(),
+        }
+    }
+
+    /// The last commit's metadata.
+    pub fn metadata(&self) -> Result<Answer, Error<Mmr>>
+        ensures ok { IfOk result (λ a. (s : State Operation) → IsStateOf D.kind self.now.db self.now.numbers s →
+            a ≡ (metadata s).0) }
+        ensures memory { IsOkUnless result Error.Memory }
+    {
+        Ok(Answer::Metadata(self.db.metadata()?))
+    }
+}
