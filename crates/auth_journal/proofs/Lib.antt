@@ -5,4 +5,7 @@ pub mod ErrorLemmas
 pub mod JoinedLemmas
 pub mod AppendLemmas
 pub mod ReadingLemmas
+pub mod AlignLemmas
+pub mod SearchLemmas
+pub mod OpeningLemmas
 pub mod ProofLemmas

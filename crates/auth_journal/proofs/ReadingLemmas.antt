@@ -17,7 +17,7 @@ use Rattle.tree_store.proofs.StoreLemmas.{take-next}
 use Rattle.merkle_full.proofs.ListLemmas.{get_behind}
 use Rattle.auth_journal.specs.Reading.{positions, IsUnreadAt, IsFirstUnread, AreUnread}
 
-range_split : (a n k : ℕ) → range_with_len a (n + k) ≡ range_with_len a n ++ range_with_len (a + n) k
+pub range_split : (a n k : ℕ) → range_with_len a (n + k) ≡ range_with_len a n ++ range_with_len (a + n) k
 range_split a zero k =
     let e : zero + k ≡ k = omega arith in
     let f : a ≡ a + zero = omega arith in

@@ -3,4 +3,7 @@ pub mod Joined
 pub mod Batched
 pub mod Appending
 pub mod Reading
+pub mod Aligning
+pub mod Searching
+pub mod Opening
 pub mod Proving

@@ -2,20 +2,20 @@
 ghost use Rattle.std.specs.Prelude.{◌≡◌, ◌+◌, ◌-◌, ◌<◌, ◌≤◌, ◌^◌, List, ◌∷◌, [], ◌++◌, length, map, drop, OnOk, IfOk, IfErr, IsErrOf, IsOkUnless};
 ghost use Rattle.journal_base.specs.Answers.{IsOfSize, RefusesUnwritten};
 ghost use Rattle.journal_base.specs.View.{log_of, IsHeld};
-ghost use Rattle.tree_core.specs.Batches.{leaf_count, with_digests};
 ghost use Rattle.volume_base.specs.Log.{end_of};
 ghost use Rattle.volume_base.specs.declared.error.JournalError.{JournalError};
 ghost use Rattle.volume_base.specs.declared.error.JournalError.TheVariants.{SizeOverflow};
 ghost use Rattle.auth_journal.specs.Appending.{Appends};
-ghost use Rattle.auth_journal.specs.Batched.{joined_items, leaves_from};
+ghost use Rattle.auth_journal.specs.Batched.{joined_items};
 
 use crate::items::copies_from;
+use crate::leaves::sealed_leaves;
 use crate::{Error, Journal, MerkleizedBatch};
-use codec_base::{Duplicate, ListOf, Write, encode};
+use codec_base::{Duplicate, ListOf};
 use journal_base::{Backing, Mutable, append_all};
 use std::alloc::Global;
 use std::rc::Rc;
-use tree_core::{Family, Hasher, Location, MAX_LEAVES, Standard};
+use tree_core::{Family, Hasher, Location, MAX_LEAVES};
 use volume_base::{JournalError, Volume};
 
 /// The journal with the items of the lists from this one on behind its own, by one append; of no items nothing is written. It
@@ -83,31 +83,6 @@ fn append_to<C: Backing, V: Volume>(
     journal.append_many(vol, items)
 }
 
-/// Adds a leaf for each of these items.
-fn add_leaves<F: Family, H: Hasher, T: Write>(
-    alloc: Global,
-    batch: &mut tree_core::UnmerkleizedBatch<F, H::Digest>,
-    hasher: &Standard<H>,
-    items: &[T],
-) -> Result<(), Error<F>>
-    requires { leaf_count batch.old + length items.now ≤ 2 ^ 62 }
-    ensures leaves { OnOk result (batch.new ≡ with_digests batch.old
-        (leaves_from F.shape H.hash (leaf_count batch.old) (map T.spelling items.now))) }
-    ensures memory { IsOkUnless result Error.Memory }
-{
-    for i in 0..items.len() {
-        let bytes = match encode(alloc, &items[i]) {
-            Ok(bytes) => bytes,
-            Err(_) => return Err(Error::Memory),
-        };
-        match batch.add(hasher, bytes.as_slice()) {
-            Ok(()) => {}
-            Err(_) => return Err(Error::Memory),
-        }
-    }
-    Ok(())
-}
-
 impl<F: Family, C: Backing, H: Hasher> Journal<F, C, H> {
     ghost use Rattle.std.specs.Prelude.{◌⊎◌, ℕ, Err};
     ghost use Rattle.tree_core.specs.Applied.{IsLonger, FitsTree, RefusedByTree};
@@ -145,15 +120,7 @@ impl<F: Family, C: Backing, H: Hasher> Journal<F, C, H> {
                 MAX_LEAVES + 1,
             ))));
         }
-        let mut batch = match self.merkle.new_batch() {
-            Ok(batch) => batch,
-            Err(_) => return Err(Error::Memory),
-        };
-        add_leaves(self.alloc, &mut batch, &self.hasher, items)?;
-        match batch.merkleize(&self.hasher, 0) {
-            Ok(sealed) => Ok(sealed),
-            Err(_) => Err(Error::Memory),
-        }
+        sealed_leaves(self.alloc, &self.merkle, &self.hasher, items)
     }
 
     /// This item alone, as a copy.

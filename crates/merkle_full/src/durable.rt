@@ -20,6 +20,13 @@ impl<F: Family, D: Digest> Merkle<F, D> {
     ghost use Rattle.merkle_full.specs.Full.{Full, Rests, IsSeated};
     ghost use Rattle.merkle_full.specs.Lists.{IsFullOf};
 
+    /// Whether it keeps a failed sync. `sync`, `start_sync`, `prune` and `prune_all` refuse then.
+    pub fn keeps_failure(&self) -> bool
+        ensures { result ≡ self.now.log.failed }
+    {
+        self.nodes.keeps_failure()
+    }
+
     /// Appends the nodes that the log lacks, and then makes the log durable. Where a failed sync is kept it refuses with
     /// `Volume`, and writes nothing. Else a held tree is refused by the outside alone.
     pub fn sync<V: Volume>(self, vol: &mut V) -> Result<Self, Error<F>>

@@ -72,6 +72,7 @@ impl<F: Family, D: Digest> Recovery<F, D> {
             TreeStands F.shape h D.spelling all durable top ((V.state vol.old).log self.log.name) self.read →
             length all ≤ 2 ^ 62 → AreDigests F.shape h (D.Read.admits tt) all → IsOf F.shape h (take self.tree.leaves all) self.tree →
             IsFullOf F.shape h D.spelling (D.Read.admits tt) (take self.tree.leaves all) t (present (V.state vol.new))) }
+        ensures fresh { IfOk result (λ t. t.log.failed ≡ false) }
         ensures durable { OnOk result (V.tells → IsDurable self.log (V.state vol.new)) }
         ensures outside { V.tells → IsPreparedIn self (V.state vol.old) → IfErr result IsOutside }
         ensures names { V.tells → NamesCall (log_and_map self.log.name self.metadata) (V.state vol.old) (V.state vol.new) }

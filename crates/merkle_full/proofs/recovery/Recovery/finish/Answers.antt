@@ -1,4 +1,4 @@
-use Rattle.std.proofs.Common.{◌≡◌, ℕ, List, Ok, Err, refl, take, drop, subst, sym, ap}
+use Rattle.std.proofs.Common.{◌≡◌, ◌∙◌, ℕ, List, Ok, Err, refl, take, drop, subst, sym, ap}
 use Rattle.std.proofs.lemmas.List.{take-append-drop}
 use Rattle.journal_base.specs.View.{View}
 use Rattle.tree_store.specs.Stored.{TreeStands}
@@ -110,3 +110,6 @@ pub returns-clause-writes : goal.returns-clause-writes
 returns-clause-writes g c =
     let did = c.in_ok-settled.ensures {u = tt} in
     writes_joins g.V.Volume.tells tree.Volume tree.Volume tree.Volume (g.V.Volume.state c.args.vol.now) (g.V.Volume.state c.settle.new.vol) (g.V.Volume.state c.sync.new.vol) c.in_ok-settled.settled (Ok c.in_ok-opened.opened) (Ok c.in_ok-opened.opened) did.writes ((c.in_ok-opened.ensures {u = tt}).writes did.failed) (λ is. is) (λ k. k)
+
+pub returns-clause-fresh : goal.returns-clause-fresh
+returns-clause-fresh g c = ap (λ (v : View _). v.failed) (c.in_ok-opened.ensures {u = tt}).same.log ∙ (c.in_ok-settled.ensures {u = tt}).failed

@@ -1,37 +1,34 @@
 use Rattle.std.proofs.Common.{◌≡◌, ℕ, List, ◌++◌, length, map, sym, ◌∙◌, ap, subst, arith, length-append}
 use Rattle.std.proofs.lemmas.List.{length-map}
 use Rattle.tree_core.specs.Batches.{Unsealed, IsUnsealedOf, IsSealedOf, leaf_count}
-use Rattle.tree_core.specs.Tree.{IsOf}
 use Rattle.auth_journal.specs.Batched.{leaves_from}
-use Rattle.auth_journal.specs.Joined.{Joined, leaves_of}
+use Rattle.auth_journal.specs.Joined.{leaves_of}
 use Rattle.auth_journal.proofs.BatchLemmas.{added}
 use Rattle.auth_journal.proofs.LeafLemmas.{length-leaves_of, length-leaves_from, leaves_more}
-use Rattle.auth_journal.proofs.journal.Journal.leaf_batch.Goals as goal
+use Rattle.auth_journal.proofs.leaves.sealed_leaves.Goals as goal
 
 pub returns-in-Ok-merkleize-clause-leaves : goal.returns-in-Ok-merkleize-clause-leaves
 returns-in-Ok-merkleize-clause-leaves g c =
     let s = g.F.Family.shape in
     let h = g.H.Hasher.hash in
-    let elements = map g.C.Item.Spelled.spelling c.args.items.now in
+    let elements = map g.T.Spelled.spelling c.args.items.now in
     let b = c.in-Ok.batch in
     let begun = (c.in-Ok.ensures {u = tt}).begins in
     let ds = leaves_from s h (leaf_count b) elements in
     let put = ap leaf_count (c.in_ok-add_leaves.ensures {u = tt}).leaves in
     let sealed = (c.in-Ok-merkleize.ensures {u = tt}).sealed.leaves in
-    let here = ap (λ (j : Joined g.row.H-Digest.Denot g.row.C-Item-Cfg.Denot). j.tree.tree.leaves) c.self.view_is in
-    omega (arith, sealed, put, length-append b.digests ds, ap length begun.digests, begun.base, length-leaves_from s h (leaf_count b) elements, length-map c.args.items.now g.C.Item.Spelled.spelling, here)
+    omega (arith, sealed, put, length-append b.digests ds, ap length begun.digests, begun.base, length-leaves_from s h (leaf_count b) elements, length-map c.args.items.now g.T.Spelled.spelling)
 
 pub returns-in-Ok-merkleize-clause-batch : goal.returns-in-Ok-merkleize-clause-batch
-returns-in-Ok-merkleize-clause-batch g c list image joined =
+returns-in-Ok-merkleize-clause-batch g c list of =
     let s = g.F.Family.shape in
     let h = g.H.Hasher.hash in
-    let spelling = g.C.Item.Spelled.spelling in
+    let spelling = g.T.Spelled.spelling in
     let all = leaves_of s h spelling list in
     let b = c.in-Ok.batch in
     let begun = (c.in-Ok.ensures {u = tt}).begins in
     let ds = leaves_from s h (leaf_count b) (map spelling c.args.items.now) in
     let put = (c.in_ok-add_leaves.ensures {u = tt}).leaves in
-    let of : IsOf s h all c.self.inside.merkle.tree = subst (λ (j : Joined g.row.H-Digest.Denot g.row.C-Item-Cfg.Denot). IsOf s h all j.tree.tree) (sym c.self.view_is) joined.tree.tree in
     let start = (c.in-Ok.ensures {u = tt}).batch h all of in
     let unsealed : IsUnsealedOf s h all c.add_leaves.new.batch = subst (λ (u : Unsealed g.row.H-Digest.Denot). IsUnsealedOf s h all u) (sym put) (added s h all b ds start) in
     let none = ap length begun.digests in

@@ -3,7 +3,7 @@ use Rattle.std.proofs.lemmas.Option.{slice_get_read}
 use Rattle.tree_shape.specs.Slow.{leaf}
 use Rattle.tree_core.specs.Batches.{leaf_count, with_digests}
 use Rattle.auth_journal.proofs.BatchLemmas.{added_next}
-use Rattle.auth_journal.proofs.append.add_leaves.Goals as goal
+use Rattle.auth_journal.proofs.leaves.add_leaves.Goals as goal
 
 pub loop-i-preserved : goal.loop-i-preserved
 loop-i-preserved g c =

@@ -1,7 +1,7 @@
 use Rattle.std.proofs.Common.{◌≡◌, map, take}
 use Rattle.tree_core.specs.Batches.{leaf_count, with_digests}
 use Rattle.auth_journal.specs.Batched.{leaves_from}
-use Rattle.auth_journal.proofs.append.add_leaves.Given as goal
+use Rattle.auth_journal.proofs.leaves.add_leaves.Given as goal
 
 abbrev pub invariant-loop-i : goal.invariant-loop-i
 invariant-loop-i g l =

@@ -1,0 +1,72 @@
+-- A journal that is being opened, and why it isn't.
+use Rattle.std.specs.Prelude.{◌≡◌, ◌≢◌, ◌⊎◌, ℕ, ◌^◌, ◌<◌, ◌≤◌, List, Option, Some, Bool, false}
+use Rattle.volume_base.specs.Log.{Log}
+use Rattle.volume_base.specs.Volume.{State, Map}
+use Rattle.volume_base.specs.declared.error.JournalError.{JournalError}
+use Rattle.volume_base.specs.declared.error.JournalError.TheVariants.{ItemPruned}
+use Rattle.journal_base.specs.Items.{Items}
+use Rattle.journal_base.specs.View.{View, IsHeld, SameButBounds}
+use Rattle.tree_shape.specs.declared.bagging.Bagging.{Bagging}
+use Rattle.tree_shape.specs.Shape.{Shape}
+use Rattle.tree_store.specs.declared.error.Error as tree_error
+use Rattle.tree_store.specs.declared.error.Error.TheVariants.{LocationOverflow}
+use Rattle.merkle_full.specs.Preparing.{Prepared, Opens, NotPrepared, IsPreparedIn, cap_of}
+use Rattle.auth_journal.specs.Aligning.{NotAligned}
+use Rattle.auth_journal.specs.Errors.{from_journal, from_tree}
+use Rattle.auth_journal.specs.Joined.{Joined}
+use Rattle.auth_journal.specs.Searching.{EndsAt, NotFound}
+use Rattle.auth_journal.specs.declared.error.Error.{Error}
+use Rattle.auth_journal.specs.declared.error.Error.TheVariants.{Merkle, Journal}
+
+-- What stands ready to be opened: the log, seen to its end; the end at which it is opened; the tree; and how its peaks are folded.
+pub record Readied (D Codec : Type 0) : Type 0 where
+  pub items : View Codec
+  pub end : ℕ
+  pub tree : Prepared D
+  pub bagging : Bagging
+
+-- The names of the two logs differ, the log keeps no failure, the end is at or past its start, and the tree ends there too.
+pub record IsSoundReady {D Codec : Type 0} (r : Readied D Codec) : Type 0 where
+  pub apart : r.items.name ≢ r.tree.log.name
+  pub kept : r.items.failed ≡ false
+  pub reached : r.items.start ≤ r.end
+  pub few : r.end ≤ 2 ^ 62
+  pub low : r.items.start ≤ r.tree.tree.leaves
+
+-- The volume holds the logs and the map as it has them, the log reaches the end, and the tree ends at or before it.
+pub record IsReadyIn {D Codec : Type 0} (r : Readied D Codec) (state : State) : Type 0 where
+  pub items : IsHeld r.items state
+  pub within : r.end ≤ r.items.end
+  pub tree : IsPreparedIn r.tree state
+  pub high : r.tree.tree.leaves ≤ r.end
+
+-- Of a map and a node log a tree of so many leaves is opened under a cap, pruned at so many.
+pub record OpensAt {D : Type 0} (F : Type 0) (spelling : D → List ℕ) (admits : D → Type 0) (s : Shape) (m : Map) (log : Log) (cap pruned leaves : ℕ) : Type 0 where
+  pub boundary : ℕ
+  pub complete : ℕ
+  pub opens : Opens F spelling admits s m log cap boundary complete pruned leaves
+
+-- Why none stands ready: no end is found; or it is above the greatest number of leaves; or the tree isn't prepared under it; or the tree
+-- ends below the log's start.
+abbrev pub NotReady : {F D A : Type 0} → (D → List ℕ) → (D → Type 0) → Shape → Map → Log → Items A → (A → Bool → Type 0) → Option ℕ → Error F → Type 0
+NotReady {F} spelling admits s m log items says cap e =
+    ((d : JournalError) × NotFound items says cap d × (e ≡ from_journal d))
+    ⊎ ((end : ℕ) × EndsAt items says cap end × (((2 ^ 62 < end) × (e ≡ Merkle (LocationOverflow end)))
+    ⊎ (((d : tree_error.Error F) × NotPrepared spelling admits s m log (cap_of (Some end)) d × (e ≡ from_tree d))
+    ⊎ ((pruned leaves : ℕ) × OpensAt F spelling admits s m log (cap_of (Some end)) pruned leaves × (leaves < items.log.start) × (e ≡ Journal (ItemPruned leaves))))))
+
+-- The journal is the one that stood ready: it has its log and its node log but for the bounds, its map, its boundary, and how peaks are
+-- folded; and it keeps no failure.
+pub record IsOpenedFrom {D Codec : Type 0} (r : Readied D Codec) (j : Joined D Codec) : Type 0 where
+  pub items : SameButBounds r.items j.items
+  pub log : SameButBounds r.tree.log j.tree.log
+  pub boundary : j.tree.boundary ≡ r.tree.pruned
+  pub metadata : j.tree.metadata ≡ r.tree.metadata
+  pub bagging : j.bagging ≡ r.bagging
+  pub failed : j.failed ≡ false
+
+-- Why none is opened: none stands ready; or the first item behind the tree that can't be read says why.
+abbrev pub NotOpened : {F D A : Type 0} → Type 0 → (D → List ℕ) → (D → Type 0) → Shape → Map → Log → Items A → (A → Bool → Type 0) → Option ℕ → Error F → Type 0
+NotOpened {F} tells spelling admits s m log items says cap e =
+    NotReady spelling admits s m log items says cap e
+    ⊎ ((end pruned leaves : ℕ) × EndsAt items says cap end × OpensAt F spelling admits s m log (cap_of (Some end)) pruned leaves × NotAligned tells items leaves end e)
