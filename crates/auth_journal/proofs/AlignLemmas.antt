@@ -255,3 +255,24 @@ volume_not_memory d volume memory = cc
 pub memory_only : {F T : Type 0} (result : Result T (Error F)) (e : Error F) → IsErrAnd result (λ d. d ≡ e) → e ≡ joined.Memory → IsErrOf result joined.Volume → ⊥
 memory_only (Ok x) e is memory at = absurd cc
 memory_only (Err d) e is memory at = let same : d ≡ joined.Volume = cc in volume_not_memory d same (is ∙ memory)
+
+-- the last call failed behind others
+pub changes_same : {F S T : Type 0} (tells : Type 0) (a b c : State) (e : Error F) (result : Result T (Error F)) → IsErrAnd result (λ d. d ≡ e) → Went tells a b → Changes {T = S} tells joined.Volume b c (Err e) → Changes tells joined.Volume a c result
+changes_same tells a b c e (Ok x) is went last = absurd is
+changes_same {F = F} {S = S} tells a b c e (Err d) is went last =
+    let below : Result S (Error F) = Err e in
+    changes_joins tells joined.Volume joined.Volume a b c below (Err d) went last (λ at. let same : d ≡ joined.Volume = cc in ap Err (sym is ∙ same)) tt
+
+-- another value is answered behind calls
+pub changes_ok : {S T D E : Type 0} (tells : Type 0) (last : D) (fault : E) (a b c : State) (x : S) (y : T) → Went tells a b → Changes tells last b c (Ok x) → Changes tells fault a c (Ok y)
+changes_ok tells last fault a b c x y went did = changes_joins tells last fault a b c (Ok x) (Ok y) went did (λ is. absurd cc) did.kept
+
+not_volume : {F : Type 0} (d : JournalError) (e : Error F) → e ≡ joined.Journal d → e ≡ joined.Volume → ⊥
+not_volume d e is volume = cc
+
+-- or a refusal under the log
+pub changes_named : {F S T D : Type 0} (tells : Type 0) (last : D) (a b c : State) (x : S) (d : JournalError) → Went tells a b → Changes tells last b c (Ok x) → Changes {T = T} {E = Error F} tells joined.Volume a c (Err (joined.Journal d))
+changes_named {F = F} {T = T} tells last a b c x d went did =
+    let e : Error F = joined.Journal d in
+    let result : Result T (Error F) = Err e in
+    changes_joins tells last joined.Volume a b c (Ok x) result went did (λ is. let same : e ≡ joined.Volume = cc in absurd (not_volume d e refl same)) tt

@@ -1,34 +1,37 @@
 -- A journal that is being opened.
-use Rattle.std.proofs.Common.{◌≡◌, ⊎_elim, inl, inr, ℕ, zero, suc, ◌+◌, ◌-◌, ◌≤◌, max, List, [], ◌∷◌, length, map, take, Ok, Err, refl, sym, ◌∙◌, ap, subst, arith}
+use Rattle.std.proofs.Common.{◌≡◌, ◌⊎◌, ⊎_elim, inl, inr, ℕ, zero, suc, ◌+◌, ◌-◌, ◌<◌, ◌≤◌, max, min, List, [], ◌∷◌, length, map, take, Ok, Err, refl, sym, ◌∙◌, ap, subst, arith}
 use Rattle.std.specs.List.{enumerate_from, take-map}
 use Rattle.std.proofs.lemmas.List.{take_all, length-take}
 use Rattle.tree_shape.specs.Hashing.{Hashing}
 use Rattle.tree_shape.specs.Shape.{Shape}
 use Rattle.tree_shape.specs.Slow.{leaf, leaf_digests}
-use Rattle.volume_base.specs.Log.{Log, end_of, cut_to, IsItemAt}
+use Rattle.volume_base.specs.Log.{Log, end_of, cut_to, IsItemAt, Shrinks}
 use Rattle.volume_base.specs.declared.error.JournalError.{JournalError}
 use Rattle.volume_base.specs.declared.error.JournalError.TheVariants as journal
 use Rattle.volume_base.specs.Moments.{present, LogKeeps}
 use Rattle.volume_base.specs.Names.{Names, log_alone, log_and_map, two_logs_and_map, NamesCall, IsNoneOf}
 use Rattle.volume_base.proofs.MomentLemmas.{past_joins}
-use Rattle.std.proofs.lemmas.Bool.{cases_lt}
-use Rattle.volume_base.specs.Volume.{State}
-use Rattle.std.specs.Prelude.{Result, IfErr}
+use Rattle.std.proofs.lemmas.Bool.{cases_lt, ltb-true}
+use Rattle.volume_base.specs.Volume.{State, LogMoves, Follows}
+use Rattle.std.specs.Prelude.{Result, IfErr, Bool, true, false, ◌&&◌, nat_lt, if◌then◌else◌}
 use Rattle.std.specs.Result.{IsErrAnd}
-use Rattle.journal_base.specs.Answers.{IsOfStart, IsOfVolume}
-use Rattle.journal_base.specs.Items.{Items, items_of, Spells}
+use Rattle.journal_base.specs.Answers.{IsOfStart, IsOfVolume, IsOfRead}
+use Rattle.journal_base.specs.Items.{Items, items_of, Spells, IsCorrupt}
 use Rattle.journal_base.specs.Reads.{AreItemsAt}
 use Rattle.journal_base.specs.View.{View, log_of, IsHeld, SameButBounds}
 use Rattle.merkle_full.specs.Full.{Full}
 use Rattle.merkle_full.specs.Lists.{IsFullOf}
-use Rattle.merkle_full.specs.Preparing.{Prepared, IsPreparedIn}
+use Rattle.merkle_full.specs.Preparing.{Prepared, IsPreparedIn, leaves_reached}
+use Rattle.tree_store.specs.Stored.{size}
 use Rattle.merkle_full.proofs.ListLemmas.{taken}
 use Rattle.merkle_full.proofs.SettleLemmas.{end_cut}
 use Rattle.auth_journal.specs.Aligning.{NotAligned}
 use Rattle.auth_journal.specs.Errors.{from_journal, IsOutside}
-use Rattle.auth_journal.specs.Opening.{Readied, IsReadyIn}
+use Rattle.auth_journal.specs.Opening.{Readied, IsSoundReady, IsReadyIn}
 use Rattle.auth_journal.specs.Reading.{IsUnreadAt, IsFirstUnread}
+use Rattle.auth_journal.specs.Searching.{IsUnreadWithin}
 use Rattle.auth_journal.specs.declared.error.Error.{Error}
+use Rattle.auth_journal.specs.declared.error.Error.TheVariants as joined
 use Rattle.auth_journal.proofs.AlignLemmas.{outside_from}
 use Rattle.auth_journal.specs.Joined.{Joined, IsJoinedOf, leaves_of}
 use Rattle.auth_journal.proofs.ReadingLemmas.{run_end}
@@ -161,18 +164,18 @@ seen_held first v a b same logs start end =
 -- ---- what is opened
 
 pub finish_joined : {D Codec Item : Type 0} (s : Shape) (h : Hashing D) (digest : D → List ℕ) (admits : D → Type 0) (spelling : Item → List ℕ) (list : List Item) (r : Readied D Codec) (j : Joined D Codec) (opened : Full D) (a b c d : State)
-    → IsReadyIn r a → Spells spelling list (log_of r.items a) → SameButBounds r.items j.items → IsHeld j.items b → Spells spelling (take r.end list) (log_of r.items b)
+    → IsSoundReady r → IsReadyIn r a → Spells spelling list (log_of r.items a) → SameButBounds r.items j.items → IsHeld j.items b → Spells spelling (take r.end list) (log_of r.items b)
     → c.log j.items.name ≡ b.log j.items.name → d.log j.items.name ≡ c.log j.items.name
     → opened.tree.leaves ≡ r.tree.tree.leaves → j.tree.tree.leaves ≡ max opened.tree.leaves r.end → IsFullOf s h digest admits (take r.tree.tree.leaves (leaves_of s h spelling list)) opened (present c)
     → ((front : List Item) → Spells spelling front (log_of j.items c) → r.end ≤ length front → IsFullOf s h digest admits (leaves_of s h spelling (take opened.tree.leaves front)) opened (present c)
     → IsFullOf s h digest admits (leaves_of s h spelling (take j.tree.tree.leaves front)) j.tree (present d))
     → IsJoinedOf s h digest admits spelling (take r.end list) j (present d)
-finish_joined {D = D} {Item = Item} s h digest admits spelling list r j opened a b c d ready run same held cut second third leaves caught full goes_on =
+finish_joined {D = D} {Item = Item} s h digest admits spelling list r j opened a b c d sound ready run same held cut second third leaves caught full goes_on =
     let front = take r.end list in
     let name : j.items.name ≡ r.items.name = ap (λ v. v.name) same in
     let ends = run_end spelling list (log_of r.items a) run in
     let cuts = length-take r.end list in
-    let few : r.end ≤ length front = omega (arith, cuts, ends, ready.within, ready.items.end_is) in
+    let few : r.end ≤ length front = omega (arith, cuts, ends, sound.within, ready.items.end_is) in
     let here : Spells spelling front (log_of j.items b) = subst (λ n. Spells spelling front (b.log n)) (sym name) cut in
     let there : Spells spelling front (log_of j.items c) = subst (λ (l : Log). Spells spelling front l) (sym second) here in
     let is : take r.tree.tree.leaves (leaves_of s h spelling list) ≡ leaves_of s h spelling (take opened.tree.leaves front) =
@@ -180,3 +183,40 @@ finish_joined {D = D} {Item = Item} s h digest admits spelling list r j opened a
     ∙ ap (leaves_of s h spelling) (sym (take_twice r.tree.tree.leaves r.end list ready.high) ∙ ap (λ n. take n front) (sym leaves)) in
     let whole = goes_on front there few (subst (λ (all : List D). IsFullOf s h digest admits all opened (present c)) is full) in
     joined_here s h digest admits spelling front j.tree.tree.leaves j b d here held (third ∙ second) (omega (arith, cuts, caught)) whole
+
+-- an image of a log that is cut loses at most what is behind the end
+pub keeps_cut : (name : List ℕ) (log : Log) (end : ℕ) (a b : State) → end ≤ end_of log → LogMoves name (Shrinks (min end (end_of log))) a b → LogKeeps name (Follows (a.log_left a.clock name) (Shrinks end)) a b
+keeps_cut name log end a b high moves =
+    let same : min end (end_of log) ≡ end = omega (arith, high) in
+    record { past = moves.past; during = λ t image lo hi left. subst (λ n. Follows (a.log_left a.clock name) (Shrinks n) image) same (moves.this t image lo hi left) }
+
+-- ---- what stands ready
+
+-- a tree has no more leaves than the cap
+pub reached_within : (s : Shape) (cap end n : ℕ) → n ≤ cap → leaves_reached s cap end n ≤ cap
+reached_within s cap end n few = by (nat_lt n cap) (nat_lt (size s n) end) (λ is. ltb-true n cap is)
+  where
+    by : (one two : Bool) → (one ≡ true → n < cap) → (if one && two then n + 1 else n) ≤ cap
+    by true true below = let lt = below refl in omega (arith, lt)
+    by true false below = few
+    by false two below = few
+
+-- why a read between the bounds is refused
+pub read_refused : {F A T : Type 0} (items : Items A) (start end top p : ℕ) (e : JournalError) (result : Result T (Error F)) → IsErrAnd result (λ d. d ≡ from_journal e) → start ≡ items.log.start → end ≤ top → p < end
+    → ((q : ℕ) → e ≡ journal.ItemPruned q → (q ≡ p) × (p < start)) → ((q : ℕ) → e ≡ journal.ItemOutOfRange q → (q ≡ p) × (top ≤ p))
+    → ((q : ℕ) → e ≡ journal.Corruption q → (q ≡ p) × (start ≤ p) × IsCorrupt items p) → IsOfRead e
+    → IfErr result (λ d. IsOutside d ⊎ ((cause : JournalError) × IsUnreadWithin items end p cause × (d ≡ joined.Journal cause)))
+read_refused items start end top p e (Ok x) is start_is within below pruned past corrupt of = absurd is
+read_refused {F = F} items start end top p e (Err d) is start_is within below pruned past corrupt of = by e is pruned past corrupt of
+  where
+    by : (e : JournalError) → d ≡ from_journal e → ((q : ℕ) → e ≡ journal.ItemPruned q → (q ≡ p) × (p < start)) → ((q : ℕ) → e ≡ journal.ItemOutOfRange q → (q ≡ p) × (top ≤ p))
+        → ((q : ℕ) → e ≡ journal.Corruption q → (q ≡ p) × (start ≤ p) × IsCorrupt items p) → IsOfRead e
+        → IsOutside d ⊎ ((cause : JournalError) × IsUnreadWithin items end p cause × (d ≡ joined.Journal cause))
+    by journal.Volume is pruned past corrupt of = inl (subst IsOutside (sym is) tt)
+    by journal.Memory is pruned past corrupt of = inl (subst IsOutside (sym is) tt)
+    by (journal.ItemPruned q) is pruned past corrupt of = let y = pruned q refl in inr (journal.ItemPruned q, inl (omega (arith, y.1, start_is), ap journal.ItemPruned y.0), is)
+    by (journal.ItemOutOfRange q) is pruned past corrupt of = let y = past q refl in absurd (omega (arith, y.1, within, below))
+    by (journal.Corruption q) is pruned past corrupt of = let y = corrupt q refl in inr (journal.Corruption q, inr (inr (omega (arith, y.1, start_is), below, y.2, ap journal.Corruption y.0)), is)
+    by journal.SizeOverflow is pruned past corrupt of = absurd cc
+    by journal.EmptyAppend is pruned past corrupt of = absurd cc
+    by (journal.Tree cause) is pruned past corrupt of = absurd cc

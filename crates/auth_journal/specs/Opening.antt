@@ -25,18 +25,18 @@ pub record Readied (D Codec : Type 0) : Type 0 where
   pub tree : Prepared D
   pub bagging : Bagging
 
--- The names of the two logs differ, the log keeps no failure, the end is at or past its start, and the tree ends there too.
+-- The names of the two logs differ, the log keeps no failure, the end is between its bounds, and the tree ends at or past its start.
 pub record IsSoundReady {D Codec : Type 0} (r : Readied D Codec) : Type 0 where
   pub apart : r.items.name ≢ r.tree.log.name
   pub kept : r.items.failed ≡ false
   pub reached : r.items.start ≤ r.end
+  pub within : r.end ≤ r.items.end
   pub few : r.end ≤ 2 ^ 62
   pub low : r.items.start ≤ r.tree.tree.leaves
 
--- The volume holds the logs and the map as it has them, the log reaches the end, and the tree ends at or before it.
+-- The volume holds the logs and the map as it has them, and the tree ends at or before the end.
 pub record IsReadyIn {D Codec : Type 0} (r : Readied D Codec) (state : State) : Type 0 where
   pub items : IsHeld r.items state
-  pub within : r.end ≤ r.items.end
   pub tree : IsPreparedIn r.tree state
   pub high : r.tree.tree.leaves ≤ r.end
 

@@ -1,0 +1,412 @@
+use Rattle.std.proofs.Common.{◌≡◌, inl, inr, Ok, Some, take, refl, sym, ◌∙◌, ap, subst}
+use Rattle.std.specs.Fn.{FnReturnsAt}
+use Rattle.std.specs.Prelude.{string_bytes}
+use Rattle.volume_base.specs.Log.{Log, cut_to}
+use Rattle.volume_base.specs.Moments.{present}
+use Rattle.volume_base.specs.Names.{two_logs_and_map, NamesCall}
+use Rattle.volume_base.specs.Volume.{Map, OnlyLeft}
+use Rattle.volume_base.proofs.CallLemmas.{names_call_log, names_call_joins}
+use Rattle.volume_base.proofs.JoinLemmas.{went_of, changes_joins}
+use Rattle.journal_base.specs.Items.{items_of, Spells}
+use Rattle.journal_base.specs.View.{View, at_bounds}
+use Rattle.tree_store.specs.Stored.{TreeStands}
+use Rattle.merkle_full.specs.Preparing.{cap_of}
+use Rattle.merkle_full.proofs.GrownLemmas.{err_same}
+use Rattle.merkle_full.proofs.PrepareLemmas.{kept_standing}
+use Rattle.auth_journal.specs.Aligning.{NotAligned}
+use Rattle.auth_journal.specs.Joined.{IsJoinedOf, leaves_of}
+use Rattle.auth_journal.specs.Opening.{OpensAt}
+use Rattle.auth_journal.specs.Searching.{EndsAt}
+use Rattle.auth_journal.specs.declared.error.Error.TheVariants as joined
+use Rattle.auth_journal.proofs.AlignLemmas.{changes_same}
+use Rattle.auth_journal.proofs.OpeningLemmas.{seen_items}
+use Rattle.auth_journal.proofs.journal.Journal.open_under.Goals as goal
+
+pub returns-clause-named : goal.returns-clause-named
+returns-clause-named g c =
+    let tells = g.V.Volume.tells in
+    let s = g.F.Family.shape in
+    let h = g.H.Hasher.hash in
+    let digest = g.H.Digest.Spelled.spelling in
+    let admitted = g.H.Digest.Read.admits tt in
+    let spelling = g.C.Item.Spelled.spelling in
+    let admits = g.C.Item.Read.admits in
+    let says = FnReturnsAt g.P.Fn c.args.predicate in
+    let cap = c.args.max_size in
+    let s0 = g.V.Volume.state c.args.vol.now in
+    let s1 = g.V.Volume.state c.prepare.new.vol in
+    let first = g.C.Backing.config c.args.journal_cfg in
+    let nodes = string_bytes c.args.merkle_cfg.nodes in
+    let metadata = string_bytes c.args.merkle_cfg.metadata in
+    let r = c.in_ok-recovery.recovery in
+    let did = c.in_ok-recovery.ensures {u = tt} in
+    let name : r.items.name ≡ first.name = ap (λ (v : View g.row.C-Item-Cfg.Denot). v.name) did.named.0 in
+    let s2 = g.V.Volume.state c.finish.new.vol in
+    let t = c.in_ok-opened.opened in
+    let did_finish = c.in_ok-opened.ensures {u = tt} in
+    let from = did_finish.from in
+    (from.items ∙ ap (λ (v : View g.row.C-Item-Cfg.Denot). at_bounds v t.items.start t.items.end) did.named.0, from.bagging ∙ did.named.2, from.failed)
+
+pub returns-clause-found : goal.returns-clause-found
+returns-clause-found g c told =
+    let tells = g.V.Volume.tells in
+    let s = g.F.Family.shape in
+    let h = g.H.Hasher.hash in
+    let digest = g.H.Digest.Spelled.spelling in
+    let admitted = g.H.Digest.Read.admits tt in
+    let spelling = g.C.Item.Spelled.spelling in
+    let admits = g.C.Item.Read.admits in
+    let says = FnReturnsAt g.P.Fn c.args.predicate in
+    let cap = c.args.max_size in
+    let s0 = g.V.Volume.state c.args.vol.now in
+    let s1 = g.V.Volume.state c.prepare.new.vol in
+    let first = g.C.Backing.config c.args.journal_cfg in
+    let nodes = string_bytes c.args.merkle_cfg.nodes in
+    let metadata = string_bytes c.args.merkle_cfg.metadata in
+    let r = c.in_ok-recovery.recovery in
+    let did = c.in_ok-recovery.ensures {u = tt} in
+    let name : r.items.name ≡ first.name = ap (λ (v : View g.row.C-Item-Cfg.Denot). v.name) did.named.0 in
+    let s2 = g.V.Volume.state c.finish.new.vol in
+    let t = c.in_ok-opened.opened in
+    let did_finish = c.in_ok-opened.ensures {u = tt} in
+    let from = did_finish.from in
+    let within = did.within told in
+    let end : t.items.end ≡ r.end = (did_finish.reached told within).0 in
+    subst (λ n. EndsAt (items_of spelling admits first s0) says cap n) (sym end) (did.found told)
+
+pub returns-clause-cut : goal.returns-clause-cut
+returns-clause-cut g c told =
+    let tells = g.V.Volume.tells in
+    let s = g.F.Family.shape in
+    let h = g.H.Hasher.hash in
+    let digest = g.H.Digest.Spelled.spelling in
+    let admitted = g.H.Digest.Read.admits tt in
+    let spelling = g.C.Item.Spelled.spelling in
+    let admits = g.C.Item.Read.admits in
+    let says = FnReturnsAt g.P.Fn c.args.predicate in
+    let cap = c.args.max_size in
+    let s0 = g.V.Volume.state c.args.vol.now in
+    let s1 = g.V.Volume.state c.prepare.new.vol in
+    let first = g.C.Backing.config c.args.journal_cfg in
+    let nodes = string_bytes c.args.merkle_cfg.nodes in
+    let metadata = string_bytes c.args.merkle_cfg.metadata in
+    let r = c.in_ok-recovery.recovery in
+    let did = c.in_ok-recovery.ensures {u = tt} in
+    let name : r.items.name ≡ first.name = ap (λ (v : View g.row.C-Item-Cfg.Denot). v.name) did.named.0 in
+    let s2 = g.V.Volume.state c.finish.new.vol in
+    let t = c.in_ok-opened.opened in
+    let did_finish = c.in_ok-opened.ensures {u = tt} in
+    let from = did_finish.from in
+    let within = did.within told in
+    let end : t.items.end ≡ r.end = (did_finish.reached told within).0 in
+    let same : s1.log first.name ≡ s0.log first.name = (did.log told).others.logs first.name c.requires.apart in
+    let cut : s2.log first.name ≡ cut_to (s0.log first.name) t.items.end = sym (ap s2.log name) ∙ did_finish.cut told ∙ ap (λ n. cut_to (s1.log n) r.end) name ∙ ap (λ (l : Log). cut_to l r.end) same ∙ ap (λ n. cut_to (s0.log first.name) n) (sym end) in
+    (cut, did_finish.held told)
+
+pub returns-clause-opens : goal.returns-clause-opens
+returns-clause-opens g c told =
+    let tells = g.V.Volume.tells in
+    let s = g.F.Family.shape in
+    let h = g.H.Hasher.hash in
+    let digest = g.H.Digest.Spelled.spelling in
+    let admitted = g.H.Digest.Read.admits tt in
+    let spelling = g.C.Item.Spelled.spelling in
+    let admits = g.C.Item.Read.admits in
+    let says = FnReturnsAt g.P.Fn c.args.predicate in
+    let cap = c.args.max_size in
+    let s0 = g.V.Volume.state c.args.vol.now in
+    let s1 = g.V.Volume.state c.prepare.new.vol in
+    let first = g.C.Backing.config c.args.journal_cfg in
+    let nodes = string_bytes c.args.merkle_cfg.nodes in
+    let metadata = string_bytes c.args.merkle_cfg.metadata in
+    let r = c.in_ok-recovery.recovery in
+    let did = c.in_ok-recovery.ensures {u = tt} in
+    let name : r.items.name ≡ first.name = ap (λ (v : View g.row.C-Item-Cfg.Denot). v.name) did.named.0 in
+    let s2 = g.V.Volume.state c.finish.new.vol in
+    let t = c.in_ok-opened.opened in
+    let did_finish = c.in_ok-opened.ensures {u = tt} in
+    let from = did_finish.from in
+    let within = did.within told in
+    let end : t.items.end ≡ r.end = (did_finish.reached told within).0 in
+    let opens : OpensAt g.row.F.Denot digest admitted s (s0.map metadata) (s0.log nodes) (cap_of (Some r.end)) r.tree.pruned r.tree.tree.leaves = record { boundary = r.tree.boundary; complete = r.tree.complete; opens = did.opens told } in (
+      r.tree.tree.leaves,
+      subst (λ b. OpensAt g.row.F.Denot digest admitted s (s0.map metadata) (s0.log nodes) (cap_of (Some t.items.end)) b r.tree.tree.leaves) (sym from.boundary)
+          (subst (λ n. OpensAt g.row.F.Denot digest admitted s (s0.map metadata) (s0.log nodes) (cap_of (Some n)) r.tree.pruned r.tree.tree.leaves) (sym end) opens),
+    )
+
+pub returns-clause-whole : goal.returns-clause-whole
+returns-clause-whole g c told =
+    let tells = g.V.Volume.tells in
+    let s = g.F.Family.shape in
+    let h = g.H.Hasher.hash in
+    let digest = g.H.Digest.Spelled.spelling in
+    let admitted = g.H.Digest.Read.admits tt in
+    let spelling = g.C.Item.Spelled.spelling in
+    let admits = g.C.Item.Read.admits in
+    let says = FnReturnsAt g.P.Fn c.args.predicate in
+    let cap = c.args.max_size in
+    let s0 = g.V.Volume.state c.args.vol.now in
+    let s1 = g.V.Volume.state c.prepare.new.vol in
+    let first = g.C.Backing.config c.args.journal_cfg in
+    let nodes = string_bytes c.args.merkle_cfg.nodes in
+    let metadata = string_bytes c.args.merkle_cfg.metadata in
+    let r = c.in_ok-recovery.recovery in
+    let did = c.in_ok-recovery.ensures {u = tt} in
+    let name : r.items.name ≡ first.name = ap (λ (v : View g.row.C-Item-Cfg.Denot). v.name) did.named.0 in
+    let s2 = g.V.Volume.state c.finish.new.vol in
+    let t = c.in_ok-opened.opened in
+    let did_finish = c.in_ok-opened.ensures {u = tt} in
+    let from = did_finish.from in
+    let within = did.within told in
+    let ends = did_finish.reached told within in
+    ends.1 ∙ sym ends.0
+
+pub returns-clause-seated : goal.returns-clause-seated
+returns-clause-seated g c told =
+    let tells = g.V.Volume.tells in
+    let s = g.F.Family.shape in
+    let h = g.H.Hasher.hash in
+    let digest = g.H.Digest.Spelled.spelling in
+    let admitted = g.H.Digest.Read.admits tt in
+    let spelling = g.C.Item.Spelled.spelling in
+    let admits = g.C.Item.Read.admits in
+    let says = FnReturnsAt g.P.Fn c.args.predicate in
+    let cap = c.args.max_size in
+    let s0 = g.V.Volume.state c.args.vol.now in
+    let s1 = g.V.Volume.state c.prepare.new.vol in
+    let first = g.C.Backing.config c.args.journal_cfg in
+    let nodes = string_bytes c.args.merkle_cfg.nodes in
+    let metadata = string_bytes c.args.merkle_cfg.metadata in
+    let r = c.in_ok-recovery.recovery in
+    let did = c.in_ok-recovery.ensures {u = tt} in
+    let name : r.items.name ≡ first.name = ap (λ (v : View g.row.C-Item-Cfg.Denot). v.name) did.named.0 in
+    let s2 = g.V.Volume.state c.finish.new.vol in
+    let t = c.in_ok-opened.opened in
+    let did_finish = c.in_ok-opened.ensures {u = tt} in
+    let from = did_finish.from in
+    did_finish.seated told (did.within told)
+
+pub returns-clause-joined : goal.returns-clause-joined
+returns-clause-joined g c told list durable top run long stands =
+    let tells = g.V.Volume.tells in
+    let s = g.F.Family.shape in
+    let h = g.H.Hasher.hash in
+    let digest = g.H.Digest.Spelled.spelling in
+    let admitted = g.H.Digest.Read.admits tt in
+    let spelling = g.C.Item.Spelled.spelling in
+    let admits = g.C.Item.Read.admits in
+    let says = FnReturnsAt g.P.Fn c.args.predicate in
+    let cap = c.args.max_size in
+    let s0 = g.V.Volume.state c.args.vol.now in
+    let s1 = g.V.Volume.state c.prepare.new.vol in
+    let first = g.C.Backing.config c.args.journal_cfg in
+    let nodes = string_bytes c.args.merkle_cfg.nodes in
+    let metadata = string_bytes c.args.merkle_cfg.metadata in
+    let r = c.in_ok-recovery.recovery in
+    let did = c.in_ok-recovery.ensures {u = tt} in
+    let name : r.items.name ≡ first.name = ap (λ (v : View g.row.C-Item-Cfg.Denot). v.name) did.named.0 in
+    let s2 = g.V.Volume.state c.finish.new.vol in
+    let t = c.in_ok-opened.opened in
+    let did_finish = c.in_ok-opened.ensures {u = tt} in
+    let from = did_finish.from in
+    let within = did.within told in
+    let end : t.items.end ≡ r.end = (did_finish.reached told within).0 in
+    let same : s1.log first.name ≡ s0.log first.name = (did.log told).others.logs first.name c.requires.apart in
+    let Q = TreeStands s h digest (leaves_of s h spelling list) durable top in
+    let clock = did.still told (λ stored is. kept_standing s h digest (leaves_of s h spelling list) durable top (s0.log nodes) (s0.map metadata) stored stands is) in
+    let still = did.changes.still told clock in
+    let log = ap s1.log did.named.1.nodes_is ∙ still.logs nodes in
+    let map_is = sym within.tree.read ∙ ap s1.map did.named.1.metadata_is ∙ still.maps metadata in
+    let now = subst (λ (l : Log). Q l r.tree.read) (sym log) (subst (λ (m : Map). Q (s0.log nodes) m) (sym map_is) stands) in
+    let here = subst (λ (l : Log). Spells spelling list l) (sym (ap s1.log name ∙ same)) run in
+    let whole = did_finish.joined told list durable top within here long now (did.list told list durable top stands) in
+    subst (λ n. IsJoinedOf s h digest admitted spelling (take n list) t (present s2)) (sym end) whole
+
+pub returns-clause-durable : goal.returns-clause-durable
+returns-clause-durable g c told =
+    let tells = g.V.Volume.tells in
+    let s = g.F.Family.shape in
+    let h = g.H.Hasher.hash in
+    let digest = g.H.Digest.Spelled.spelling in
+    let admitted = g.H.Digest.Read.admits tt in
+    let spelling = g.C.Item.Spelled.spelling in
+    let admits = g.C.Item.Read.admits in
+    let says = FnReturnsAt g.P.Fn c.args.predicate in
+    let cap = c.args.max_size in
+    let s0 = g.V.Volume.state c.args.vol.now in
+    let s1 = g.V.Volume.state c.prepare.new.vol in
+    let first = g.C.Backing.config c.args.journal_cfg in
+    let nodes = string_bytes c.args.merkle_cfg.nodes in
+    let metadata = string_bytes c.args.merkle_cfg.metadata in
+    let r = c.in_ok-recovery.recovery in
+    let did = c.in_ok-recovery.ensures {u = tt} in
+    let name : r.items.name ≡ first.name = ap (λ (v : View g.row.C-Item-Cfg.Denot). v.name) did.named.0 in
+    let s2 = g.V.Volume.state c.finish.new.vol in
+    let t = c.in_ok-opened.opened in
+    let did_finish = c.in_ok-opened.ensures {u = tt} in
+    let from = did_finish.from in
+    let both = did_finish.durable told in (
+      subst (λ n. OnlyLeft (s2.log_left s2.clock n) (s2.log n)) (sym (ap (λ (v : View g.row.C-Item-Cfg.Denot). v.name) from.items)) both.0,
+      subst (λ n. OnlyLeft (s2.log_left s2.clock n) (s2.log n)) (sym (ap (λ (v : View (Unit {0})). v.name) from.log)) both.1,
+    )
+
+pub returns-in_err-recovery-clause-refused : goal.returns-in_err-recovery-clause-refused
+returns-in_err-recovery-clause-refused g c told =
+    let tells = g.V.Volume.tells in
+    let s = g.F.Family.shape in
+    let h = g.H.Hasher.hash in
+    let digest = g.H.Digest.Spelled.spelling in
+    let admitted = g.H.Digest.Read.admits tt in
+    let spelling = g.C.Item.Spelled.spelling in
+    let admits = g.C.Item.Read.admits in
+    let says = FnReturnsAt g.P.Fn c.args.predicate in
+    let cap = c.args.max_size in
+    let s0 = g.V.Volume.state c.args.vol.now in
+    let s1 = g.V.Volume.state c.prepare.new.vol in
+    let first = g.C.Backing.config c.args.journal_cfg in
+    let nodes = string_bytes c.args.merkle_cfg.nodes in
+    let metadata = string_bytes c.args.merkle_cfg.metadata in
+    let e = c.in_err-recovery.field-0.0 in
+    err_same _ e _ c.from_residual.ensures.1 (inl (c.in_err-recovery.ensures.refused told))
+
+pub returns-in_err-opened-clause-refused : goal.returns-in_err-opened-clause-refused
+returns-in_err-opened-clause-refused g c told =
+    let tells = g.V.Volume.tells in
+    let s = g.F.Family.shape in
+    let h = g.H.Hasher.hash in
+    let digest = g.H.Digest.Spelled.spelling in
+    let admitted = g.H.Digest.Read.admits tt in
+    let spelling = g.C.Item.Spelled.spelling in
+    let admits = g.C.Item.Read.admits in
+    let says = FnReturnsAt g.P.Fn c.args.predicate in
+    let cap = c.args.max_size in
+    let s0 = g.V.Volume.state c.args.vol.now in
+    let s1 = g.V.Volume.state c.prepare.new.vol in
+    let first = g.C.Backing.config c.args.journal_cfg in
+    let nodes = string_bytes c.args.merkle_cfg.nodes in
+    let metadata = string_bytes c.args.merkle_cfg.metadata in
+    let r = c.in_ok-recovery.recovery in
+    let did = c.in_ok-recovery.ensures {u = tt} in
+    let name : r.items.name ≡ first.name = ap (λ (v : View g.row.C-Item-Cfg.Denot). v.name) did.named.0 in
+    let within = did.within told in
+    let same : s1.log first.name ≡ s0.log first.name = (did.log told).others.logs first.name c.requires.apart in
+    let opens : OpensAt g.row.F.Denot digest admitted s (s0.map metadata) (s0.log nodes) (cap_of (Some r.end)) r.tree.pruned r.tree.tree.leaves = record { boundary = r.tree.boundary; complete = r.tree.complete; opens = did.opens told } in
+    let e = c.in_err-opened.field-0.0 in
+    let not = seen_items (λ i. NotAligned tells i r.tree.tree.leaves r.end e) spelling admits first r.items s0 s1 did.named.0 same (c.in_err-opened.ensures.refused told within) in
+    err_same _ e _ c.from_residual-in_err-opened.ensures.1 (inr (r.end, r.tree.pruned, r.tree.tree.leaves, did.found told, opens, not))
+
+pub returns-in_err-recovery-clause-names : goal.returns-in_err-recovery-clause-names
+returns-in_err-recovery-clause-names g c told =
+    let tells = g.V.Volume.tells in
+    let s = g.F.Family.shape in
+    let h = g.H.Hasher.hash in
+    let digest = g.H.Digest.Spelled.spelling in
+    let admitted = g.H.Digest.Read.admits tt in
+    let spelling = g.C.Item.Spelled.spelling in
+    let admits = g.C.Item.Read.admits in
+    let says = FnReturnsAt g.P.Fn c.args.predicate in
+    let cap = c.args.max_size in
+    let s0 = g.V.Volume.state c.args.vol.now in
+    let s1 = g.V.Volume.state c.prepare.new.vol in
+    let first = g.C.Backing.config c.args.journal_cfg in
+    let nodes = string_bytes c.args.merkle_cfg.nodes in
+    let metadata = string_bytes c.args.merkle_cfg.metadata in
+    let names = two_logs_and_map first.name nodes metadata in
+    names_call_log names nodes _ s0 s1 (inr (inl refl)) (c.in_err-recovery.ensures.log told)
+
+pub returns-in_err-opened-clause-names : goal.returns-in_err-opened-clause-names
+returns-in_err-opened-clause-names g c told =
+    let tells = g.V.Volume.tells in
+    let s = g.F.Family.shape in
+    let h = g.H.Hasher.hash in
+    let digest = g.H.Digest.Spelled.spelling in
+    let admitted = g.H.Digest.Read.admits tt in
+    let spelling = g.C.Item.Spelled.spelling in
+    let admits = g.C.Item.Read.admits in
+    let says = FnReturnsAt g.P.Fn c.args.predicate in
+    let cap = c.args.max_size in
+    let s0 = g.V.Volume.state c.args.vol.now in
+    let s1 = g.V.Volume.state c.prepare.new.vol in
+    let first = g.C.Backing.config c.args.journal_cfg in
+    let nodes = string_bytes c.args.merkle_cfg.nodes in
+    let metadata = string_bytes c.args.merkle_cfg.metadata in
+    let r = c.in_ok-recovery.recovery in
+    let did = c.in_ok-recovery.ensures {u = tt} in
+    let name : r.items.name ≡ first.name = ap (λ (v : View g.row.C-Item-Cfg.Denot). v.name) did.named.0 in
+    let s2 = g.V.Volume.state c.finish.new.vol in
+    let names = two_logs_and_map first.name nodes metadata in
+    let call = subst (λ m. NamesCall (two_logs_and_map first.name nodes m) s1 s2) did.named.1.metadata_is (subst (λ n. NamesCall (two_logs_and_map first.name n r.tree.metadata) s1 s2) did.named.1.nodes_is (subst (λ n. NamesCall (two_logs_and_map n r.tree.log.name r.tree.metadata) s1 s2) name (c.in_err-opened.ensures.names told))) in
+    names_call_joins names s0 s1 s2 (names_call_log names nodes _ s0 s1 (inr (inl refl)) (did.log told)) call
+
+pub returns-clause-names : goal.returns-clause-names
+returns-clause-names g c told =
+    let tells = g.V.Volume.tells in
+    let s = g.F.Family.shape in
+    let h = g.H.Hasher.hash in
+    let digest = g.H.Digest.Spelled.spelling in
+    let admitted = g.H.Digest.Read.admits tt in
+    let spelling = g.C.Item.Spelled.spelling in
+    let admits = g.C.Item.Read.admits in
+    let says = FnReturnsAt g.P.Fn c.args.predicate in
+    let cap = c.args.max_size in
+    let s0 = g.V.Volume.state c.args.vol.now in
+    let s1 = g.V.Volume.state c.prepare.new.vol in
+    let first = g.C.Backing.config c.args.journal_cfg in
+    let nodes = string_bytes c.args.merkle_cfg.nodes in
+    let metadata = string_bytes c.args.merkle_cfg.metadata in
+    let r = c.in_ok-recovery.recovery in
+    let did = c.in_ok-recovery.ensures {u = tt} in
+    let name : r.items.name ≡ first.name = ap (λ (v : View g.row.C-Item-Cfg.Denot). v.name) did.named.0 in
+    let s2 = g.V.Volume.state c.finish.new.vol in
+    let t = c.in_ok-opened.opened in
+    let did_finish = c.in_ok-opened.ensures {u = tt} in
+    let from = did_finish.from in
+    let names = two_logs_and_map first.name nodes metadata in
+    let call = subst (λ m. NamesCall (two_logs_and_map first.name nodes m) s1 s2) did.named.1.metadata_is (subst (λ n. NamesCall (two_logs_and_map first.name n r.tree.metadata) s1 s2) did.named.1.nodes_is (subst (λ n. NamesCall (two_logs_and_map n r.tree.log.name r.tree.metadata) s1 s2) name (did_finish.names told))) in
+    names_call_joins names s0 s1 s2 (names_call_log names nodes _ s0 s1 (inr (inl refl)) (did.log told)) call
+
+pub returns-in_err-opened-clause-changes : goal.returns-in_err-opened-clause-changes
+returns-in_err-opened-clause-changes g c =
+    let tells = g.V.Volume.tells in
+    let s = g.F.Family.shape in
+    let h = g.H.Hasher.hash in
+    let digest = g.H.Digest.Spelled.spelling in
+    let admitted = g.H.Digest.Read.admits tt in
+    let spelling = g.C.Item.Spelled.spelling in
+    let admits = g.C.Item.Read.admits in
+    let says = FnReturnsAt g.P.Fn c.args.predicate in
+    let cap = c.args.max_size in
+    let s0 = g.V.Volume.state c.args.vol.now in
+    let s1 = g.V.Volume.state c.prepare.new.vol in
+    let first = g.C.Backing.config c.args.journal_cfg in
+    let nodes = string_bytes c.args.merkle_cfg.nodes in
+    let metadata = string_bytes c.args.merkle_cfg.metadata in
+    let r = c.in_ok-recovery.recovery in
+    let did = c.in_ok-recovery.ensures {u = tt} in
+    let name : r.items.name ≡ first.name = ap (λ (v : View g.row.C-Item-Cfg.Denot). v.name) did.named.0 in
+    changes_same tells _ _ _ c.in_err-opened.field-0.0 _ c.from_residual-in_err-opened.ensures.1 (went_of tells joined.Volume _ _ r did.changes) c.in_err-opened.ensures.changes
+
+pub returns-clause-changes : goal.returns-clause-changes
+returns-clause-changes g c =
+    let tells = g.V.Volume.tells in
+    let s = g.F.Family.shape in
+    let h = g.H.Hasher.hash in
+    let digest = g.H.Digest.Spelled.spelling in
+    let admitted = g.H.Digest.Read.admits tt in
+    let spelling = g.C.Item.Spelled.spelling in
+    let admits = g.C.Item.Read.admits in
+    let says = FnReturnsAt g.P.Fn c.args.predicate in
+    let cap = c.args.max_size in
+    let s0 = g.V.Volume.state c.args.vol.now in
+    let s1 = g.V.Volume.state c.prepare.new.vol in
+    let first = g.C.Backing.config c.args.journal_cfg in
+    let nodes = string_bytes c.args.merkle_cfg.nodes in
+    let metadata = string_bytes c.args.merkle_cfg.metadata in
+    let r = c.in_ok-recovery.recovery in
+    let did = c.in_ok-recovery.ensures {u = tt} in
+    let name : r.items.name ≡ first.name = ap (λ (v : View g.row.C-Item-Cfg.Denot). v.name) did.named.0 in
+    let s2 = g.V.Volume.state c.finish.new.vol in
+    let t = c.in_ok-opened.opened in
+    let did_finish = c.in_ok-opened.ensures {u = tt} in
+    let from = did_finish.from in
+    changes_joins tells joined.Volume joined.Volume _ _ _ (Ok t) (Ok t) (went_of tells joined.Volume _ _ r did.changes) did_finish.changes (λ is. absurd cc) did_finish.changes.kept

@@ -1,0 +1,219 @@
+//! Openings of a journal.
+use crate::{Error, Journal};
+use journal_base::Backing;
+use merkle_full::Config;
+use std::alloc::Global;
+use std::num::NonZeroU64;
+use tree_core::{Bagging, Family, Hasher};
+use volume_base::Volume;
+
+impl<F: Family, C: Backing, H: Hasher> Journal<F, C, H> {
+    ghost use Rattle.std.specs.Prelude.{◌≡◌, ◌≢◌, ◌≤◌, ◌^◌, ℕ, List, length, take, false, Some, None, string_bytes, IfOk, IfErr, OnOk};
+    ghost use Rattle.std.specs.Fn.{FnReturnsAt};
+    ghost use Rattle.journal_base.specs.Items.{items_of, Spells};
+    ghost use Rattle.journal_base.specs.View.{log_of, SameButBounds, IsHeld, IsDurable};
+    ghost use Rattle.tree_store.specs.Stored.{TreeStands};
+    ghost use Rattle.volume_base.specs.Log.{cut_to};
+    ghost use Rattle.volume_base.specs.Moments.{present};
+    ghost use Rattle.volume_base.specs.Names.{two_logs_and_map, NamesCall};
+    ghost use Rattle.volume_base.specs.Volume.{Changes};
+    ghost use Rattle.merkle_full.specs.Full.{Rests, IsSeated};
+    ghost use Rattle.merkle_full.specs.Preparing.{cap_of};
+    ghost use Rattle.auth_journal.specs.Joined.{IsJoinedOf, leaves_of};
+    ghost use Rattle.auth_journal.specs.Opening.{OpensAt, NotOpened};
+    ghost use Rattle.auth_journal.specs.Searching.{EndsAt};
+
+    /// The journal up to the last item below a cap, or any, that a predicate accepts.
+    fn open_under<V: Volume, P: Fn(&C::Item) -> bool>(
+        alloc: Global,
+        vol: &mut V,
+        merkle_cfg: Config,
+        journal_cfg: C::Config,
+        max_size: Option<u64>,
+        predicate: P,
+        bagging: Bagging,
+        apply_batch: NonZeroU64,
+    ) -> Result<Self, Error<F>>
+        requires callable { P.IsAlwaysCallable predicate }
+        requires apart { (C.config journal_cfg).name ≢ string_bytes merkle_cfg.nodes }
+        ensures named { IfOk result (λ t. SameButBounds (C.config journal_cfg) t.items × (t.bagging ≡ bagging)
+            × (t.failed ≡ false)) }
+        ensures found { let items = items_of C.Item.spelling C.Item.admits (C.config journal_cfg) (V.state vol.old) in
+            let says = FnReturnsAt P.Fn predicate in
+            IfOk result (λ t. V.tells → EndsAt items says max_size t.items.end) }
+        ensures cut { let view = C.config journal_cfg in IfOk result (λ t. V.tells →
+            (log_of view (V.state vol.new) ≡ cut_to (log_of view (V.state vol.old)) t.items.end)
+            × IsHeld t.items (V.state vol.new)) }
+        // The tree is opened under that end, and has a leaf for each item of it.
+        ensures opens { let map = (V.state vol.old).map (string_bytes merkle_cfg.metadata) in
+            let log = (V.state vol.old).log (string_bytes merkle_cfg.nodes) in
+            let admits = H.Digest.Read.admits tt in
+            IfOk result (λ t. V.tells → (leaves : ℕ) × OpensAt F H.Digest.spelling admits F.shape map log
+            (cap_of (Some t.items.end)) t.tree.boundary leaves) }
+        ensures whole { IfOk result (λ t. V.tells → t.tree.tree.leaves ≡ t.items.end) }
+        ensures rests { IfOk result (λ t. Rests F.shape t.tree) }
+        ensures seated { IfOk result (λ t. V.tells → IsSeated F.shape t.tree (present (V.state vol.new))) }
+        // For each list that the contents stood for, it is the journal of its first items.
+        ensures joined { let map = (V.state vol.old).map (string_bytes merkle_cfg.metadata) in
+            let log = (V.state vol.old).log (string_bytes merkle_cfg.nodes) in
+            IfOk result (λ t. V.tells → (list : List C.Item) (durable top : ℕ) →
+            Spells C.Item.spelling list (log_of (C.config journal_cfg) (V.state vol.old)) → length list ≤ 2 ^ 62 →
+            TreeStands F.shape H.hash H.Digest.spelling (leaves_of F.shape H.hash C.Item.spelling list)
+            durable top log map →
+            IsJoinedOf F.shape H.hash H.Digest.spelling (H.Digest.Read.admits tt) C.Item.spelling
+            (take t.items.end list) t (present (V.state vol.new))) }
+        ensures durable { IfOk result (λ t. V.tells →
+            IsDurable t.items (V.state vol.new) × IsDurable t.tree.log (V.state vol.new)) }
+        ensures refused { let items = items_of C.Item.spelling C.Item.admits (C.config journal_cfg) (V.state vol.old) in
+            let says = FnReturnsAt P.Fn predicate in
+            let map = (V.state vol.old).map (string_bytes merkle_cfg.metadata) in
+            let log = (V.state vol.old).log (string_bytes merkle_cfg.nodes) in
+            V.tells → IfErr result
+            (NotOpened V.tells H.Digest.spelling (H.Digest.Read.admits tt) F.shape map log items says max_size) }
+        ensures names { let names = two_logs_and_map (C.config journal_cfg).name (string_bytes merkle_cfg.nodes)
+            (string_bytes merkle_cfg.metadata) in V.tells → NamesCall names (V.state vol.old) (V.state vol.new) }
+        ensures changes { Changes V.tells Error.Volume (V.state vol.old) (V.state vol.new) result }
+    {
+        let recovery = Journal::prepare(
+            alloc,
+            vol,
+            merkle_cfg,
+            journal_cfg,
+            max_size,
+            predicate,
+            bagging,
+            apply_batch,
+        )?;
+        let opened = recovery.finish(vol)?;
+        Ok(opened)
+    }
+
+    /// Opens the journal up to the last item that a predicate accepts, or at 0 where none does; an empty log keeps its
+    /// position. The items that the tree lacks are read so many at a time. It refuses as `prepare`, and an item that it
+    /// can't read as `read`.
+    pub fn new<V: Volume, P: Fn(&C::Item) -> bool>(
+        alloc: Global,
+        vol: &mut V,
+        merkle_cfg: Config,
+        journal_cfg: C::Config,
+        predicate: P,
+        bagging: Bagging,
+        apply_batch: NonZeroU64,
+    ) -> Result<Self, Error<F>>
+        requires callable { P.IsAlwaysCallable predicate }
+        requires apart { (C.config journal_cfg).name ≢ string_bytes merkle_cfg.nodes }
+        ensures named { IfOk result (λ t. SameButBounds (C.config journal_cfg) t.items × (t.bagging ≡ bagging)
+            × (t.failed ≡ false)) }
+        ensures found { let items = items_of C.Item.spelling C.Item.admits (C.config journal_cfg) (V.state vol.old) in
+            let says = FnReturnsAt P.Fn predicate in
+            IfOk result (λ t. V.tells → EndsAt items says None t.items.end) }
+        ensures cut { let view = C.config journal_cfg in IfOk result (λ t. V.tells →
+            (log_of view (V.state vol.new) ≡ cut_to (log_of view (V.state vol.old)) t.items.end)
+            × IsHeld t.items (V.state vol.new)) }
+        // The tree is opened under that end, and has a leaf for each item of it.
+        ensures opens { let map = (V.state vol.old).map (string_bytes merkle_cfg.metadata) in
+            let log = (V.state vol.old).log (string_bytes merkle_cfg.nodes) in
+            let admits = H.Digest.Read.admits tt in
+            IfOk result (λ t. V.tells → (leaves : ℕ) × OpensAt F H.Digest.spelling admits F.shape map log
+            (cap_of (Some t.items.end)) t.tree.boundary leaves) }
+        ensures whole { IfOk result (λ t. V.tells → t.tree.tree.leaves ≡ t.items.end) }
+        ensures rests { IfOk result (λ t. Rests F.shape t.tree) }
+        ensures seated { IfOk result (λ t. V.tells → IsSeated F.shape t.tree (present (V.state vol.new))) }
+        // For each list that the contents stood for, it is the journal of its first items.
+        ensures joined { let map = (V.state vol.old).map (string_bytes merkle_cfg.metadata) in
+            let log = (V.state vol.old).log (string_bytes merkle_cfg.nodes) in
+            IfOk result (λ t. V.tells → (list : List C.Item) (durable top : ℕ) →
+            Spells C.Item.spelling list (log_of (C.config journal_cfg) (V.state vol.old)) → length list ≤ 2 ^ 62 →
+            TreeStands F.shape H.hash H.Digest.spelling (leaves_of F.shape H.hash C.Item.spelling list)
+            durable top log map →
+            IsJoinedOf F.shape H.hash H.Digest.spelling (H.Digest.Read.admits tt) C.Item.spelling
+            (take t.items.end list) t (present (V.state vol.new))) }
+        ensures durable { IfOk result (λ t. V.tells →
+            IsDurable t.items (V.state vol.new) × IsDurable t.tree.log (V.state vol.new)) }
+        ensures refused { let items = items_of C.Item.spelling C.Item.admits (C.config journal_cfg) (V.state vol.old) in
+            let says = FnReturnsAt P.Fn predicate in
+            let map = (V.state vol.old).map (string_bytes merkle_cfg.metadata) in
+            let log = (V.state vol.old).log (string_bytes merkle_cfg.nodes) in
+            V.tells → IfErr result
+            (NotOpened V.tells H.Digest.spelling (H.Digest.Read.admits tt) F.shape map log items says None) }
+        ensures names { let names = two_logs_and_map (C.config journal_cfg).name (string_bytes merkle_cfg.nodes)
+            (string_bytes merkle_cfg.metadata) in V.tells → NamesCall names (V.state vol.old) (V.state vol.new) }
+        ensures changes { Changes V.tells Error.Volume (V.state vol.old) (V.state vol.new) result }
+    {
+        Journal::open_under(
+            alloc,
+            vol,
+            merkle_cfg,
+            journal_cfg,
+            None,
+            predicate,
+            bagging,
+            apply_batch,
+        )
+    }
+
+    /// Opens the journal up to the last item that a predicate accepts and that ends at or below a size, or at 0 where none
+    /// does. The items that the tree lacks are read so many at a time. It refuses as `prepare`, and an item that it can't
+    /// read as `read`.
+    pub fn init_at_most<V: Volume, P: Fn(&C::Item) -> bool>(
+        alloc: Global,
+        vol: &mut V,
+        merkle_cfg: Config,
+        journal_cfg: C::Config,
+        max_size: u64,
+        predicate: P,
+        bagging: Bagging,
+        apply_batch: NonZeroU64,
+    ) -> Result<Self, Error<F>>
+        requires callable { P.IsAlwaysCallable predicate }
+        requires apart { (C.config journal_cfg).name ≢ string_bytes merkle_cfg.nodes }
+        ensures named { IfOk result (λ t. SameButBounds (C.config journal_cfg) t.items × (t.bagging ≡ bagging)
+            × (t.failed ≡ false)) }
+        ensures found { let items = items_of C.Item.spelling C.Item.admits (C.config journal_cfg) (V.state vol.old) in
+            let says = FnReturnsAt P.Fn predicate in
+            IfOk result (λ t. V.tells → EndsAt items says (Some max_size) t.items.end) }
+        ensures cut { let view = C.config journal_cfg in IfOk result (λ t. V.tells →
+            (log_of view (V.state vol.new) ≡ cut_to (log_of view (V.state vol.old)) t.items.end)
+            × IsHeld t.items (V.state vol.new)) }
+        // The tree is opened under that end, and has a leaf for each item of it.
+        ensures opens { let map = (V.state vol.old).map (string_bytes merkle_cfg.metadata) in
+            let log = (V.state vol.old).log (string_bytes merkle_cfg.nodes) in
+            let admits = H.Digest.Read.admits tt in
+            IfOk result (λ t. V.tells → (leaves : ℕ) × OpensAt F H.Digest.spelling admits F.shape map log
+            (cap_of (Some t.items.end)) t.tree.boundary leaves) }
+        ensures whole { IfOk result (λ t. V.tells → t.tree.tree.leaves ≡ t.items.end) }
+        ensures rests { IfOk result (λ t. Rests F.shape t.tree) }
+        ensures seated { IfOk result (λ t. V.tells → IsSeated F.shape t.tree (present (V.state vol.new))) }
+        // For each list that the contents stood for, it is the journal of its first items.
+        ensures joined { let map = (V.state vol.old).map (string_bytes merkle_cfg.metadata) in
+            let log = (V.state vol.old).log (string_bytes merkle_cfg.nodes) in
+            IfOk result (λ t. V.tells → (list : List C.Item) (durable top : ℕ) →
+            Spells C.Item.spelling list (log_of (C.config journal_cfg) (V.state vol.old)) → length list ≤ 2 ^ 62 →
+            TreeStands F.shape H.hash H.Digest.spelling (leaves_of F.shape H.hash C.Item.spelling list)
+            durable top log map →
+            IsJoinedOf F.shape H.hash H.Digest.spelling (H.Digest.Read.admits tt) C.Item.spelling
+            (take t.items.end list) t (present (V.state vol.new))) }
+        ensures durable { IfOk result (λ t. V.tells →
+            IsDurable t.items (V.state vol.new) × IsDurable t.tree.log (V.state vol.new)) }
+        ensures refused { let items = items_of C.Item.spelling C.Item.admits (C.config journal_cfg) (V.state vol.old) in
+            let says = FnReturnsAt P.Fn predicate in
+            let map = (V.state vol.old).map (string_bytes merkle_cfg.metadata) in
+            let log = (V.state vol.old).log (string_bytes merkle_cfg.nodes) in
+            V.tells → IfErr result
+            (NotOpened V.tells H.Digest.spelling (H.Digest.Read.admits tt) F.shape map log items says (Some max_size)) }
+        ensures names { let names = two_logs_and_map (C.config journal_cfg).name (string_bytes merkle_cfg.nodes)
+            (string_bytes merkle_cfg.metadata) in V.tells → NamesCall names (V.state vol.old) (V.state vol.new) }
+        ensures changes { Changes V.tells Error.Volume (V.state vol.old) (V.state vol.new) result }
+    {
+        Journal::open_under(
+            alloc,
+            vol,
+            merkle_cfg,
+            journal_cfg,
+            Some(max_size),
+            predicate,
+            bagging,
+            apply_batch,
+        )
+    }
+}
