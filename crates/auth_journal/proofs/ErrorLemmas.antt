@@ -7,13 +7,14 @@ use Rattle.volume_base.specs.declared.error.JournalError.TheVariants as journal
 use Rattle.tree_store.specs.declared.error.Error as tree_error
 use Rattle.tree_store.specs.declared.error.Error.TheVariants as tree
 use Rattle.volume_base.specs.Volume.{State}
-use Rattle.journal_base.specs.Answers.{IsOfSize, IsRefusal, RefusesUnwritten}
+use Rattle.journal_base.specs.Answers.{IsOfSize, IsOfVolume, IsRefusal, RefusesUnwritten}
+use Rattle.tree_store.specs.Stores as stores
 use Rattle.tree_shape.specs.Shape.{Shape}
 use Rattle.tree_core.specs.Applied.{RefusedByTree}
 use Rattle.tree_core.specs.Batches.{Sealed}
 use Rattle.tree_core.specs.Tree.{Tree}
 use Rattle.auth_journal.specs.Appending.{IsNamed, NamesUnwritten}
-use Rattle.auth_journal.specs.Errors.{from_journal, from_tree}
+use Rattle.auth_journal.specs.Errors.{from_journal, from_tree, IsOutside}
 use Rattle.auth_journal.specs.declared.error.Error.{Error}
 use Rattle.auth_journal.specs.declared.error.Error.TheVariants as joined
 
@@ -100,3 +101,25 @@ memory_not_merkle result e d is memory at = let same : joined.Merkle d ≡ joine
 pub leaves_never : {F : Type 0} (e d : Error F) (t : tree_error.Error F) (P : Type 0) → (e ≡ joined.Memory) ⊎ ((e ≡ joined.Merkle t) × P) → e ≡ joined.Volume → ⊥
 leaves_never e d t P (inl memory) is = let same : joined.Memory ≡ joined.Volume = sym memory ∙ is in cc
 leaves_never e d t P (inr merkle) is = let same : joined.Merkle t ≡ joined.Volume = sym merkle.0 ∙ is in cc
+
+-- a volume's failure above a tree is one of the tree
+pub volume_from_tree : {F : Type 0} (e : tree_error.Error F) → from_tree e ≡ joined.Volume → e ≡ tree.Volume
+volume_from_tree tree.Volume is = refl
+volume_from_tree tree.Memory is = absurd cc
+volume_from_tree _ is = absurd cc
+
+-- a failure of the outside stays one
+pub tree_outside : {F : Type 0} (e : tree_error.Error F) → stores.IsOutside e → IsOutside (from_tree e)
+tree_outside tree.Volume o = tt
+tree_outside tree.Memory o = tt
+tree_outside _ o = absurd o
+
+pub log_outside : (F : Type 0) (e : JournalError) → IsOfVolume e → IsOutside (from_journal {F = F} e)
+log_outside F journal.Volume o = tt
+log_outside F journal.Memory o = tt
+log_outside F (journal.ItemPruned p) o = absurd cc
+log_outside F (journal.ItemOutOfRange p) o = absurd cc
+log_outside F (journal.Corruption p) o = absurd cc
+log_outside F journal.SizeOverflow o = absurd cc
+log_outside F journal.EmptyAppend o = absurd cc
+log_outside F (journal.Tree cause) o = absurd cc

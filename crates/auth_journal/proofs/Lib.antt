@@ -9,3 +9,7 @@ pub mod AlignLemmas
 pub mod SearchLemmas
 pub mod OpeningLemmas
 pub mod ProofLemmas
+pub mod StandingLemmas
+pub mod DurableLemmas
+pub mod PruneLemmas
+pub mod StartedLemmas

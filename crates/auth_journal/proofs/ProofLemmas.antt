@@ -8,7 +8,6 @@ use Rattle.codec_base.specs.Codec.{Reading}
 use Rattle.volume_base.specs.Log.{Log}
 use Rattle.volume_base.specs.Moments.{Image}
 use Rattle.volume_base.specs.declared.error.JournalError.{JournalError}
-use Rattle.volume_base.specs.declared.error.JournalError.TheVariants as journal
 use Rattle.journal_base.specs.Answers.{IsOfVolume}
 use Rattle.journal_base.specs.Items.{Items, Spells}
 use Rattle.journal_base.specs.Reads.{AreItemsAt}
@@ -27,20 +26,16 @@ use Rattle.merkle_full.proofs.ProvedLemmas.{history_within}
 use Rattle.auth_journal.specs.Joined.{Joined, IsJoinedOf, leaves_of}
 use Rattle.auth_journal.specs.Proving.{items_answer, range_end, WhyUnproved, IsItemsProof}
 use Rattle.auth_journal.specs.Reading.{positions, IsUnreadAt, AreUnread, AreAdmitted}
+use Rattle.auth_journal.proofs.ErrorLemmas.{volume_from_tree, tree_outside, log_outside}
 use Rattle.auth_journal.proofs.LeafLemmas.{length-leaves_of}
 use Rattle.auth_journal.proofs.ReadingLemmas.{run_end}
 use Rattle.std.proofs.lemmas.Bool.Decides.{leb_tells}
 use Rattle.volume_base.specs.Volume.{State, Reads}
 use Rattle.tree_store.specs.declared.error.Error as tree_error
 use Rattle.tree_store.specs.declared.error.Error.TheVariants as tree
-use Rattle.auth_journal.specs.Errors.{from_journal, from_tree, lifted, IsOutside}
+use Rattle.auth_journal.specs.Errors.{from_journal, from_tree, lifted}
 use Rattle.auth_journal.specs.declared.error.Error.{Error}
 use Rattle.auth_journal.specs.declared.error.Error.TheVariants as joined
-
-volume_from_tree : {F : Type 0} (e : tree_error.Error F) → from_tree e ≡ joined.Volume → e ≡ tree.Volume
-volume_from_tree tree.Volume is = refl
-volume_from_tree tree.Memory is = absurd cc
-volume_from_tree _ is = absurd cc
 
 pub reads_lifted : {F T : Type 0} (tells : Type 0) (a b : State) (r : Result T (tree_error.Error F)) → Reads tells tree.Volume a b r → Reads tells joined.Volume a b (lifted r)
 reads_lifted tells a b (Ok x) did = record { clock = did.clock; past = did.past; contents = did.contents; faults = did.faults; failed = λ is. absurd cc; kept = did.kept; reads = did.reads; steady = did.steady }
@@ -83,26 +78,11 @@ history_ok stored n a b le few lt within = history_within stored n a b le ∙ (e
 
 -- ---- refusals of tree and log
 
-tree_outside : {F : Type 0} (e : tree_error.Error F) → stores.IsOutside e → IsOutside (from_tree e)
-tree_outside tree.Volume o = tt
-tree_outside tree.Memory o = tt
-tree_outside _ o = absurd o
-
 tree_because : {F D Item : Type 0} (told : ℕ → Option D) (ps : List ℕ) (items : Items Item) (a b : ℕ) (e : tree_error.Error F) → stores.IsOutsideOr told ps e → WhyUnproved told ps items a b (from_tree e)
 tree_because told ps items a b tree.Volume o = inl tt
 tree_because told ps items a b tree.Memory o = inl tt
 tree_because told ps items a b (tree.ElementPruned p) o = inr (inl (p, refl, o))
 tree_because told ps items a b _ o = absurd o
-
-log_outside : (F : Type 0) (e : JournalError) → IsOfVolume e → IsOutside (from_journal {F = F} e)
-log_outside F journal.Volume o = tt
-log_outside F journal.Memory o = tt
-log_outside F (journal.ItemPruned p) o = absurd cc
-log_outside F (journal.ItemOutOfRange p) o = absurd cc
-log_outside F (journal.Corruption p) o = absurd cc
-log_outside F journal.SizeOverflow o = absurd cc
-log_outside F journal.EmptyAppend o = absurd cc
-log_outside F (journal.Tree cause) o = absurd cc
 
 log_because : {F D Item : Type 0} (told : ℕ → Option D) (ps : List ℕ) (tells : Type 0) (items : Items Item) (a b : ℕ) (e : JournalError) → tells → AreUnread tells items a b e → WhyUnproved {F = F} told ps items a b (from_journal e)
 log_because {F = F} told ps tells items a b e t (inl o) = inl (log_outside F e o)

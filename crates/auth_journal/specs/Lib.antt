@@ -7,3 +7,5 @@ pub mod Aligning
 pub mod Searching
 pub mod Opening
 pub mod Proving
+pub mod Durable
+pub mod Standing

@@ -1,0 +1,112 @@
+use Rattle.volume_base.proofs.JoinLemmas.{went_none, changes_joins}
+use Rattle.auth_journal.specs.declared.error.Error.TheVariants as joined
+use Rattle.tree_store.specs.declared.error.Error.TheVariants as tree
+use Rattle.std.proofs.Common.{◌≡◌, ◌≤◌, Err, ℕ, max, refl, sym, ◌∙◌, ap, subst, arith}
+use Rattle.volume_base.specs.Moments.{present}
+use Rattle.merkle_full.specs.Flushing.{AllStand, IsSameTree}
+use Rattle.merkle_full.specs.Full.{Rests}
+use Rattle.merkle_full.specs.Lists.{IsFullOf}
+use Rattle.merkle_full.specs.Pruning.{at_boundary, StandsWhilePruned}
+use Rattle.merkle_full.proofs.PruneRun.{can_prune}
+use Rattle.auth_journal.specs.Durable.{IsPrunedTo}
+use Rattle.auth_journal.specs.Errors.{IsOutside, from_tree}
+use Rattle.auth_journal.specs.Joined.{Joined}
+use Rattle.auth_journal.proofs.DurableLemmas.{err_and, err_not_ok, fault_below}
+use Rattle.auth_journal.proofs.ErrorLemmas.{tree_outside, volume_from_tree}
+use Rattle.auth_journal.proofs.PruneLemmas.{changes_done, not_failed, same_made, pruned_same, pruned_rests}
+use Rattle.auth_journal.proofs.journal.Journal.prune_tree.Goals as goal
+
+pub returns-in_err-merkle-clause-outside : goal.returns-in_err-merkle-clause-outside
+returns-in_err-merkle-clause-outside g c tells all full low =
+    let s = g.F.Family.shape in
+    let h = g.H.Hasher.hash in
+    let digest = g.H.Digest.Spelled.spelling in
+    let admits = g.H.Digest.Read.admits tt in
+    let a = g.V.Volume.state c.args.vol.now in
+    let b = g.V.Volume.state c.prune.new.vol in
+    let at : c.new.result ≡ (g.C.Contiguous.view c.self.inside.journal).start = c.new.ensures ∙ c.bounds-start.ensures.start in
+    let e = c.in_err-merkle.field-0.0 in
+    let here = subst (λ (k : Joined g.row.H-Digest.Denot g.row.C-Item-Cfg.Denot). IsFullOf s h digest admits all k.tree (present a)) (sym c.self.view_is) full in
+    let le : c.new.result ≤ c.self.inside.merkle.tree.leaves = omega (arith, at, low, ap (λ (k : Joined g.row.H-Digest.Denot g.row.C-Item-Cfg.Denot). k.items.start) c.self.view_is, ap (λ (k : Joined g.row.H-Digest.Denot g.row.C-Item-Cfg.Denot). k.tree.tree.leaves) c.self.view_is) in
+    err_and _ (from_tree e) IsOutside c.from_residual.ensures.1 (tree_outside e ((c.in_err-merkle.ensures {u = tt}).outside (can_prune c.self.inside.merkle.tree.leaves c.new.result le) tells h all here))
+
+pub returns-in_err-merkle-clause-images : goal.returns-in_err-merkle-clause-images
+returns-in_err-merkle-clause-images g c tells all durable top full stand =
+    let s = g.F.Family.shape in
+    let h = g.H.Hasher.hash in
+    let digest = g.H.Digest.Spelled.spelling in
+    let admits = g.H.Digest.Read.admits tt in
+    let a = g.V.Volume.state c.args.vol.now in
+    let b = g.V.Volume.state c.prune.new.vol in
+    let at : c.new.result ≡ (g.C.Contiguous.view c.self.inside.journal).start = c.new.ensures ∙ c.bounds-start.ensures.start in
+    let m = c.self.inside.merkle in
+    let here = subst (λ (k : Joined g.row.H-Digest.Denot g.row.C-Item-Cfg.Denot). IsFullOf s h digest admits all k.tree (present a)) (sym c.self.view_is) full in
+    let stands = subst (λ (k : Joined g.row.H-Digest.Denot g.row.C-Item-Cfg.Denot). AllStand s h digest all durable top k.tree a) (sym c.self.view_is) stand in
+    subst (λ (k : Joined g.row.H-Digest.Denot g.row.C-Item-Cfg.Denot). StandsWhilePruned s h digest all durable top k.items.start k.tree a b) c.self.view_is
+    (subst (λ (n : ℕ). StandsWhilePruned s h digest all durable top n m a b) at ((c.in_err-merkle.ensures {u = tt}).images tells h all durable top here stands))
+
+pub returns-clause-moved : goal.returns-clause-moved
+returns-clause-moved g c =
+    let s = g.F.Family.shape in
+    let h = g.H.Hasher.hash in
+    let digest = g.H.Digest.Spelled.spelling in
+    let admits = g.H.Digest.Read.admits tt in
+    let a = g.V.Volume.state c.args.vol.now in
+    let b = g.V.Volume.state c.prune.new.vol in
+    let at : c.new.result ≡ (g.C.Contiguous.view c.self.inside.journal).start = c.new.ensures ∙ c.bounds-start.ensures.start in
+    let t = c.self.inside.merkle in
+    let u = c.in_ok-merkle.merkle in
+    let did = c.in_ok-merkle.ensures {u = tt} in
+    let stays : c.new.result ≤ t.boundary → u ≡ t = λ le. same_made u t c.prune.result (c.in_ok-merkle.was {u = tt}) (c.prune.ensures.below (not_failed t.log.failed (λ is. let bad = (did.kept is).0 in cc)) le).0 in
+    let tree = subst (λ (n : ℕ). IsSameTree (at_boundary t (max t.boundary n)) u) at (pruned_same t u c.new.result stays did.moved) in
+    let k : Joined g.row.H-Digest.Denot g.row.C-Item-Cfg.Denot = record { items = g.C.Contiguous.view c.self.inside.journal; tree = u; bagging = c.self.inside.hasher; failed = c.self.inside.failed } in
+    subst (λ (i : Joined g.row.H-Digest.Denot g.row.C-Item-Cfg.Denot). IsPrunedTo i k) c.self.view_is (record { items = refl; tree = tree; bagging = refl; failed = refl })
+
+pub returns-clause-rests : goal.returns-clause-rests
+returns-clause-rests g c rests =
+    let t = c.self.inside.merkle in
+    let u = c.in_ok-merkle.merkle in
+    let did = c.in_ok-merkle.ensures {u = tt} in
+    let stays : c.new.result ≤ t.boundary → u ≡ t = λ le. same_made u t c.prune.result (c.in_ok-merkle.was {u = tt}) (c.prune.ensures.below (not_failed t.log.failed (λ is. let bad = (did.kept is).0 in cc)) le).0 in
+    pruned_rests t u c.new.result stays g.F.Family.shape did.rests (subst (λ (k : Joined g.row.H-Digest.Denot g.row.C-Item-Cfg.Denot). Rests g.F.Family.shape k.tree) (sym c.self.view_is) rests)
+
+pub returns-clause-full : goal.returns-clause-full
+returns-clause-full g c tells all full =
+    let h = g.H.Hasher.hash in
+    let a = g.V.Volume.state c.args.vol.now in
+    (c.in_ok-merkle.ensures {u = tt}).full tells h all (subst (λ (k : Joined g.row.H-Digest.Denot g.row.C-Item-Cfg.Denot). IsFullOf g.F.Family.shape h g.H.Digest.Spelled.spelling (g.H.Digest.Read.admits tt) all k.tree (present a)) (sym c.self.view_is) full)
+
+pub returns-clause-images : goal.returns-clause-images
+returns-clause-images g c tells all durable top full stand =
+    let s = g.F.Family.shape in
+    let h = g.H.Hasher.hash in
+    let digest = g.H.Digest.Spelled.spelling in
+    let admits = g.H.Digest.Read.admits tt in
+    let a = g.V.Volume.state c.args.vol.now in
+    let b = g.V.Volume.state c.prune.new.vol in
+    let at : c.new.result ≡ (g.C.Contiguous.view c.self.inside.journal).start = c.new.ensures ∙ c.bounds-start.ensures.start in
+    let m = c.self.inside.merkle in
+    let here = subst (λ (k : Joined g.row.H-Digest.Denot g.row.C-Item-Cfg.Denot). IsFullOf s h digest admits all k.tree (present a)) (sym c.self.view_is) full in
+    let stands = subst (λ (k : Joined g.row.H-Digest.Denot g.row.C-Item-Cfg.Denot). AllStand s h digest all durable top k.tree a) (sym c.self.view_is) stand in
+    subst (λ (k : Joined g.row.H-Digest.Denot g.row.C-Item-Cfg.Denot). StandsWhilePruned s h digest all durable top k.items.start k.tree a b) c.self.view_is
+    (subst (λ (n : ℕ). StandsWhilePruned s h digest all durable top n m a b) at ((c.in_ok-merkle.ensures {u = tt}).images tells h all durable top here stands))
+
+pub returns-in_err-merkle-clause-changes : goal.returns-in_err-merkle-clause-changes
+returns-in_err-merkle-clause-changes g c sound =
+    let tells = g.V.Volume.tells in
+    let a = g.V.Volume.state c.args.vol.now in
+    let b = g.V.Volume.state c.prune.new.vol in
+    let failed = c.self.invariant.tree (ap (λ (k : Joined g.row.H-Digest.Denot g.row.C-Item-Cfg.Denot). k.failed) c.self.view_is ∙ sound) in
+    let e = c.in_err-merkle.field-0.0 in
+    let result = c.from_residual.result in
+    let is = c.from_residual.ensures.1 in
+    changes_joins tells tree.Volume joined.Volume a a b (Err e) result (went_none tells a) ((c.in_err-merkle.ensures {u = tt}).changes failed)
+    (fault_below from_tree joined.Volume tree.Volume result e volume_from_tree is) (err_not_ok result _ _ is)
+
+pub returns-clause-changes : goal.returns-clause-changes
+returns-clause-changes g c sound =
+    let tells = g.V.Volume.tells in
+    let a = g.V.Volume.state c.args.vol.now in
+    let b = g.V.Volume.state c.prune.new.vol in
+    let failed = c.self.invariant.tree (ap (λ (k : Joined g.row.H-Digest.Denot g.row.C-Item-Cfg.Denot). k.failed) c.self.view_is ∙ sound) in
+    changes_done tells tree.Volume joined.Volume a a b c.in_ok-merkle.merkle _ (went_none tells a) ((c.in_ok-merkle.ensures {u = tt}).changes failed)
