@@ -7,3 +7,5 @@ pub mod RebuildLemmas
 pub mod DbLemmas
 pub mod HeldLemmas
 pub mod ApplyLemmas
+pub mod DerivedLemmas
+pub mod ServingLemmas

@@ -27,7 +27,7 @@ read_down f g e (k ∷ ks) told =
     ap (λ o. o ∷ map f (peaks_down (e - 2 ^ k) ks)) (told (e - 2 ^ k) k (inl (refl, refl)))
     ∙ ap (λ t. Some (g (e - 2 ^ k, k)) ∷ t) (read_down f g (e - 2 ^ k) ks (λ x j p. told x j (inr p)))
 
-some_down : {D : Type 0} (f : ℕ × ℕ → Option D) (e : ℕ) (ks : List ℕ)
+pub some_down : {D : Type 0} (f : ℕ × ℕ → Option D) (e : ℕ) (ks : List ℕ)
     → ((x k : ℕ) → PeakIn e ks x k → IsSome (f (x, k))) → (ds : List D) × (map f (peaks_down e ks) ≡ map Some ds)
 some_down f e [] told = ([], refl)
 some_down f e (k ∷ ks) told =
@@ -46,7 +46,7 @@ some_same (x ∷ xs) (y ∷ ys) e =
     let b : map Some xs ≡ map Some ys = cc in
     ap (λ z. z ∷ xs) a ∙ ap (λ t. y ∷ t) (some_same xs ys b)
 
-later_stands : (s : Shape) (m n p x k : ℕ) → m ≤ n → Stands (made s m) p x k → Stands (made s n) p x k
+pub later_stands : (s : Shape) (m n p x k : ℕ) → m ≤ n → Stands (made s m) p x k → Stands (made s n) p x k
 later_stands s m n p x k le at =
     let e : m + (n - m) ≡ n = omega (arith, le) in
     ap (λ j. slice_get (made s j) p) (sym e)
@@ -54,12 +54,12 @@ later_stands s m n p x k le at =
     ∙ get_front (made s m) _ p (slice_get_within (made s m) p (x, k) at)
     ∙ at
 
-not_some : {D : Type 0} (o : Option D) → o ≡ None → IsSome o → ⊥
+pub not_some : {D : Type 0} (o : Option D) → o ≡ None → IsSome o → ⊥
 not_some (Some d) is some = absurd cc
 not_some None is some = absurd cc
 
 -- the pins are what the tree tells there
-pins_are : {D : Type 0} (g : ℕ → Option D) (s : Shape) (n : ℕ)
+pub pins_are : {D : Type 0} (g : ℕ → Option D) (s : Shape) (n : ℕ)
     → map g (pins s n) ≡ reverse (map (λ c. g (position_of s c)) (peaks_down n (s.heights n)))
 pins_are g s n =
     map_map g (position_of s) (peaks s n) ∙ map-reverse (λ c. g (position_of s c)) (peaks_down n (s.heights n))

@@ -14,7 +14,8 @@ use Rattle.chain_core.specs.declared.bounds.Bounds.{Bounds}
 use Rattle.chain_core.specs.declared.commitment.Commitment.{Commitment}
 use Rattle.chain_core.specs.declared.pool.HeldBatch.{HeldBatch}
 
--- A batch that still collects: what it has of the tree, the operations so far, the state on which it stands, and its parent's number.
+-- A batch that still collects: what it has of the tree, the operations so far, the state on which it stands, and its
+-- parent's number.
 pub record UnmerkleizedView (F D Op : Type 0) : Type 0 where
   pub tree : Unsealed D
   pub pending : List Op
@@ -33,7 +34,8 @@ pub record IsSoundUnmerkleized {D : Type 0} (tree : Unsealed D) (base count : �
   pub base_is : tree.base ≡ base
   pub few : base + count ≤ 2 ^ 62
 
--- The tree ends at the tip, behind the batch's own operations; and a batch without any is one of a database's own state.
+-- The tree ends at the tip, behind the batch's own operations; and a batch without any is one of a database's own
+-- state.
 pub record IsSoundMerkleized {F D : Type 0} (tree : Sealed D) (count : ℕ) (bounds : Bounds F D) : Type 0 where
   pub tip : tree.leaves ≡ bounds.tip.size
   pub own : bounds.tip.size ≡ bounds.base.size + count
@@ -64,10 +66,12 @@ module _ {F D Op V : Type 0} (s : Shape) (h : Hashing D) (m : Meaning Op V) wher
   pub record IsPoolOf (pool : List (Option (HeldBatch (MerkleizedView F D Op)))) (parent : Option ℕ)
       (list : List Op) : Type 0 where
     pub boundary : (b : MerkleizedView F D Op) → linked_item pool parent ≡ Some b → IsStateIn s h m list b.bounds.db
-    pub reached : (ids : List ℕ) → IsReach (slot_at pool) parent ids → AllByRecursion (StandsIn list) (items_at pool ids)
+    pub reached : (ids : List ℕ) → IsReach (slot_at pool) parent ids →
+        AllByRecursion (StandsIn list) (items_at pool ids)
 
   -- The batch is of a list with these operations and one commit behind it, of this metadata and floor.
-  pub record IsSealedBy (list pending : List Op) (metadata : Option V) (floor : ℕ) (b : MerkleizedView F D Op) : Type 0 where
+  pub record IsSealedBy (list pending : List Op) (metadata : Option V) (floor : ℕ)
+      (b : MerkleizedView F D Op) : Type 0 where
     pub commit : Op
     pub floored : m.floor commit ≡ Some floor
     pub valued : m.value commit ≡ metadata

@@ -14,7 +14,8 @@ use Rattle.compact_db.specs.WitnessOf.{witness_of}
 abbrev pub IsSizeIn : ℕ → ℕ → Type 0
 IsSizeIn most n = (0 < n) × (n ≤ most)
 
--- The volume has the witnesses of a list at these sizes, and the database is that of the list, which has the last of them.
+-- The volume has the witnesses of a list at these sizes, and the database is that of the list, which has the last of
+-- them.
 pub record IsHeldFor {F D Op V Cfg : Type 0} (s : Shape) (h : Hashing D) (m : Meaning Op V) (spelling : D → List ℕ)
     (admits : D → Type 0) (ops : List Op) (sizes : List ℕ) (db : DbView F D Op Cfg) (state : State) : Type 0 where
   pub list : IsOfList s h m ops db

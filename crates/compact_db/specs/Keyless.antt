@@ -12,7 +12,8 @@ abbrev pub appends_of : {F V A C : Type 0} → List A → List (Operation F V A 
 appends_of values = map Append values
 
 -- The batch with one more append.
-abbrev pub with_append : {F G D V A C : Type 0} → UnmerkleizedView F D (Operation G V A C) → A → UnmerkleizedView F D (Operation G V A C)
+abbrev pub with_append : {F G D V A C : Type 0} → UnmerkleizedView F D (Operation G V A C) → A
+    → UnmerkleizedView F D (Operation G V A C)
 with_append b value = record b { pending = b.pending ++ (Append value ∷ []) }
 
 -- None is a commit.

@@ -1,5 +1,6 @@
 pub mod WitnessOf
 pub mod Verified
+pub mod Derived
 pub mod Keyless
 pub mod Rebuild
 pub mod StateOf
@@ -8,3 +9,4 @@ pub mod Sealing
 pub mod DbView
 pub mod Held
 pub mod Import
+pub mod Serving

@@ -9,8 +9,8 @@ use Rattle.chain_core.specs.declared.error.DataFault.TheVariants as fault
 use Rattle.witness_store.specs.declared.witness.Witness.{Witness}
 
 -- It is refused only as this says, or for want of memory.
-abbrev pub OnlyRefusedBy : {F T U : Type 0} → Result U (Error F) → Result T (Error F) → Type 0
-OnlyRefusedBy answer result = IfErr result (λ e. (answer ≡ Err e) ⊎ (e ≡ Memory))
+abbrev pub RefusedOnlyAs : {F T U : Type 0} → Result U (Error F) → Result T (Error F) → Type 0
+RefusedOnlyAs answer result = IfErr result (λ e. (answer ≡ Err e) ⊎ (e ≡ Memory))
 
 -- The operation that was decoded, or that the bytes are none's.
 abbrev pub operation_answer : {F Op : Type 0} → Result Op CodecError → Result Op (Error F)
@@ -18,7 +18,8 @@ operation_answer (Err e) = Err (DataCorrupted fault.CommitOperation)
 operation_answer (Ok op) = Ok op
 
 module _ {F D Op V : Type 0} (s : Shape) (m : Meaning Op V) where
-  -- Whether a commit of this floor may stand behind the tree of a witness: it is no later, and the tree has as many peaks as there are pins.
+  -- Whether a commit of this floor may stand behind the tree of a witness: it is no later, and the tree has as many
+  -- peaks as there are pins.
   abbrev pub fits_witness : Witness F D → ℕ → Bool
   fits_witness w floor = nat_le floor (w.size - 1) && (length w.pinned_nodes == length (s.heights (w.size - 1)))
 
@@ -30,8 +31,9 @@ module _ {F D Op V : Type 0} (s : Shape) (m : Meaning Op V) where
   decoded_answer w (Err e) = Err (DataCorrupted fault.CommitOperation)
   decoded_answer w (Ok op) = commit_answer w op (m.floor op)
 
-  -- The commit of a witness, or why it doesn't rebuild: its size is that of no list that ends with a commit; its bytes are no operation's; that is
-  -- no commit; or the commit is earlier than its floor, or the pins are more or fewer than the peaks before it. The first test that fails answers.
+  -- The commit of a witness, or why it doesn't rebuild: its size is that of no list that ends with a commit; its
+  -- bytes are no operation's; that is no commit; or the commit is earlier than its floor, or the pins are more or
+  -- fewer than the peaks before it. The first test that fails answers.
   abbrev pub rebuild_answer : (List ℕ → Result Op CodecError) → Witness F D → Result Op (Error F)
   rebuild_answer decoded w =
       if nat_lt 0 w.size && nat_le w.size (2 ^ 62) then decoded_answer w (decoded w.op_bytes)

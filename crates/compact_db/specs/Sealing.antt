@@ -29,11 +29,12 @@ pub record KeepsSegments {D : Type 0} (t : Unsealed D) (reached : ℕ) (b : Seal
   pub first : b.first ≡ first_leaves (drop (length t.links - reached) t.links) t.base
 
 -- Where a batch stands in a pool, over a log of this floor.
-abbrev pub HasPlace : {F D Op : Type 0} → List (Option (HeldBatch (MerkleizedView F D Op))) → UnmerkleizedView F D Op → ℕ
-    → Place F D → Type 0
+abbrev pub HasPlace : {F D Op : Type 0} → List (Option (HeldBatch (MerkleizedView F D Op)))
+    → UnmerkleizedView F D Op → ℕ → Place F D → Type 0
 HasPlace pool b below place = IsPlaceOf bounds_of pool b.parent b.base below place
 
--- Why a batch isn't sealed with a floor at a state of a log of this floor: its place tells, with as many operations as it has before its commit.
+-- Why a batch isn't sealed with a floor at a state of a log of this floor: its place tells, with as many operations
+-- as it has before its commit.
 pub record IsRefused {F D Op : Type 0} (bytes : D → List ℕ) (pool : List (Option (HeldBatch (MerkleizedView F D Op))))
     (b : UnmerkleizedView F D Op) (current : Commitment F D) (below floor : ℕ) (why : Option Refusal) : Type 0 where
   pub place : Place F D

@@ -26,8 +26,8 @@ fn as_stale<F>(error: tree_core::Error<F>) -> Error<F>
     }
 }
 
-/// The tree with what a batch has behind it, which this commit ends, and what is derived of it. It refuses with `StaleBatch` where the tree takes
-/// the batch at no mark, and with `Memory`.
+/// The tree with what a batch has behind it, which this commit ends, and what is derived of it. It refuses with
+/// `StaleBatch` where the tree takes the batch at no mark, and with `Memory`.
 pub(crate) fn applied<F: Family, O: CompactOperation, H: Hasher>(
     alloc: Global,
     mut merkle: Merkle<F, H::Digest>,
@@ -41,7 +41,8 @@ pub(crate) fn applied<F: Family, O: CompactOperation, H: Hasher>(
     ensures short { IfOk result (λ r. length r.0.witness.op_bytes < 2 ^ 64) }
     ensures list { IfOk result (λ r. (all more : List H.Digest) → IsOf F.shape H.hash all merkle →
         IsSealedOf F.shape H.hash (all ++ more) batch.now →
-        IsRestored F.shape H.hash (all ++ more) (O.meaning.encoding commit.now) (floor_of O.meaning (commit.now ∷ [])) (r.0, r.1)) }
+        IsRestored F.shape H.hash (all ++ more) (O.meaning.encoding commit.now)
+        (floor_of O.meaning (commit.now ∷ [])) (r.0, r.1)) }
     ensures stale { IsErrOf result Error.StaleBatch → (i : ℕ) → FitsTree F.shape merkle batch.now i → ⊥ }
     ensures errors { IfErr result (λ e. (e ≡ Error.StaleBatch) ⊎ (e ≡ Error.Memory)) }
 {

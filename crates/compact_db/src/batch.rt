@@ -5,7 +5,8 @@ use codec_base::ListOf;
 use std::marker::Model;
 use tree_core::{Digest, Family, Hasher, Location};
 
-/// A batch that still collects. Contracts see it as what it has of the tree, its operations, its base and its parent's number.
+/// A batch that still collects. Contracts see it as what it has of the tree, its operations, its base and its
+/// parent's number.
 #[derive(Drop)]
 pub struct UnmerkleizedBatch<F: Family, O: CompactOperation, H: Hasher> {
     pub(crate) tree: tree_core::UnmerkleizedBatch<F, H::Digest>,
@@ -102,7 +103,8 @@ impl<F: Family, O: CompactOperation, D: Digest> MerkleizedBatch<F, O, D> {
         ensures err { OnErr result (pool.new ≡ pool.old) }
         ensures pending { IfOk result (λ b. b.pending ≡ []) }
         ensures parent { IfOk result (λ b. b.parent ≡ Some id) }
-        ensures base { IfOk result (λ b. (p : MerkleizedView F D O) → item_at pool.old id ≡ Some p → b.base ≡ p.bounds.tip) }
+        ensures base { IfOk result (λ b. (p : MerkleizedView F D O) → item_at pool.old id ≡ Some p →
+            b.base ≡ p.bounds.tip) }
         // It keeps the parent's segments, and stands on the mark behind them.
         ensures child { IfOk result (λ b. (p : MerkleizedView F D O) → item_at pool.old id ≡ Some p →
             IsChildOf p.tree b.tree × StandsBehind F.shape p.tree.links b.tree.base b.tree.base_peaks) }

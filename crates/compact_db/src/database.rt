@@ -29,7 +29,8 @@ pub enum WitnessLog<F: Family, D: Digest> {
     Import(JournalConfig<()>),
 }
 
-/// A database that keeps of its list of operations the frontier of the tree, the last commit, and a witness of each applied state.
+/// A database that keeps of its list of operations the frontier of the tree, the last commit, and a witness of each
+/// applied state.
 #[derive(Drop)]
 pub struct CompactDb<F: Family, O: CompactOperation, H: Hasher> {
     pub(crate) alloc: Global,
@@ -155,7 +156,8 @@ impl<F: Family, O: CompactOperation, H: Hasher> CompactDb<F, O, H> {
         }
     }
 
-    /// Whether a batch may be applied here: at its boundary, or at the tip of an ancestor. It refuses with `StaleBatch`.
+    /// Whether a batch may be applied here: at its boundary, or at the tip of an ancestor. It refuses with
+    /// `StaleBatch`.
     pub fn validate_batch(
         &self,
         pool: &Pool<MerkleizedBatch<F, O, H::Digest>>,
@@ -181,8 +183,8 @@ where
     ghost use Rattle.compact_db.specs.DbView.{commitment_in, floor_in};
     ghost use Rattle.compact_db.specs.Sealing.{IsEnded, IsSealedIn, KeepsSegments, WhyNotSealed};
 
-    /// Seals the batch by a commit, and puts it into the pool. Its hold on its parent ends, whatever is answered. Refuses as `seal` at the
-    /// database's state.
+    /// Seals the batch by a commit, and puts it into the pool. Its hold on its parent ends, whatever is answered. It
+    /// refuses as `seal` at the database's state.
     pub fn merkleize(
         self,
         pool: &mut Pool<MerkleizedBatch<F, O, H::Digest>>,
@@ -194,15 +196,18 @@ where
         requires room { length pool.old < 2 ^ 64 - 1 }
         ensures number { IfOk result (λ id. id ≡ length pool.old) }
         ensures inserted { OnOk result ((b : MerkleizedView F H.Digest O)
-            × (pool.new ≡ link_released pool.old self.parent ++ Some (record { item = b; parent = self.parent; holds = 1 }) ∷ [])
-            × IsSealedIn H.Digest.bytes pool.old self (commitment_in db.now) (floor_in O.meaning db.now) inactivity_floor b.bounds
+            × (pool.new ≡ link_released pool.old self.parent
+            ++ Some (record { item = b; parent = self.parent; holds = 1 }) ∷ [])
+            × IsSealedIn H.Digest.bytes pool.old self (commitment_in db.now) (floor_in O.meaning db.now)
+            inactivity_floor b.bounds
             × ((list : List O) → IsUnmerkleizedOf F.shape H.hash O.meaning list self →
             IsPoolOf F.shape H.hash O.meaning pool.old self.parent list →
             IsSealedBy F.shape H.hash O.meaning list self.pending metadata inactivity_floor b)
             × KeepsSegments self.tree (min (length b.bounds.ancestors) (length self.tree.links)) b.tree
             × IsEnded O.meaning self.pending metadata inactivity_floor b.operations) }
         ensures released { OnErr result (pool.new ≡ link_released pool.old self.parent) }
-        ensures refused { IfErr result (WhyNotSealed H.Digest.bytes pool.old self (commitment_in db.now) (floor_in O.meaning db.now) inactivity_floor) }
+        ensures refused { IfErr result (WhyNotSealed H.Digest.bytes pool.old self (commitment_in db.now)
+            (floor_in O.meaning db.now) inactivity_floor) }
     {
         let parent = self.parent;
         let below = db.inactivity_floor_loc();

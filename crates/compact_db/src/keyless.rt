@@ -66,8 +66,8 @@ impl<F: Family, V: Codec> CompactOperation for Operation<F, V> {
 }
 
 impl<F: Family, V: Codec, H: Hasher> crate::UnmerkleizedBatch<F, Operation<F, V>, H> {
-    /// Appends a value. It refuses with `Merkle(LocationOverflow(size + 1))` where the batch has `MAX_LEAVES` operations, and is
-    /// then as before.
+    /// Appends a value. It refuses with `Merkle(LocationOverflow(size + 1))` where the batch has `MAX_LEAVES`
+    /// operations, and is then as before.
     pub fn append(&mut self, value: V::Value) -> Result<(), Error<F>>
         ensures ok { OnOk result (self.new ≡ with_append self.old value) }
         ensures full { 2 ^ 62 ≤ self.old.base.size + length self.old.pending →

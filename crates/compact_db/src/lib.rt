@@ -1,5 +1,5 @@
-//! Databases that keep of a list of operations the frontier of its tree, and a witness of each applied state. A database begins by an import;
-//! its opening from a log, its prune and what it serves aren't there yet.
+//! Databases that keep of a list of operations the frontier of its tree, and a witness of each applied state. A
+//! database begins by an import; its opening from a log, its prune and what it serves aren't there yet.
 #![tactic(auto)]
 
 mod applying;
@@ -11,6 +11,7 @@ pub mod keyless;
 mod laws;
 mod opening;
 mod operation;
+mod places;
 mod rebuilding;
 mod sealing;
 mod verified;

@@ -5,7 +5,7 @@ ghost use Rattle.tree_shape.specs.Slow.{node_of};
 ghost use Rattle.log_model.specs.Operations.{leaves_from};
 ghost use Rattle.compact_db.specs.DbView.{IsOfList};
 ghost use Rattle.compact_db.specs.Import.{journal_of, import_answer};
-ghost use Rattle.compact_db.specs.Rebuild.{OnlyRefusedBy};
+ghost use Rattle.compact_db.specs.Rebuild.{RefusedOnlyAs};
 
 use crate::rebuilding::restored;
 use crate::{CompactConfig, CompactDb, CompactOperation, WitnessLog};
@@ -29,7 +29,7 @@ impl<F: Family, O: CompactOperation, H: Hasher> CompactDb<F, O, H> {
         op: O,
     ) -> Result<Self, Error<F>>
         ensures may { IfOk result (λ db. import_answer {F = F} F.shape O.meaning last_commit_loc (length pinned_nodes.items) op ≡ Ok tt) }
-        ensures refused { OnlyRefusedBy (import_answer {F = F} F.shape O.meaning last_commit_loc (length pinned_nodes.items) op) result }
+        ensures refused { RefusedOnlyAs (import_answer {F = F} F.shape O.meaning last_commit_loc (length pinned_nodes.items) op) result }
         ensures log { IfOk result (λ db. db.log ≡ WitnessLog.Import (journal_of cfg)) }
         ensures size { IfOk result (λ db. db.tip.witness.size ≡ last_commit_loc + 1) }
         ensures commit { IfOk result (λ db. db.commit ≡ op) }

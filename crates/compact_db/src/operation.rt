@@ -6,7 +6,8 @@ use codec_base::{CodecError, Duplicate, EncodeSize, Read};
 use log_model::Logged;
 use std::alloc::Global;
 
-/// An operation that a compact database can hold: how its commits are made, and what a batch has of it before it is sealed.
+/// An operation that a compact database can hold: how its commits are made, and what a batch has of it before it is
+/// sealed.
 pub trait CompactOperation: Logged + EncodeSize + Read + Duplicate + Drop {
     /// What a batch collects.
     type Pending: Drop;

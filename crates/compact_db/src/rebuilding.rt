@@ -6,7 +6,7 @@ ghost use Rattle.tree_shape.specs.Shape.{peaks};
 ghost use Rattle.tree_shape.specs.Slow.{leaf, node_of};
 ghost use Rattle.log_model.specs.Good.{EndsWithCommit};
 ghost use Rattle.merkle_compact.specs.Frontier.{IsFrontier};
-ghost use Rattle.compact_db.specs.Rebuild.{operation_answer, rebuild_answer, OnlyRefusedBy};
+ghost use Rattle.compact_db.specs.Rebuild.{operation_answer, rebuild_answer, RefusedOnlyAs};
 ghost use Rattle.compact_db.specs.StateOf.{IsRestored, IsStateOf};
 ghost use Rattle.compact_db.specs.WitnessOf.{witness_of};
 
@@ -26,7 +26,8 @@ pub struct Rebuilt<F: Family, O, D: tree_core::Digest> {
     pub commit: O,
 }
 
-/// The tree of these peaks with the leaf of a commit behind them, and what is derived of it. It refuses with `Memory` alone.
+/// The tree of these peaks with the leaf of a commit behind them, and what is derived of it. It refuses with `Memory`
+/// alone.
 pub(crate) fn restored<F: Family, H: Hasher>(
     alloc: Global,
     before: u64,
@@ -42,6 +43,8 @@ pub(crate) fn restored<F: Family, H: Hasher>(
     ensures list { IfOk result (λ r. (all : List H.Digest) → before ≡ length all →
         pins.items ≡ map (node_of F.shape H.hash all) (peaks F.shape before) →
         IsRestored F.shape H.hash (all ++ leaf F.shape H.hash (length all) op_bytes ∷ []) op_bytes floor (r.0, r.1)) }
+    ensures witness { IfOk result (λ r. r.0.witness ≡
+        record { op_bytes = op_bytes; size = before + 1; pinned_nodes = pins.items }) }
     ensures memory { IsOkUnless result Error.Memory }
 {
     let hasher = Standard::<H>::new(Bagging::ForwardFold);
@@ -67,7 +70,7 @@ fn operation_of<F: Family, O: CompactOperation>(
     ensures operation { IfOk result (λ op. operation_answer {F = F} (whole (O.reads codec.now bytes.now)) ≡ Ok op) }
     ensures allowed { IfOk result (O.admits codec.now) }
     ensures only { IfOk result (λ op. (x : O) → O.admits codec.now x → bytes.now ≡ O.spelling x → op ≡ x) }
-    ensures refused { OnlyRefusedBy (operation_answer {F = F} (whole (O.reads codec.now bytes.now))) result }
+    ensures refused { RefusedOnlyAs (operation_answer {F = F} (whole (O.reads codec.now bytes.now))) result }
 {
     match decode::<O>(alloc, bytes.as_slice(), codec) {
         Ok(operation) => Ok(operation),
@@ -76,21 +79,27 @@ fn operation_of<F: Family, O: CompactOperation>(
     }
 }
 
-/// The state of a witness, and its commit. Refuses, in this order: `DataCorrupted` of `Witness`, where its size is that of no
-/// list that ends with a commit; of `CommitOperation`, where its bytes are no operation's; of `NotACommit`; of `Witness`, where the commit is
-/// earlier than its floor, or the pins are more or fewer than the peaks before it; or with `Memory`.
+/// The state of a witness, and its commit. Refuses, in this order: `DataCorrupted` of `Witness`, where its size is
+/// that of no list that ends with a commit; of `CommitOperation`, where its bytes are no operation's; of
+/// `NotACommit`; of `Witness`, where the commit is earlier than its floor, or the pins are more or fewer than the
+/// peaks before it; or with `Memory`.
 pub fn rebuild<F: Family, O: CompactOperation, H: Hasher>(
     alloc: Global,
     codec: &O::Cfg,
     witness: Witness<F, H::Digest>,
 ) -> Result<Rebuilt<F, O, H::Digest>, Error<F>>
-    ensures answer { IfOk result (λ r. rebuild_answer F.shape O.meaning (λ bytes. whole (O.reads codec.now bytes)) witness ≡ Ok r.commit) }
-    ensures refused { OnlyRefusedBy (rebuild_answer F.shape O.meaning (λ bytes. whole (O.reads codec.now bytes)) witness) result }
+    ensures answer { let answer =
+        rebuild_answer F.shape O.meaning (λ bytes. whole (O.reads codec.now bytes)) witness in
+        IfOk result (λ r. answer ≡ Ok r.commit) }
+    ensures refused { let answer =
+        rebuild_answer F.shape O.meaning (λ bytes. whole (O.reads codec.now bytes)) witness in
+        RefusedOnlyAs answer result }
     ensures leaves { IfOk result (λ r. r.merkle.leaves ≡ witness.size) }
-    ensures size { IfOk result (λ r. r.tip.witness.size ≡ witness.size) }
+    ensures witness { IfOk result (λ r. r.tip.witness ≡ witness) }
     ensures frontier { IfOk result (λ r. IsFrontier F.shape r.merkle) }
     // Of the witness of a list, whose operations are allowed, it makes the list's state.
-    ensures list { IfOk result (λ r. (ops : List O) → EndsWithCommit O.meaning ops → length ops ≤ 2 ^ 62 → AllByRecursion (O.admits codec.now) ops →
+    ensures list { IfOk result (λ r. (ops : List O) → EndsWithCommit O.meaning ops → length ops ≤ 2 ^ 62 →
+        AllByRecursion (O.admits codec.now) ops →
         witness ≡ witness_of F.shape H.hash O.meaning ops (length ops) →
         IsStateOf F.shape H.hash O.meaning ops r.tip r.merkle r.commit) }
 {

@@ -112,8 +112,8 @@ impl<F: Family, O: CompactOperation, H: Hasher> UnmerkleizedBatch<F, O, H>
 where
     O::Value: Drop,
 {
-    /// The batch, sealed by a commit at the state `current` of a log whose floor is `below`. Refuses, in this order: `StaleBatch`,
-    /// `Merkle(LocationOverflow)`, `FloorRegressed`, `FloorBeyondSize`; or with `Memory`.
+    /// The batch, sealed by a commit at the state `current` of a log whose floor is `below`. Refuses, in this order:
+    /// `StaleBatch`, `Merkle(LocationOverflow)`, `FloorRegressed`, `FloorBeyondSize`; or with `Memory`.
     pub fn seal(
         self,
         pool: &Pool<MerkleizedBatch<F, O, H::Digest>>,

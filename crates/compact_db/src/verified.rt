@@ -3,6 +3,7 @@ ghost use Rattle.std.specs.Prelude.{◌≡◌, ◌<◌, ◌≤◌, List, map, If
 ghost use Rattle.tree_shape.specs.Shape.{peaks};
 ghost use Rattle.tree_shape.specs.Slow.{node_of};
 ghost use Rattle.tree_core.specs.Tree.{IsOf, IsSound};
+ghost use Rattle.compact_db.specs.Derived.{ArePinsIn, IsDerivedOf};
 ghost use Rattle.compact_db.specs.Verified.{verified_leaves};
 
 use codec_base::{Bytes, ListOf};
@@ -30,6 +31,7 @@ fn pins_before<F: Family, H: Hasher>(
     requires within { leaves ≤ mem.now.leaves }
     ensures pins { IfOk result (λ pins. (all : List H.Digest) → IsOf F.shape H.hash all mem.now →
         pins.items ≡ map (node_of F.shape H.hash all) (peaks F.shape leaves)) }
+    ensures nodes { IfOk result (λ pins. ArePinsIn F.shape mem.now leaves pins.items) }
     ensures memory { IsOkUnless result Error.Memory }
 {
     let mut pins = Vec::new(alloc);
@@ -42,8 +44,8 @@ fn pins_before<F: Family, H: Hasher>(
     Ok(pins)
 }
 
-/// What is derived of a state, from a tree whose last leaf is the commit of these bytes and this floor, and which keeps what stands
-/// before that leaf. It refuses with `Memory` alone.
+/// What is derived of a state, from a tree whose last leaf is the commit of these bytes and this floor, and which keeps
+/// what stands before that leaf. It refuses with `Memory` alone.
 pub fn build_witness<F: Family, H: Hasher>(
     alloc: Global,
     merkle: &Merkle<F, H::Digest>,
@@ -53,6 +55,8 @@ pub fn build_witness<F: Family, H: Hasher>(
     requires kept { merkle.now.boundary < merkle.now.leaves }
     ensures verified { IfOk result (λ v. (all : List H.Digest) → IsOf F.shape H.hash all merkle.now →
         v ≡ verified_leaves F.shape H.hash all op_bytes floor) }
+    // Of whichever tree, it is what the tree's nodes make.
+    ensures derived { IfOk result (IsDerivedOf F.shape H.hash merkle.now op_bytes floor) }
     ensures size { IfOk result (λ v. v.witness.size ≡ merkle.now.leaves) }
     ensures bytes { IfOk result (λ v. v.witness.op_bytes ≡ op_bytes) }
     ensures memory { IsOkUnless result Error.Memory }
