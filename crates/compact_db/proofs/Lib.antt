@@ -9,3 +9,4 @@ pub mod HeldLemmas
 pub mod ApplyLemmas
 pub mod DerivedLemmas
 pub mod ServingLemmas
+pub mod AnswerLemmas

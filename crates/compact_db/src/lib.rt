@@ -14,6 +14,7 @@ mod operation;
 mod places;
 mod rebuilding;
 mod sealing;
+mod serving;
 mod verified;
 
 pub use batch::{MerkleizedBatch, UnmerkleizedBatch};
