@@ -5,3 +5,4 @@ pub mod PoolLemmas
 pub mod ReachedLemmas
 pub mod StateLemmas
 pub mod PlaceLemmas
+pub mod ChainLemmas

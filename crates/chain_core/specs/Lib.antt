@@ -6,3 +6,5 @@ pub mod Texts
 pub mod States
 pub mod Reached
 pub mod Sealing
+pub mod Chains
+pub mod Answers
