@@ -1,9 +1,11 @@
 -- Lists that are gone through from a place on.
-use Rattle.std.proofs.Common.{◌≡◌, ℕ, zero, suc, ◌-◌, ◌≤◌, List, [], ◌∷◌, ◌++◌, length, map, take, drop, Some, refl, sym, ◌∙◌, ap, arith, append_assoc, length-append}
-use Rattle.std.specs.Prelude.{slice_get}
+use Rattle.std.proofs.Common.{◌≡◌, ℕ, true, false, zero, suc, ◌+◌, ◌-◌, ◌<◌, ◌≤◌, List, [], ◌∷◌, ◌++◌, length, map, take, drop, Some, None, refl, sym, ◌∙◌, ap, arith, append_assoc, length-append}
+use Rattle.std.specs.Prelude.{slice_get, nat_le}
+use Rattle.std.proofs.lemmas.Bool.Decides.{nat_tests}
 use Rattle.std.proofs.lemmas.List.{map-append, length-map, drop-map, drop_all, take_all}
 use Rattle.std.proofs.lemmas.Option.{same_Some}
-use Rattle.auth_journal.specs.Batched.{joined_items, last_length}
+use Rattle.auth_journal.specs.Batched.{SealedItems, joined_items, last_length}
+use Rattle.auth_journal.specs.Kept.{kept_item}
 
 pub append-nothing : {X : Type 0} (xs : List X) → xs ++ [] ≡ xs
 append-nothing [] = refl
@@ -60,3 +62,47 @@ lists_pushed {X = X} {Y = Y} f xs ys zs p reached own y kept pushed is place =
     let e : p ≡ length (map f xs) - reached = place ∙ ap (λ (n : ℕ). n - reached) (sym (length-map xs f)) in
     ap (map f) pushed ∙ map-append f ys (own ∷ []) ∙ ap (λ (r : List Y). r ++ f own ∷ []) (ap (map f) kept ∙ sym (drop-map f p xs) ∙ ap (λ k. drop k (map f xs)) e)
     ∙ ap (λ (z : Y). drop (length (map f xs) - reached) (map f xs) ++ z ∷ []) is
+
+-- ---- an item of one list after another
+
+pub get_first : {X : Type 0} (xs ys : List X) (i : ℕ) → i < length xs → slice_get (xs ++ ys) i ≡ slice_get xs i
+get_first [] ys i lt = absurd (omega (arith, lt))
+get_first (x ∷ xs) ys zero lt = refl
+get_first (x ∷ xs) ys (suc i) lt = get_first xs ys i (omega (arith, lt))
+
+pub get_second : {X : Type 0} (xs ys : List X) (i : ℕ) → length xs ≤ i → slice_get (xs ++ ys) i ≡ slice_get ys (i - length xs)
+get_second [] ys i le = let e : i - 0 ≡ i = omega arith in ap (slice_get ys) (sym e)
+get_second (x ∷ xs) ys zero le = absurd (omega (arith, le))
+get_second (x ∷ xs) ys (suc i) le = let e : suc i - length (x ∷ xs) ≡ i - length xs = omega arith in get_second xs ys i (omega (arith, le)) ∙ ap (slice_get ys) (sym e)
+
+-- of what is left, the first list has the item
+pub item_here : {X Item : Type 0} (f : X → List Item) (xs : List X) (i : ℕ) (x : X) (n : ℕ) → slice_get xs i ≡ Some x → n < length (f x)
+    → slice_get (joined_items (drop i (map f xs))) n ≡ slice_get (f x) n
+item_here f xs i x n at lt = ap (λ (ys : List _). slice_get ys n) (joined_next f xs i x at) ∙ get_first (f x) _ n lt
+
+-- or the lists behind it
+pub item_later : {X Item : Type 0} (f : X → List Item) (xs : List X) (i : ℕ) (x : X) (n : ℕ) → slice_get xs i ≡ Some x → length (f x) ≤ n
+    → slice_get (joined_items (drop i (map f xs))) n ≡ slice_get (joined_items (drop (suc i) (map f xs))) (n - length (f x))
+item_later f xs i x n at le = ap (λ (ys : List _). slice_get ys n) (joined_next f xs i x at) ∙ get_second (f x) _ n le
+
+pub item_none : {X Item : Type 0} (f : X → List Item) (xs : List X) (i n : ℕ) → length xs ≤ i → slice_get (joined_items (drop i (map f xs))) n ≡ None
+item_none f xs i n le = ap (λ (ys : List _). slice_get ys n) (joined_none f xs i le)
+
+pub count_next : {X Item : Type 0} (f : X → List Item) (xs : List X) (i : ℕ) (x : X) → slice_get xs i ≡ Some x
+    → length (joined_items (drop i (map f xs))) ≡ length (f x) + length (joined_items (drop (suc i) (map f xs)))
+count_next f xs i x at = ap length (joined_next f xs i x at) ∙ length-append (f x) (joined_items (drop (suc i) (map f xs)))
+
+-- ---- what a batch keeps
+
+le_true : (m n : ℕ) → m ≤ n → nat_le m n ≡ true
+le_true m n h = grind (arith, nat_tests)
+
+le_false : (m n : ℕ) → n < m → nat_le m n ≡ false
+le_false m n h = grind (arith, nat_tests)
+
+module _ {D Item : Type 0} (b : SealedItems D Item) (l : ℕ) where
+  pub kept_none : l < b.nodes.first → None ≡ kept_item b l
+  kept_none lt = rw (le_false b.nodes.first l lt) refl
+
+  pub kept_some : b.nodes.first ≤ l → slice_get (joined_items b.items) (l - b.nodes.first) ≡ kept_item b l
+  kept_some le = rw (le_true b.nodes.first l le) refl

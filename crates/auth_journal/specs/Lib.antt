@@ -9,3 +9,4 @@ pub mod Opening
 pub mod Proving
 pub mod Durable
 pub mod Standing
+pub mod Kept

@@ -1,5 +1,6 @@
 //! Lists of items that batches share, one for each segment of nodes.
-ghost use Rattle.std.specs.Prelude.{◌≡◌, ◌≤◌, List, ◌++◌, length, map, drop, IfOk, OnOk, IsOkUnless};
+ghost use Rattle.std.specs.Prelude.{◌≡◌, ◌≤◌, ◌<◌, ◌^◌, List, ◌++◌, length, map, drop, slice_get, IfOk, OnOk, IsOkUnless};
+ghost use Rattle.std.specs.Option.{option_copied};
 ghost use Rattle.auth_journal.specs.Batched.{joined_items};
 
 use codec_base::{CodecError, Duplicate, ListOf};
@@ -55,4 +56,39 @@ pub(crate) fn copies_from<T: Drop + Duplicate>(
         push_copies(&mut copies, lists[i].as_slice())?;
     }
     Ok(copies)
+}
+
+/// How many items the lists have.
+pub(crate) fn count_of<T: Drop>(lists: &[Rc<ListOf<T>>]) -> u64
+    requires { length (joined_items (map {B = List T} (λ l. l.value) lists.now)) < 2 ^ 64 }
+    ensures { result ≡ length (joined_items (map {B = List T} (λ l. l.value) lists.now)) }
+{
+    let mut count = 0;
+    for i in 0..lists.len() {
+        count += lists[i].as_slice().len() as u64;
+    }
+    count
+}
+
+/// The item at an index.
+fn nth<T>(items: &[T], index: usize) -> Option<&T>
+    ensures { option_copied result ≡ slice_get items.now index }
+{
+    items.get(index)
+}
+
+/// The item at a place of the lists, one list after another.
+pub(crate) fn item_of<T: Drop>(lists: &[Rc<ListOf<T>>], place: u64) -> Option<&T>
+    ensures { option_copied result ≡ slice_get (joined_items (map {B = List T} (λ l. l.value) lists.now)) place }
+{
+    let mut left = place;
+    for i in 0..lists.len() {
+        let items = lists[i].as_slice();
+        let count = items.len() as u64;
+        if left < count {
+            return nth(items, left as usize);
+        }
+        left -= count;
+    }
+    None
 }

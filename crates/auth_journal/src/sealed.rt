@@ -1,4 +1,4 @@
-use crate::items::share_all;
+use crate::items::{count_of, item_of, share_all};
 use crate::lift::lift;
 use crate::{Error, UnmerkleizedBatch};
 use codec_base::{ListOf, Write};
@@ -30,12 +30,14 @@ impl<F: Family, D: Digest, Item: Drop> Model for MerkleizedBatch<F, D, Item> {
 
 impl<F: Family, D: Digest, Item: Drop> MerkleizedBatch<F, D, Item> {
     ghost use Rattle.std.specs.Prelude.{◌≡◌, ◌+◌, ◌-◌, ◌≤◌, ◌^◌, List, length, slice_get, Some, IsOk, IfOk, IsOkUnless};
+    ghost use Rattle.std.specs.Option.{option_copied};
     ghost use Rattle.tree_shape.specs.Hashing.{Hashing};
     ghost use Rattle.tree_shape.specs.Root.{root};
     ghost use Rattle.tree_core.specs.Batches.{IsSealedOf};
     ghost use Rattle.tree_core.specs.Links.{StandsBehind};
     ghost use Rattle.tree_verification.specs.Ranges.{range_answer, leaf_answer};
     ghost use Rattle.auth_journal.specs.Batched.{AreChildOf, IsSealedOfItems, IsUnsealedOfItems, own_length};
+    ghost use Rattle.auth_journal.specs.Kept.{kept_item};
     ghost use Rattle.auth_journal.specs.Errors.{Lifts};
     ghost use Rattle.auth_journal.specs.Proving.{IsBatchProof};
 
@@ -55,6 +57,18 @@ impl<F: Family, D: Digest, Item: Drop> MerkleizedBatch<F, D, Item> {
     {
         let _sound = self.nodes.leaves();
         self.items[self.items.len() - 1].as_slice()
+    }
+
+    /// The item at a position, where the batch has it, or an ancestor whose items are kept.
+    pub fn item(&self, position: u64) -> Option<&Item>
+        ensures { option_copied result ≡ kept_item self.now position }
+    {
+        let leaves = self.nodes.leaves().as_u64();
+        let first = leaves - count_of(&self.items);
+        if position < first {
+            return None;
+        }
+        item_of(&self.items, position - first)
     }
 
     /// The root of the tree with this batch.

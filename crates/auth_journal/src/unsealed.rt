@@ -79,6 +79,13 @@ impl<F: Family, H: Hasher, Item: Write + Drop> UnmerkleizedBatch<F, H, Item> {
         self.kept.len() as u64
     }
 
+    /// The batch's own items.
+    pub fn items(&self) -> &[Item]
+        ensures { result.now ≡ self.now.items }
+    {
+        &self.items
+    }
+
     /// Adds an item, and its leaf. It refuses with `LocationOverflow` where the batch has `MAX_LEAVES` leaves, and else only with
     /// `Memory`; the batch is then as before.
     pub fn add(&mut self, item: Item) -> Result<(), Error<F>>

@@ -1,8 +1,8 @@
 -- The states of a batch that is sealed in its place are those of its list.
-use Rattle.std.proofs.Common.{◌≡◌, ℕ, ◌+◌, ◌^◌, ◌≤◌, Bool, true, false, cond, List, [], ◌∷◌, ◌++◌, length, map, drop, Option, Some, None, refl, sym, ◌∙◌, ap, subst, arith, inr}
-use Rattle.std.specs.Prelude.{IsSome, IfSome, nat_lt}
+use Rattle.std.proofs.Common.{◌≡◌, ℕ, suc, ◌+◌, ◌-◌, ◌^◌, ◌<◌, ◌≤◌, Bool, true, false, cond, List, [], ◌∷◌, ◌++◌, length, map, drop, Option, Some, None, refl, sym, ◌∙◌, ap, subst, arith, inr}
+use Rattle.std.specs.Prelude.{IsSome, IfSome, nat_lt, slice_get, Result, Ok}
 use Rattle.std.specs.List.{AllByRecursion}
-use Rattle.std.specs.Option.{option_map_or}
+use Rattle.std.specs.Option.{ForSome, option_map_or}
 use Rattle.std.proofs.Math.Seq.{drop-append_seam}
 use Rattle.std.proofs.lemmas.Bool.Decides.{nat_tests}
 use Rattle.std.proofs.lemmas.Option.{none-some}
@@ -18,12 +18,14 @@ use Rattle.log_model.proofs.OperationLemmas.{floor_of_append}
 use Rattle.chain_core.specs.Chains.{Sealing, WhyUnsealed, StandsIn, IsPoolOf}
 use Rattle.chain_core.specs.Reached.{items_at, linked_item, oldest_in, inherited_state, IsPlaceOf}
 use Rattle.chain_core.specs.Sealing.{place_refusal, refusal_of}
+use Rattle.chain_core.specs.Slots.{IsAlive, link_released, slot_at}
 use Rattle.chain_core.specs.States.{IsStateIn, AreStatesIn, IsBatchOf}
 use Rattle.chain_core.specs.declared.bounds.Bounds.{Bounds}
 use Rattle.chain_core.specs.declared.commitment.Commitment.{Commitment}
 use Rattle.chain_core.specs.declared.error.Error.{Error}
 use Rattle.chain_core.specs.declared.place.Place.{Place}
 use Rattle.chain_core.specs.declared.pool.HeldBatch.{HeldBatch}
+use Rattle.chain_core.proofs.PoolLemmas.{alive_held, alive_drawn, released_length}
 use Rattle.chain_core.proofs.StateLemmas.{state_longer, states_longer, later_in}
 
 pub state_is : {F D : Type 0} (c : Commitment F D) (n : ℕ) (r : D) → c.size ≡ n → c.root ≡ r → c ≡ record { size = n; root = r }
@@ -120,3 +122,38 @@ module _ {T F D Op V : Type 0} (bounds : T → Bounds F D) (s : Shape) (h : Hash
       floor = floor_is;
       own = sym (ap (λ n. drop n (list ++ ops)) base_size ∙ drop-append_seam list ops);
     }
+
+-- ---- the last operation of a list
+
+-- the floor of a list is that of its last operation
+pub floor_by_last : {Op V : Type 0} (m : Meaning Op V) (ops : List Op) (op : Op) → slice_get ops (length ops - 1) ≡ Some op → floor_of m (op ∷ []) ≡ floor_of m ops
+floor_by_last m [] op at = absurd cc
+floor_by_last m (x ∷ []) op at = let e : x ≡ op = cc in ap (λ o. floor_of m (o ∷ [])) (sym e)
+floor_by_last m (x ∷ y ∷ ops) op at =
+    let n : length (x ∷ y ∷ ops) - 1 ≡ suc (length (y ∷ ops) - 1) = omega arith in
+    floor_by_last m (y ∷ ops) op (rw n at at)
+
+-- ---- links in a pool
+
+module _ {T : Type 0} (pool : List (Option (HeldBatch T))) where
+  pub link_below : (parent link : Option ℕ) → link ≡ parent → ForSome parent (IsAlive pool) → (x : ℕ) → link ≡ Some x → x < length (link_released pool link)
+  link_below parent link same alive x is =
+      let e = alive_held (slot_at pool x) (alive x (sym same ∙ is)) in
+      subst (λ n. x < n) (sym (released_length pool link)) (alive_drawn pool x e.0 e.1)
+
+  -- what is put behind the slots when a link was released
+  pub put_is : (new released : List (Option (HeldBatch T))) (link parent : Option ℕ) (item : T)
+      → new ≡ released ++ (Some (record { item = item; parent = link; holds = 1 }) ∷ []) → released ≡ link_released pool link → link ≡ parent
+      → new ≡ link_released pool parent ++ (Some (record { item = item; parent = parent; holds = 1 }) ∷ [])
+  put_is new released link parent item is was same = is ∙ rw (was, same) refl
+
+  pub released_count : (link : Option ℕ) → length (link_released pool link) ≡ length pool
+  released_count link = released_length pool link
+
+-- ---- the states of a batch of a database's own state
+
+pub bounds_by : {F D : Type 0} (E : Type 0) (b : Bounds F D) (c d : Commitment F D) (f k : ℕ)
+    → (let r : Result (Bounds F D) E = Ok b in r) ≡ Ok (record { base = c; db = c; tip = c; ancestors = []; inactivity_floor = f }) → c ≡ d → f ≡ k
+    → b ≡ record { base = d; db = d; tip = d; ancestors = []; inactivity_floor = k }
+bounds_by E b c d f k is p q =
+    let e : b ≡ record { base = c; db = c; tip = c; ancestors = []; inactivity_floor = f } = cc in e ∙ rw (p, q) refl

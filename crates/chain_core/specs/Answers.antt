@@ -1,5 +1,5 @@
 -- Which refusal of a read, a proof or a prune an error is, and which errors come from outside.
-use Rattle.std.specs.Prelude.{◌≡◌, Option, Some, None, Result, IsErrAnd}
+use Rattle.std.specs.Prelude.{◌≡◌, Option, Some, None, Result, IsOk, IsErrAnd}
 use Rattle.volume_base.specs.declared.error.JournalError.TheVariants as journal_error
 use Rattle.tree_store.specs.declared.error.Error.TheVariants as tree_error
 use Rattle.log_model.specs.declared.refusal.Refusal.{Refusal}
@@ -22,6 +22,11 @@ read_refusal_of _ = None
 -- It is refused for this reason.
 abbrev pub IsRefusedFor : {F A : Type 0} → Refusal → Result A (Error F) → Type 0
 IsRefusedFor why result = IsErrAnd result (λ e. read_refusal_of e ≡ Some why)
+
+-- It is refused for this reason, where there is one, and else done.
+abbrev pub IsRefusedWhere : {F A : Type 0} → Option Refusal → Result A (Error F) → Type 0
+IsRefusedWhere None result = IsOk result
+IsRefusedWhere (Some why) result = IsRefusedFor why result
 
 -- a failure of the volume, or want of memory
 abbrev pub IsOutside : {F : Type 0} → Error F → Type 0
