@@ -1,0 +1,3 @@
+pub mod SealLemmas
+pub mod DbLemmas
+pub mod MadeLemmas

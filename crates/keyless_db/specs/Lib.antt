@@ -1,0 +1,2 @@
+pub mod DbView
+pub mod Batches

@@ -1,0 +1,11 @@
+//! The database that keeps a log without keys whole: each operation, and the tree of all.
+#![tactic(auto)]
+
+mod batch;
+mod database;
+mod operation;
+mod sealing;
+
+pub use batch::{MerkleizedBatch, UnmerkleizedBatch};
+pub use database::Keyless;
+pub use operation::KeylessOperation;
