@@ -1,6 +1,6 @@
 -- What a crash leaves of a log of witnesses, from call to call.
 use Rattle.std.proofs.Common.{◌≡◌, ◌⊎◌, inl, inr, ℕ, zero, suc, ◌-◌, ◌≤◌, max, min, List, [], ◌∷◌, ◌++◌, length, map, take, refl, sym, ◌∙◌, ap, subst, arith}
-use Rattle.std.specs.Prelude.{Result}
+use Rattle.std.specs.Prelude.{Result, Ok, Err, OnOk}
 use Rattle.std.proofs.lemmas.List.{map-append, length-map, drop_all}
 use Rattle.std.proofs.Math.Nat.{mul-div-le}
 use Rattle.journal_base.specs.Blobs.{blob_start}
@@ -16,7 +16,7 @@ use Rattle.volume_base.proofs.MomentLemmas.{log_moves, past_joins}
 use Rattle.volume_base.proofs.StepLemmas.{log_is}
 use Rattle.volume_base.proofs.SyncLemmas.{turns_at_sync}
 use Rattle.volume_base.proofs.TurnLemmas.{steps_of_turns}
-use Rattle.witness_store.specs.StoreView.{Restarts}
+use Rattle.witness_store.specs.StoreView.{IsRestarted, Restarts}
 
 -- an item more behind a list of items
 pub part_appended : {A : Type 0} (spelling : A → List ℕ) (list : List A) (x : A) (name : List ℕ) (greatest least : ℕ) (a b : State) → LogMoves name (Grows (a.log name) (spelling x ∷ [])) a b → Spells spelling list (a.log name)
@@ -92,3 +92,20 @@ restart_call tells fault name place text a b c d answer read told cleared empty 
     log_call_after_read tells fault name (Restarts place text) (restarts_same place text) a b answer read d told
     (log_call_joins name (BecomesOneOf (cleared_at place)) (Grows (cleared_at place) (text ∷ [])) (Restarts place text) b c d cleared
     (subst (λ (l : Log). LogCall name (Grows l (text ∷ [])) c d) empty grown) (restarts_cleared place text) (restarts_grown place text))
+
+restarted_from : (place : ℕ) (text : List ℕ) (old new : Log) → old ≡ cleared_at place → Grows (cleared_at place) (text ∷ []) old new → IsRestarted place text new
+restarted_from place text old new was (inl same) = inl (same ∙ was)
+restarted_from place text old new was (inr (start, count, le, back, is)) = one_behind place count text new (is ∙ ap (λ (l : Log). appended l (take count (text ∷ []))) was)
+
+-- where nothing but the empty log was left
+pub restart_left : (name : List ℕ) (place : ℕ) (text : List ℕ) (c d : State) → OnlyLeft (c.log_left c.clock name) (cleared_at place) → c.log name ≡ cleared_at place → LogCall name (Grows (c.log name) (text ∷ [])) c d
+    → LogHas d name (IsRestarted place text)
+restart_left name place text c d only empty grown =
+    let call = subst (λ (l : Log). LogCall name (Grows l (text ∷ [])) c d) empty grown in
+    let keeps = log_moves name (Grows (cleared_at place) (text ∷ [])) (λ l. l ≡ cleared_at place) (IsRestarted place text) c d call.images only (restarted_from place text) in
+    λ log is. keeps.during d.clock log call.images.past.later (omega arith) is
+
+-- what holds whatever is answered
+pub whatever : {A E : Type 0} (r : Result A E) (P : Type 0) → P → OnOk r P
+whatever (Ok a) P is = is
+whatever (Err e) P is = tt

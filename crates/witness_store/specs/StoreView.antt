@@ -28,7 +28,10 @@ HasWitnesses spelling ws greatest least log = IsPartOf (map (text_of spelling) w
 abbrev pub import_place : ℕ → ℕ
 import_place end = max end 1
 
+-- The log is empty at a place, or has one text there.
+abbrev pub IsRestarted : ℕ → List ℕ → Log → Type 0
+IsRestarted place text log = (log ≡ cleared_at place) ⊎ (log ≡ appended (cleared_at place) (text ∷ []))
+
 -- The image stays, or is an empty log at a place, or that with one text behind it.
 abbrev pub Restarts : ℕ → List ℕ → Log → Log → Type 0
-Restarts place text old new =
-    (new ≡ old) ⊎ ((new ≡ cleared_at place) ⊎ (new ≡ appended (cleared_at place) (text ∷ [])))
+Restarts place text old new = (new ≡ old) ⊎ IsRestarted place text new

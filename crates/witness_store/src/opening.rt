@@ -6,7 +6,7 @@ ghost use Rattle.volume_base.specs.Log.{end_of, cleared_at, appended, cut_to, Sh
 ghost use Rattle.volume_base.specs.Moments.{LogHas, LogKeeps};
 ghost use Rattle.volume_base.specs.Volume.{LogCall, Writes, WritesLog};
 ghost use Rattle.volume_base.specs.declared.error.JournalError.TheVariants.{ItemPruned, SizeOverflow, Volume};
-ghost use Rattle.witness_store.specs.StoreView.{HasWitnesses, import_place, Restarts};
+ghost use Rattle.witness_store.specs.StoreView.{HasWitnesses, import_place, IsRestarted, Restarts};
 ghost use Rattle.witness_store.specs.Witness.{text_of, IsAllowed};
 ghost use Rattle.witness_store.specs.Witnesses.{witnesses_of, Keeps};
 
@@ -77,6 +77,10 @@ impl<F: Family, D: Digest> Store<F, D> {
         ensures log { let place = import_place (end_of (log_of (config_of cfg) (V.state vol.old))) in
             let step = Restarts place (text_of D.spelling witness.now) in
             V.tells → LogCall (config_of cfg).name step (V.state vol.old) (V.state vol.new) }
+        // After Ok none of before is left.
+        ensures left { let place = import_place (end_of (log_of (config_of cfg) (V.state vol.old))) in
+            OnOk result (V.tells →
+            LogHas (V.state vol.new) (config_of cfg).name (IsRestarted place (text_of D.spelling witness.now))) }
         ensures refused { V.tells → RefusesUnwritten (V.state vol.old) (V.state vol.new) result }
         ensures errors { IfErr result IsOfSize }
         ensures writes { Writes V.tells Volume (V.state vol.old) (V.state vol.new) result }

@@ -1,5 +1,5 @@
 //! The witness at which a log is opened.
-ghost use Rattle.std.specs.Prelude.{◌<◌, ◌-◌, ℕ, List, MatchOption, IfOk, IfErr, IsErrOf};
+ghost use Rattle.std.specs.Prelude.{◌≡◌, ◌<◌, ◌-◌, ℕ, List, None, MatchOption, IsSome, IfOk, IfErr, IsErrOf};
 ghost use Rattle.journal_base.specs.Answers.{IsOfRead};
 ghost use Rattle.journal_base.specs.Items.{IsCorrupt};
 ghost use Rattle.journal_base.specs.View.{IsHeld, IsWithin};
@@ -25,6 +25,7 @@ pub fn select<F: Family, D: Digest, R: Witnesses<F, D>, V: Volume>(
         let items = witnesses_of {F = F} D.spelling (D.admits tt) view (V.state vol.old) in
         IfOk result (λ found. V.tells → IsWithin view (V.state vol.old) →
         MatchOption found (NoneWithin items view.start cap) (λ s. IsSelected items view.start view.end cap (s.0, s.1))) }
+    ensures uncapped { cap ≡ None → IfOk result (λ found. IsSome found) }
     // Where the log keeps the witnesses of a list, it is the list's last within the cap.
     ensures last { let view = R.seen reader.now in
         let items = witnesses_of D.spelling (D.admits tt) view (V.state vol.old) in
