@@ -1,5 +1,5 @@
 -- The last operation of a batch, and what an apply may build on.
-use Rattle.std.proofs.Common.{◌≡◌, ℕ, zero, suc, ◌-◌, ◌<◌, ◌≤◌, List, [], ◌∷◌, length, drop, get_or, Option, Some, sym, ◌∙◌, ap, arith}
+use Rattle.std.proofs.Common.{◌≡◌, ℕ, zero, suc, ◌-◌, ◌<◌, ◌≤◌, List, [], ◌∷◌, ◌++◌, length, drop, get_or, Option, Some, refl, sym, ◌∙◌, ap, arith}
 use Rattle.std.specs.Prelude.{slice_get, Result, Ok, Err, IfOk}
 
 -- what holds whatever is answered
@@ -48,3 +48,9 @@ last_read xs list n x d rest some is =
 pub for_each : {A E : Type 0} (r : Result A E) (R : A → Type 0) → ((a : A) → R a) → IfOk r R
 for_each (Ok a) R give = give a
 for_each (Err e) R give = tt
+
+-- a list that isn't longer
+pub none_more : {X : Type 0} (xs more : List X) → length (xs ++ more) ≤ length xs → xs ++ more ≡ xs
+none_more [] [] le = refl
+none_more [] (y ∷ ys) le = absurd (omega (arith, le))
+none_more (x ∷ xs) more le = ap (λ l. x ∷ l) (none_more xs more (omega (arith, le)))

@@ -5,7 +5,11 @@ pub mod SealLemmas
 pub mod PlaceLemmas
 pub mod RebuildLemmas
 pub mod DbLemmas
+pub mod SizeLemmas
+pub mod StateLemmas
 pub mod HeldLemmas
+pub mod SettleLemmas
+pub mod OpenLemmas
 pub mod ApplyLemmas
 pub mod DerivedLemmas
 pub mod ServingLemmas

@@ -25,7 +25,7 @@ use Rattle.witness_store.specs.Searched.{IsWitnessAt}
 use Rattle.witness_store.specs.Witnesses.{witnesses_of, Keeps, IsKept}
 use Rattle.witness_store.specs.declared.witness.Witness.{Witness}
 use Rattle.compact_db.specs.DbView.{DbView, seen_log}
-use Rattle.compact_db.specs.Held.{IsSizeIn, IsHeldFor}
+use Rattle.compact_db.specs.Held.{IsSizeOf, IsHeldFor}
 use Rattle.compact_db.specs.Rebuild.{RefusedOnlyAs, fits_witness, commit_answer, decoded_answer, rebuild_answer}
 use Rattle.compact_db.specs.Serving.{IsKeptAt, has_size, kept_answer, AnswersAs, IsDamaged, IsLogFault, IsOutside}
 use Rattle.compact_db.specs.WitnessOf.{witness_of}
@@ -205,5 +205,9 @@ pub if_ok : {A E : Type 0} (r : Result A E) (P R : A → Type 0) → IfOk r P �
 if_ok (Ok a) P R p give = give a p
 if_ok (Err e) P R p give = tt
 
-pub size_within : (most : ℕ) (sizes : List ℕ) (start p size : ℕ) → AllByRecursion (IsSizeIn most) sizes → IsKeptAt sizes start size (Some p) → size ≤ most
-size_within most sizes start p size all at = (each_at (IsSizeIn most) sizes p size all at.1).1
+-- at a kept size the list ends with a commit
+pub size_ended : {Op V : Type 0} (m : Meaning Op V) (ops : List Op) (sizes : List ℕ) (start p size : ℕ) → AllByRecursion (IsSizeOf m ops) (drop start sizes) →
+    IsKeptAt sizes start size (Some p) → IsSizeOf m ops size
+size_ended m ops sizes start p size all at =
+    let there : start + (p - start) ≡ p = omega (arith, at.0) in
+    each_at (IsSizeOf m ops) (drop start sizes) (p - start) size all (get_behind sizes start (p - start) ∙ ap (slice_get sizes) there ∙ at.1)

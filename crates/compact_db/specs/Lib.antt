@@ -10,3 +10,5 @@ pub mod DbView
 pub mod Held
 pub mod Import
 pub mod Serving
+pub mod Opening
+pub mod Writing

@@ -1,15 +1,14 @@
-//! Calls of a compact database that write its witnesses, or make them durable.
+//! How a compact database goes on to the state of a batch.
 ghost use Rattle.std.specs.Prelude.{◌≡◌, ◌<◌, ◌≤◌, ◌-◌, ◌^◌, ◌++◌, ◌∷◌, [], ℕ, List, length, Some, true, false, slice_get, Ok, IfOk, IsErrOf, Contains};
-ghost use Rattle.journal_base.specs.View.{IsDurable};
 ghost use Rattle.volume_base.specs.Volume.{Writes};
 ghost use Rattle.tree_core.specs.Batches.{IsSealedOf};
 ghost use Rattle.log_model.specs.Good.{EndsWithCommit};
 ghost use Rattle.log_model.specs.Operations.{leaves_from};
 ghost use Rattle.chain_core.specs.Reached.{item_at};
 ghost use Rattle.chain_core.specs.Slots.{IsAlive};
-ghost use Rattle.compact_db.specs.Batches.{MerkleizedView, IsMerkleizedOf};
 ghost use Rattle.chain_core.specs.declared.error.Error.TheVariants as error;
-ghost use Rattle.compact_db.specs.DbView.{IsOfList, commitment_in, seen_log, waits};
+ghost use Rattle.compact_db.specs.Batches.{MerkleizedView, IsMerkleizedOf};
+ghost use Rattle.compact_db.specs.DbView.{IsOfList, commitment_in, seen_log, waits, is_uncommitted};
 ghost use Rattle.compact_db.specs.Held.{IsHeldFor, SameState};
 
 use crate::applying::applied;
@@ -41,6 +40,10 @@ impl<F: Family, O: CompactOperation, H: Hasher> CompactDb<F, O, H> {
             IsHeldFor F.shape H.hash O.meaning H.Digest.spelling (H.Digest.admits tt) ops sizes self (V.state vol.old) →
             IsOfList F.shape H.hash O.meaning (ops ++ more) made → length ops < length (ops ++ more) →
             IsHeldFor F.shape H.hash O.meaning H.Digest.spelling (H.Digest.admits tt) (ops ++ more) (sizes ++ length (ops ++ more) ∷ []) made (V.state vol.new)) }
+        // Where an import waits, the volume has then this list's last witness.
+        ensures imported { waits self.log ≡ true → IfOk result (λ made. V.tells → (ops : List O) →
+            IsOfList F.shape H.hash O.meaning ops made → (sizes : List ℕ)
+            × IsHeldFor F.shape H.hash O.meaning H.Digest.spelling (H.Digest.admits tt) ops sizes made (V.state vol.new)) }
         ensures writes { Writes V.tells error.Volume (V.state vol.old) (V.state vol.new) result }
     {
         let CompactDb {
@@ -68,6 +71,11 @@ impl<F: Family, O: CompactOperation, H: Hasher> CompactDb<F, O, H> {
         ensures same { IfOk result (SameState self) }
         ensures opened { IfOk result (λ made. waits made.log ≡ false) }
         ensures idle { waits self.log ≡ false → vol.new ≡ vol.old }
+        ensures same_log { waits self.log ≡ false → IfOk result (λ made.
+            (seen_log made.log ≡ seen_log self.log) × (is_uncommitted made.log ≡ is_uncommitted self.log)) }
+        ensures imported { waits self.log ≡ true → IfOk result (λ made. V.tells → (ops : List O) →
+            IsOfList F.shape H.hash O.meaning ops self → (sizes : List ℕ)
+            × IsHeldFor F.shape H.hash O.meaning H.Digest.spelling (H.Digest.admits tt) ops sizes made (V.state vol.new)) }
         ensures writes { Writes V.tells error.Volume (V.state vol.old) (V.state vol.new) result }
     {
         let CompactDb {
@@ -106,6 +114,14 @@ impl<F: Family, O: CompactOperation, H: Hasher> CompactDb<F, O, H> {
             IsHeldFor F.shape H.hash O.meaning H.Digest.spelling (H.Digest.admits tt) ops sizes self (V.state vol.old) →
             IsMerkleizedOf F.shape H.hash O.meaning (ops ++ more) b → 0 < length more →
             IsHeldFor F.shape H.hash O.meaning H.Digest.spelling (H.Digest.admits tt) (ops ++ more) (sizes ++ length (ops ++ more) ∷ []) made (V.state vol.new)) }
+        // Where an import waits, it is written first: the volume has then the witness of the list alone.
+        ensures imported { waits self.log ≡ true → IfOk result (λ made. V.tells → (ops more : List O) (b : MerkleizedView F H.Digest O) →
+            item_at pool.now id ≡ Some b → IsOfList F.shape H.hash O.meaning ops self →
+            IsMerkleizedOf F.shape H.hash O.meaning (ops ++ more) b → (sizes : List ℕ)
+            × IsHeldFor F.shape H.hash O.meaning H.Digest.spelling (H.Digest.admits tt) (ops ++ more) sizes made (V.state vol.new)) }
+        // Where the batch has no more operations, the state stays, and nothing is written but for an import.
+        ensures stays { IfOk result (λ made. (b : MerkleizedView F H.Digest O) → item_at pool.now id ≡ Some b →
+            b.bounds.tip.size ≤ self.tip.witness.size → SameState self made) }
         ensures idle { (b : MerkleizedView F H.Digest O) → item_at pool.now id ≡ Some b → b.bounds.tip.size ≤ self.tip.witness.size →
             waits self.log ≡ false → vol.new ≡ vol.old }
         ensures writes { Writes V.tells error.Volume (V.state vol.old) (V.state vol.new) result }
@@ -125,64 +141,5 @@ impl<F: Family, O: CompactOperation, H: Hasher> CompactDb<F, O, H> {
             return Err(Error::Memory);
         };
         self.grown(vol, &batch.tree, commit)
-    }
-
-    /// Makes the witnesses durable, where one may not be. Where an import waits, its witness is written before.
-    pub fn commit<V: Volume>(self, vol: &mut V) -> Result<Self, Error<F>>
-        ensures same { IfOk result (SameState self) }
-        ensures opened { IfOk result (λ made. waits made.log ≡ false) }
-        // The witnesses stay those of the list.
-        ensures held { IfOk result (λ made. V.tells → (ops : List O) (sizes : List ℕ) →
-            IsHeldFor F.shape H.hash O.meaning H.Digest.spelling (H.Digest.admits tt) ops sizes self (V.state vol.old) →
-            IsHeldFor F.shape H.hash O.meaning H.Digest.spelling (H.Digest.admits tt) ops sizes made (V.state vol.new)) }
-    {
-        let CompactDb {
-            alloc,
-            log,
-            tip,
-            merkle,
-            last_commit,
-            codec,
-        } = self;
-        let store = opened(log, vol, &tip.witness)?;
-        let store = store.commit(vol)?;
-        Ok(CompactDb {
-            alloc,
-            log: WitnessLog::Open(store),
-            tip,
-            merkle,
-            last_commit,
-            codec,
-        })
-    }
-
-    /// Makes the witnesses durable. Where an import waits, its witness is written before.
-    pub fn sync<V: Volume>(self, vol: &mut V) -> Result<Self, Error<F>>
-        ensures same { IfOk result (SameState self) }
-        ensures opened { IfOk result (λ made. waits made.log ≡ false) }
-        // The witnesses stay those of the list.
-        ensures held { IfOk result (λ made. V.tells → (ops : List O) (sizes : List ℕ) →
-            IsHeldFor F.shape H.hash O.meaning H.Digest.spelling (H.Digest.admits tt) ops sizes self (V.state vol.old) →
-            IsHeldFor F.shape H.hash O.meaning H.Digest.spelling (H.Digest.admits tt) ops sizes made (V.state vol.new)) }
-        ensures durable { IfOk result (λ made. V.tells → IsDurable (seen_log made.log) (V.state vol.new)) }
-    {
-        let CompactDb {
-            alloc,
-            log,
-            tip,
-            merkle,
-            last_commit,
-            codec,
-        } = self;
-        let store = opened(log, vol, &tip.witness)?;
-        let store = store.sync(vol)?;
-        Ok(CompactDb {
-            alloc,
-            log: WitnessLog::Open(store),
-            tip,
-            merkle,
-            last_commit,
-            codec,
-        })
     }
 }

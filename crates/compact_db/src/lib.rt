@@ -1,5 +1,5 @@
 //! Databases that keep of a list of operations the frontier of its tree, and a witness of each applied state. A
-//! database begins by an import; its opening from a log, its prune and what it serves aren't there yet.
+//! database begins by an import; its opening from a log isn't there yet.
 #![tactic(auto)]
 
 mod applying;
@@ -12,9 +12,11 @@ mod laws;
 mod opening;
 mod operation;
 mod places;
+mod pruning;
 mod rebuilding;
 mod sealing;
 mod serving;
+mod syncing;
 mod verified;
 
 pub use batch::{MerkleizedBatch, UnmerkleizedBatch};

@@ -1,14 +1,20 @@
-use Rattle.std.proofs.Common.{ℕ, ◌+◌, List, [], ◌∷◌, ◌++◌, length, map, refl, sym, ◌∙◌, ap, subst, arith}
+use Rattle.std.proofs.Common.{◌≡◌, ℕ, true, ◌+◌, List, [], ◌∷◌, ◌++◌, length, map, refl, sym, ◌∙◌, ap, subst, arith}
 use Rattle.log_model.specs.Operations.{floor_of, leaves_from}
 use Rattle.log_model.proofs.OperationLemmas.{leaves_from-append}
 use Rattle.tree_core.specs.Batches.{IsSealedOf}
+use Rattle.journal_base.specs.View.{View}
+use Rattle.volume_base.specs.Log.{Log}
+use Rattle.witness_store.specs.Witnesses.{witnesses_of}
 use Rattle.tree_core.specs.Tree.{Tree, IsOf}
-use Rattle.compact_db.specs.DbView.{DbView, seen_log}
+use Rattle.compact_db.specs.DbView.{DbView, IsOfList, seen_log, waits}
 use Rattle.compact_db.specs.Held.{IsHeldFor}
 use Rattle.compact_db.specs.StateOf.{IsRestored}
 use Rattle.compact_db.specs.WitnessOf.{witness_of}
+use Rattle.compact_db.specs.Writing.{place_in}
 use Rattle.compact_db.proofs.DbLemmas.{size_of_list}
-use Rattle.compact_db.proofs.HeldLemmas.{grown_state, grown_held, allowed_tip, last_below, ends_some}
+use Rattle.compact_db.specs.declared.database.WitnessLog.TheVariants.{Open}
+use Rattle.compact_db.proofs.StateLemmas.{ones}
+use Rattle.compact_db.proofs.HeldLemmas.{grown_state, grown_held, begun_held, allowed_tip, last_below, states_of, grown_start, begun_start}
 use Rattle.compact_db.proofs.database.CompactDb.grown.Goals as goal
 
 pub returns-clause-list : goal.returns-clause-list
@@ -37,6 +43,29 @@ returns-clause-held g c told ops more sizes was is lt =
     (sym c.self.view_is) was in
     let size = size_of_list s h m (ops ++ more) c.in_ok-tip.tip c.in_ok-tip.merkle c.args.commit is in
     let below = last_below g.row.F.Denot s h m ops sizes (seen_log c.self.inside.log).start c.in_ok-tip.tip.witness.size was.last (omega (arith, size, lt)) in
-    grown_held s h m g.met.F.Family.lawful g.H.Digest.Spelled.spelling (g.H.Digest.Read.admits tt) _ (g.V.Volume.state c.extended.new.vol) (seen_log c.self.inside.log)
-    c.in_ok-store.ensures.same refl (c.in_ok-store.ensures.held told) ops more sizes (ends_some m ops was.list.ends) is was.within
+    let sp = g.H.Digest.Spelled.spelling in
+    let ad = g.H.Digest.Read.admits tt in
+    grown_held s h m g.met.F.Family.lawful sp ad _ (g.V.Volume.state c.extended.new.vol) (seen_log c.self.inside.log) (ap (λ (v : View (Unit {0})). v.name) c.in_ok-store.ensures.same.0) refl (c.in_ok-store.ensures.held told)
+    (witnesses_of sp ad (seen_log c.self.inside.log) (g.V.Volume.state c.args.vol.now)) ops more sizes
+    (ap (λ (l : Log). l.start) (c.in_ok-store.ensures.written told) ∙ grown_start sp c.self.inside.log c.in_ok-tip.tip.witness (g.V.Volume.state c.args.vol.now) was2.opened)
+    is (states_of s h m sp ad _ (g.V.Volume.state c.args.vol.now) ops sizes was2)
     (c.in_ok-store.ensures.keeps was2.opened told was2.bounds (map (witness_of s h m ops) sizes) was2.witnesses allowed below)
+
+pub returns-clause-imported : goal.returns-clause-imported
+returns-clause-imported g c waiting told ops is =
+    let s = g.F.Family.shape in
+    let h = g.H.Hasher.hash in
+    let m = g.O.Logged.meaning in
+    let sp = g.H.Digest.Spelled.spelling in
+    let ad = g.H.Digest.Read.admits tt in
+    let made : DbView g.row.F.Denot g.row.H-Digest.Denot g.row.O.Denot g.row.O-Cfg.Denot = record { log = Open c.in_ok-store.store; tip = c.in_ok-tip.tip; tree = c.in_ok-tip.merkle; commit = c.args.commit; codec = c.self.inside.codec } in
+    let w : waits c.self.inside.log ≡ true = subst (λ (d : DbView g.row.F.Denot g.row.H-Digest.Denot g.row.O.Denot g.row.O-Cfg.Denot). waits d.log ≡ true) (sym c.self.view_is) waiting in
+    let hashed = λ (bytes : List ℕ). g.met.H.Digest.Digest.allowed (h.digest bytes)
+    (ap length (sym (g.met.H.Hasher.same_bytes (h.digest bytes))) ∙ g.met.H.Hasher.one_size bytes) in
+    let allowed = allowed_tip s h m g.met.F.Family.lawful g.met.F.Family.few_peaks ad hashed ops c.in_ok-tip.tip c.in_ok-tip.merkle c.args.commit is c.in_ok-tip.ensures.short in (
+      ones (place_in c.self.inside.log (g.V.Volume.state c.args.vol.now)) ++ (length ops ∷ []),
+      begun_held s h m g.met.F.Family.lawful sp ad made (g.V.Volume.state c.extended.new.vol) (seen_log c.self.inside.log) (ap (λ (v : View (Unit {0})). v.name) c.in_ok-store.ensures.same.0) refl (c.in_ok-store.ensures.held told)
+          ops (place_in c.self.inside.log (g.V.Volume.state c.args.vol.now)) is
+          (ap (λ (l : Log). l.start) (c.in_ok-store.ensures.written told) ∙ begun_start sp c.self.inside.log c.in_ok-tip.tip.witness (g.V.Volume.state c.args.vol.now) w)
+          (λ ws count. c.in_ok-store.ensures.begins w told ws count allowed),
+    )

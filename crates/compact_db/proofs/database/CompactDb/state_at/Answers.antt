@@ -12,11 +12,11 @@ use Rattle.witness_store.specs.Searched.{IsWitnessAt}
 use Rattle.witness_store.specs.Witnesses.{witnesses_of, IsKept}
 use Rattle.witness_store.specs.declared.witness.Witness.{Witness}
 use Rattle.compact_db.specs.DbView.{DbView, seen_log}
-use Rattle.compact_db.specs.Held.{IsHeldFor}
+use Rattle.compact_db.specs.Held.{IsHeldFor, IsSizeOf}
 use Rattle.compact_db.specs.Rebuild.{RefusedOnlyAs, rebuild_answer}
 use Rattle.compact_db.specs.Serving.{has_size, kept_answer, AnswersAs, IsDamaged, IsLogFault, IsOutside}
 use Rattle.compact_db.specs.WitnessOf.{witness_of}
-use Rattle.compact_db.proofs.ServingLemmas.{all_taken, size_within, size_none, size_here, witness_here, front_witness, kept_true, kept_false, none_kept, rebuilt_as, damaged_as, fault_outside, never_volume, not_volume, if_ok}
+use Rattle.compact_db.proofs.ServingLemmas.{all_taken, size_ended, size_none, size_here, witness_here, front_witness, kept_true, kept_false, none_kept, rebuilt_as, damaged_as, fault_outside, never_volume, not_volume, if_ok}
 use Rattle.compact_db.proofs.database.CompactDb.state_at.Goals as goal
 
 pub returns-in-Ok-Some-clause-kept : goal.returns-in-Ok-Some-clause-kept
@@ -81,7 +81,9 @@ returns-in-Ok-Some-clause-list g c = if_ok c.rebuild.result _ _ c.rebuild.ensure
     let here = size_here s h m ops sizes first c.args.size c.in-Ok-Some.field-0-0-0 c.in-Ok-Some.witness kept in
     let same = witness_here s h m ops sizes first c.args.size c.in-Ok-Some.field-0-0-0 c.in-Ok-Some.witness kept in
     let few = was.list.few in
-    let within = size_within (length ops) sizes first c.in-Ok-Some.field-0-0-0 c.args.size was.within here in
+    let kept_sizes = subst (λ (k : ℕ). AllByRecursion (IsSizeOf m ops) (drop k sizes)) (sym was.bounds.start_is) was.within in
+    let ended = size_ended m ops sizes first c.in-Ok-Some.field-0-0-0 c.args.size kept_sizes here in
+    let within = ended.0 in
     let allowed = subst (λ (d : DbView g.row.F.Denot g.row.H-Digest.Denot g.row.O.Denot g.row.O-Cfg.Denot). AllByRecursion (g.O.Read.admits d.codec) ops) (sym c.self.view_is) all in
     list (take c.args.size ops) ends (omega (arith, few, length-take c.args.size ops)) (all_taken (g.O.Read.admits c.self.inside.codec) c.args.size ops allowed)
     (same ∙ front_witness s h m ops sizes first c.args.size c.requires within))
