@@ -6,6 +6,7 @@ pub mod Recovering
 pub mod Pinning
 pub mod Proving
 pub mod Preparing
+pub mod Opened
 pub mod Flushing
 pub mod Pruning
 pub mod Removing

@@ -1,5 +1,6 @@
 //! A tree begins in a sync.
-ghost use Rattle.std.specs.Prelude.{◌≡◌, ◌⊎◌, ◌<◌, ◌≤◌, ◌^◌, ℕ, List, length, take, Option, false, unwrap_or, string_bytes, is_some, IfOk, IfErr, IfSome, OnOk};
+ghost use Rattle.std.specs.Prelude.{◌≡◌, ◌⊎◌, ◌<◌, ◌≤◌, ◌^◌, ℕ, List, length, take, Option, false};
+ghost use Rattle.std.specs.Prelude.{unwrap_or, string_bytes, is_some, IfOk, IfErr, IfSome, OnOk};
 ghost use Rattle.std.specs.Option.{option_map};
 ghost use Rattle.std.specs.NonZero.{non_zero_u64_get};
 ghost use Rattle.journal_base.specs.View.{config_of, seen_of, log_of, SameButBounds, IsHeld, IsDurable};
@@ -13,7 +14,8 @@ ghost use Rattle.volume_base.specs.Volume.{OnlyLeft, Reads, Writes, Changes};
 ghost use Rattle.merkle_full.specs.Full.{Rests, IsSeated};
 ghost use Rattle.merkle_full.specs.Lists.{AreDigests, IsFullOf};
 ghost use Rattle.merkle_full.specs.Preparing.{contents_of};
-ghost use Rattle.merkle_full.specs.Syncing.{KeepsOf, log_begun, IsMapBegun, IsMiscounted, Begins, IsBegunAs, IsBegunFrom, NotBegun, BeginsInOrder};
+ghost use Rattle.merkle_full.specs.Syncing.{KeepsOf, log_begun, IsMapBegun, IsMiscounted};
+ghost use Rattle.merkle_full.specs.Syncing.{Begins, IsBegunAs, IsBegunFrom, NotBegun, BeginsInOrder};
 
 use crate::pins::pin_positions;
 use crate::reopen::reopened;
@@ -68,7 +70,8 @@ fn ready<F: Family, D: Digest, V: Volume>(
     ensures exact { IfOk result (λ r. (p : ℕ) →
         is_some (node_at r.mem p) ≡ rests F.shape (unwrap_or r.kept start) start p) }
     ensures kept { let log = log_of (seen_of nodes.now) (V.state vol.old) in
-        IfOk result (λ r. V.tells → IsHeld (seen_of nodes.now) (V.state vol.old) → KeepsOf F.shape start end log r.kept) }
+        IfOk result (λ r. V.tells → IsHeld (seen_of nodes.now) (V.state vol.old) →
+        KeepsOf F.shape start end log r.kept) }
     ensures within { IfOk result (λ r. IfSome r.kept (λ n. (start ≤ n) × (n ≤ end))) }
     ensures low { IfOk result (λ r. IfSome r.kept (λ n. (seen_of nodes.now).start ≤ size F.shape start)) }
     ensures fits { IfOk result (λ r. IfSome r.kept (λ n. size F.shape n ≤ (seen_of nodes.now).end)) }
@@ -162,13 +165,14 @@ impl<F: Family, D: Digest> Merkle<F, D> {
     ghost use Rattle.merkle_full.specs.Full.{Rests, IsSeated};
     ghost use Rattle.merkle_full.specs.Lists.{AreDigests, IsFullOf};
     ghost use Rattle.merkle_full.specs.Preparing.{contents_of};
-    ghost use Rattle.merkle_full.specs.Syncing.{IsMapBegun, IsMiscounted, Begins, IsBegunAs, IsBegunFrom, NotBegun, BeginsInOrder};
+    ghost use Rattle.merkle_full.specs.Syncing.{IsMapBegun, IsMiscounted};
+    ghost use Rattle.merkle_full.specs.Syncing.{Begins, IsBegunAs, IsBegunFrom, NotBegun, BeginsInOrder};
 
-    /// Begins a tree that is pruned at `start`, with the pins of `start`, in the place of what is stored. The node log is kept up to
-    /// `end` leaves where it covers `start`: where it begins at or before the position of `start`, and one more leaf is complete.
-    /// Else it is cleared to that position. It refuses, before anything is written: with `InvalidPinnedNodes` given pins of which
-    /// there aren't as many as peaks of `start`; and as `prepare` the first peak that is in neither place, of `start` where no pins
-    /// are given, and then of the leaves that will stand.
+    /// Begins a tree that is pruned at `start`, with the pins of `start`, in the place of what is stored. The node
+    /// log is kept up to `end` leaves where it covers `start`: where it begins at or before the position of `start`,
+    /// and one more leaf is complete. Else it is cleared to that position. It refuses, before anything is written:
+    /// with `InvalidPinnedNodes` given pins of which there aren't as many as peaks of `start`; and as `prepare` the
+    /// first peak that is in neither place, of `start` where no pins are given, and then of the leaves that will stand.
     pub fn init_sync<V: Volume>(
         alloc: Global,
         vol: &mut V,
@@ -205,9 +209,11 @@ impl<F: Family, D: Digest> Merkle<F, D> {
         ensures refused { let map = (V.state vol.old).map (string_bytes cfg.config.metadata) in
             let log = (V.state vol.old).log (string_bytes cfg.config.nodes) in
             let source = contents_of D.spelling (D.Read.admits tt) map log in
-            V.tells → IfErr result (NotBegun source F.shape cfg.start cfg.end (option_map (λ v. v.items) cfg.pinned_nodes)) }
+            V.tells → IfErr result
+            (NotBegun source F.shape cfg.start cfg.end (option_map (λ v. v.items) cfg.pinned_nodes)) }
         // Beside a refusal by name nothing is written.
-        ensures unwritten { V.tells → IfErr result (λ e. IsOutside e ⊎ ((V.state vol.new).clock ≡ (V.state vol.old).clock)) }
+        ensures unwritten { V.tells → IfErr result
+            (λ e. IsOutside e ⊎ ((V.state vol.new).clock ≡ (V.state vol.old).clock)) }
         ensures names { let names = log_and_map (string_bytes cfg.config.nodes) (string_bytes cfg.config.metadata) in
             V.tells → NamesCall names (V.state vol.old) (V.state vol.new) }
         // The map is durable before the log moves.

@@ -69,7 +69,8 @@ fn trimmed_log<F: Family, D: Digest, V: Volume>(
     ensures held { IfOk result (λ made. V.tells → IsHeld (view_of made) (V.state vol.new)) }
     ensures log { let log = log_of (seen_of nodes) (V.state vol.old) in
         OnOk result (V.tells → IsHeld (seen_of nodes) (V.state vol.old) →
-        log_of (seen_of nodes) (V.state vol.new) ≡ pruned_to (cut_to log end) (blob_start (seen_of nodes).blob position)) }
+        log_of (seen_of nodes) (V.state vol.new) ≡
+        pruned_to (cut_to log end) (blob_start (seen_of nodes).blob position)) }
     ensures durable { OnOk result (V.tells → IsDurable (seen_of nodes) (V.state vol.new)) }
     ensures outside { V.tells → IsHeld (seen_of nodes) (V.state vol.old) → IfErr result IsOutside }
     ensures names { V.tells → NamesCall (log_alone (seen_of nodes).name) (V.state vol.old) (V.state vol.new) }
@@ -81,7 +82,8 @@ fn trimmed_log<F: Family, D: Digest, V: Volume>(
     Ok(journal)
 }
 
-/// The log of a tree that begins at `start`: empty there, or cut to the nodes of the leaves that are kept, and pruned by blobs.
+/// The log of a tree that begins at `start`: empty there, or cut to the nodes of the leaves that are kept, and pruned
+/// by blobs.
 pub(crate) fn begun_log<F: Family, D: Digest, V: Volume>(
     vol: &mut V,
     nodes: JournalRecovery<D, Fixed>,

@@ -2,6 +2,7 @@ use Rattle.std.proofs.Common.{inl, ℕ, List, Ok, take, refl, subst, sym, ◌∙
 use Rattle.std.specs.Prelude.{string_bytes}
 use Rattle.tree_store.specs.Stored.{TreeStands}
 use Rattle.tree_store.specs.declared.error.Error.TheVariants as tree
+use Rattle.journal_base.specs.View.{View}
 use Rattle.volume_base.specs.Log.{Log}
 use Rattle.volume_base.specs.Moments.{present, PairHas, PairKeeps}
 use Rattle.volume_base.specs.Names.{log_and_map, NamesCall}
@@ -12,8 +13,24 @@ use Rattle.volume_base.proofs.MomentLemmas.{pair_has_after, pair_keeps_joins}
 use Rattle.merkle_full.specs.Lists.{IsFullOf}
 use Rattle.merkle_full.specs.Preparing.{cap_of, Opens}
 use Rattle.merkle_full.proofs.PrepareLemmas.{kept_standing, durable_fits}
+use Rattle.merkle_full.proofs.RunLemmas.{renamed_durable}
 use Rattle.merkle_full.proofs.StandLemmas.{pair_idle}
 use Rattle.merkle_full.proofs.merkle.Merkle.open_under.Goals as goal
+
+pub returns-clause-named : goal.returns-clause-named
+returns-clause-named g c =
+    let named = (c.in_ok-recovery.ensures {u = tt}).named in
+    let opened = c.in_ok-opened.ensures {u = tt} in
+    record {
+      nodes_is = ap (λ (v : View _). v.name) opened.from.log ∙ named.nodes_is;
+      blob_is = ap (λ (v : View _). v.blob) opened.from.log ∙ named.blob_is;
+      unfailed = opened.fresh;
+      metadata_is = opened.from.metadata ∙ named.metadata_is;
+    }
+
+pub returns-clause-durable : goal.returns-clause-durable
+returns-clause-durable g c told =
+    renamed_durable (string_bytes c.args.cfg.nodes) _ (g.V.Volume.state c.finish.new.vol) (c.in_ok-recovery.ensures {u = tt}).named.nodes_is ((c.in_ok-opened.ensures {u = tt}).durable told)
 
 pub returns-clause-opens : goal.returns-clause-opens
 returns-clause-opens g c told =

@@ -1,0 +1,38 @@
+-- A tree that is opened from a map beside a log.
+use Rattle.std.specs.Prelude.{◌≡◌, ℕ, ◌≤◌, ◌^◌, List, length, take, false}
+use Rattle.volume_base.specs.Log.{Log}
+use Rattle.volume_base.specs.Moments.{Image, PairHas, PairKeeps}
+use Rattle.volume_base.specs.Volume.{State, Map}
+use Rattle.tree_shape.specs.Hashing.{Hashing}
+use Rattle.tree_shape.specs.Shape.{Shape}
+use Rattle.tree_store.specs.Stored.{TreeStands}
+use Rattle.merkle_full.specs.Full.{Full}
+use Rattle.merkle_full.specs.Lists.{AreDigests, IsFullOf}
+use Rattle.merkle_full.specs.Preparing.{Opens}
+
+-- It keeps no failure, its log and its map have these names, and the log's blobs so many nodes.
+pub record IsOpenedAs {D : Type 0} (nodes : List ℕ) (blob : ℕ) (metadata : List ℕ) (t : Full D) : Type 0 where
+  pub nodes_is : t.log.name ≡ nodes
+  pub blob_is : t.log.blob ≡ blob
+  pub unfailed : t.log.failed ≡ false
+  pub metadata_is : t.metadata ≡ metadata
+
+-- It is pruned at, and has, as many leaves as boundary, nodes and cap allow.
+abbrev pub IsOpenedUnder : {D : Type 0} → Type 0 → (D → List ℕ) → (D → Type 0) → Shape → Map → Log → ℕ → Full D → Type 0
+IsOpenedUnder F spelling admits s m log cap t =
+    (boundary complete : ℕ) × Opens F spelling admits s m log cap boundary complete t.boundary t.tree.leaves
+
+-- For each list that map and log stood for, it is held, and is the tree of its first leaves.
+abbrev pub IsOfEach : {D : Type 0} → Shape → Hashing D → (D → List ℕ) → (D → Type 0) → Map → Log → Full D → Image
+    → Type 0
+IsOfEach {D} s h spelling admits m log t image =
+    (all : List D) (durable top : ℕ) → TreeStands s h spelling all durable top log m → length all ≤ 2 ^ 62
+    → AreDigests s h admits all → IsFullOf s h spelling admits (take t.tree.leaves all) t image
+
+-- Where the cap allows what is durable, each image goes on standing for the list.
+abbrev pub KeepsEach : {D : Type 0} → Shape → Hashing D → (D → List ℕ) → (D → Type 0) → ℕ → List ℕ → List ℕ
+    → State → State → Type 0
+KeepsEach {D} s h spelling admits cap nodes metadata old new =
+    (all : List D) (durable top : ℕ) → length all ≤ 2 ^ 62 → AreDigests s h admits all → durable ≤ cap
+    → PairHas old nodes metadata (TreeStands s h spelling all durable top)
+    → PairKeeps nodes metadata (TreeStands s h spelling all durable top) old new
