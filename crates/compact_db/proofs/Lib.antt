@@ -14,3 +14,4 @@ pub mod ApplyLemmas
 pub mod DerivedLemmas
 pub mod ServingLemmas
 pub mod AnswerLemmas
+pub mod ProvingLemmas

@@ -12,3 +12,4 @@ pub mod Import
 pub mod Serving
 pub mod Opening
 pub mod Writing
+pub mod Proving

@@ -13,6 +13,7 @@ mod opening;
 mod operation;
 mod places;
 mod pruning;
+mod proving;
 mod rebuilding;
 mod sealing;
 mod serving;
