@@ -1,5 +1,5 @@
 -- A journal that is being opened.
-use Rattle.std.proofs.Common.{◌≡◌, ◌⊎◌, ⊎_elim, inl, inr, ℕ, zero, suc, ◌+◌, ◌-◌, ◌<◌, ◌≤◌, max, min, List, [], ◌∷◌, length, map, take, Ok, Err, refl, sym, ◌∙◌, ap, subst, arith}
+use Rattle.std.proofs.Common.{◌≡◌, ◌≢◌, ◌⊎◌, ⊎_elim, inl, inr, ℕ, zero, suc, ◌+◌, ◌-◌, ◌<◌, ◌≤◌, max, min, List, [], ◌∷◌, length, map, take, Ok, Err, refl, sym, ◌∙◌, ap, subst, arith}
 use Rattle.std.specs.List.{enumerate_from, take-map}
 use Rattle.std.proofs.lemmas.List.{take_all, length-take}
 use Rattle.tree_shape.specs.Hashing.{Hashing}
@@ -12,7 +12,7 @@ use Rattle.volume_base.specs.Moments.{present, LogKeeps}
 use Rattle.volume_base.specs.Names.{Names, log_alone, log_and_map, two_logs_and_map, NamesCall, IsNoneOf}
 use Rattle.volume_base.proofs.MomentLemmas.{past_joins}
 use Rattle.std.proofs.lemmas.Bool.{cases_lt, ltb-true}
-use Rattle.volume_base.specs.Volume.{State, LogMoves, Follows}
+use Rattle.volume_base.specs.Volume.{State, LogMoves, LogCall, Follows}
 use Rattle.std.specs.Prelude.{Result, IfErr, Bool, true, false, ◌&&◌, nat_lt, if◌then◌else◌}
 use Rattle.std.specs.Result.{IsErrAnd}
 use Rattle.journal_base.specs.Answers.{IsOfStart, IsOfVolume, IsOfRead}
@@ -189,6 +189,18 @@ pub keeps_cut : (name : List ℕ) (log : Log) (end : ℕ) (a b : State) → end 
 keeps_cut name log end a b high moves =
     let same : min end (end_of log) ≡ end = omega (arith, high) in
     record { past = moves.past; during = λ t image lo hi left. subst (λ n. Follows (a.log_left a.clock name) (Shrinks n) image) same (moves.this t image lo hi left) }
+
+-- images of a log over a call on another, and then over calls that take each image by a step
+pub keeps_behind : (name other : List ℕ) (step second both : Log → Log → Type 0) (a b c : State) → name ≢ other → LogCall other step a b → LogKeeps name (Follows (b.log_left b.clock name) second) b c → ((log : Log) → both log log) → ((old new : Log) → second old new → both old new) → LogKeeps name (Follows (a.log_left a.clock name) both) a c
+keeps_behind name other step second both a b c apart call keeps idle wider = record {
+  past = past_joins a b c call.images.past keeps.past;
+  during = λ t log lo hi left. ⊎_elim
+      (λ early. let le : t ≤ b.clock = omega (arith, early) in (log, (call.images.logs t name log lo le apart).0 ((keeps.past.logs t name log le).0 left), idle log))
+      (λ late. let moved = keeps.during t log late hi left in
+      let at : b.log_left b.clock name moved.0 = moved.1 in
+      (moved.0, (call.images.logs b.clock name moved.0 call.images.past.later (omega arith) apart).0 at, wider moved.0 log moved.2))
+      (cases_lt t b.clock);
+}
 
 -- ---- what stands ready
 

@@ -1,6 +1,6 @@
 -- A journal that is being opened, and why it isn't.
 use Rattle.std.specs.Prelude.{◌≡◌, ◌≢◌, ◌⊎◌, ℕ, ◌^◌, ◌<◌, ◌≤◌, List, Option, Some, Bool, false}
-use Rattle.volume_base.specs.Log.{Log}
+use Rattle.volume_base.specs.Log.{Log, Shrinks}
 use Rattle.volume_base.specs.Volume.{State, Map}
 use Rattle.volume_base.specs.declared.error.JournalError.{JournalError}
 use Rattle.volume_base.specs.declared.error.JournalError.TheVariants.{ItemPruned}
@@ -70,3 +70,7 @@ abbrev pub NotOpened : {F D A : Type 0} → Type 0 → (D → List ℕ) → (D �
 NotOpened {F} tells spelling admits s m log items says cap e =
     NotReady spelling admits s m log items says cap e
     ⊎ ((end pruned leaves : ℕ) × EndsAt items says cap end × OpensAt F spelling admits s m log (cap_of (Some end)) pruned leaves × NotAligned tells items leaves end e)
+
+-- An image of the log is one of before, or loses at most what is behind an end at which the log is opened.
+abbrev pub ShrinksToEnd : {A : Type 0} → Items A → (A → Bool → Type 0) → Option ℕ → Log → Log → Type 0
+ShrinksToEnd items says cap old new = (new ≡ old) ⊎ ((end : ℕ) × EndsAt items says cap end × Shrinks end old new)

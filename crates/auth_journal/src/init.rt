@@ -10,17 +10,18 @@ use volume_base::Volume;
 impl<F: Family, C: Backing, H: Hasher> Journal<F, C, H> {
     ghost use Rattle.std.specs.Prelude.{◌≡◌, ◌≢◌, ◌≤◌, ◌^◌, ℕ, List, length, take, false, Some, None, string_bytes, IfOk, IfErr, OnOk};
     ghost use Rattle.std.specs.Fn.{FnReturnsAt};
+    ghost use Rattle.std.specs.NonZero.{non_zero_u64_get};
     ghost use Rattle.journal_base.specs.Items.{items_of, Spells};
     ghost use Rattle.journal_base.specs.View.{log_of, SameButBounds, IsHeld, IsDurable};
     ghost use Rattle.tree_store.specs.Stored.{TreeStands};
     ghost use Rattle.volume_base.specs.Log.{cut_to};
-    ghost use Rattle.volume_base.specs.Moments.{present};
+    ghost use Rattle.volume_base.specs.Moments.{present, LogKeeps};
     ghost use Rattle.volume_base.specs.Names.{two_logs_and_map, NamesCall};
-    ghost use Rattle.volume_base.specs.Volume.{Changes};
+    ghost use Rattle.volume_base.specs.Volume.{Follows, Changes};
     ghost use Rattle.merkle_full.specs.Full.{Rests, IsSeated};
     ghost use Rattle.merkle_full.specs.Preparing.{cap_of};
     ghost use Rattle.auth_journal.specs.Joined.{IsJoinedOf, leaves_of};
-    ghost use Rattle.auth_journal.specs.Opening.{OpensAt, NotOpened};
+    ghost use Rattle.auth_journal.specs.Opening.{OpensAt, NotOpened, ShrinksToEnd};
     ghost use Rattle.auth_journal.specs.Searching.{EndsAt};
 
     /// The journal up to the last item below a cap, or any, that a predicate accepts.
@@ -38,6 +39,9 @@ impl<F: Family, C: Backing, H: Hasher> Journal<F, C, H> {
         requires apart { (C.config journal_cfg).name ≢ string_bytes merkle_cfg.nodes }
         ensures named { IfOk result (λ t. SameButBounds (C.config journal_cfg) t.items × (t.bagging ≡ bagging)
             × (t.failed ≡ false)) }
+        ensures tree_named { IfOk result (λ t. (t.tree.log.name ≡ string_bytes merkle_cfg.nodes)
+            × (t.tree.log.blob ≡ non_zero_u64_get merkle_cfg.items_per_blob)
+            × (t.tree.metadata ≡ string_bytes merkle_cfg.metadata)) }
         ensures found { let items = items_of C.Item.spelling C.Item.admits (C.config journal_cfg) (V.state vol.old) in
             let says = FnReturnsAt P.Fn predicate in
             IfOk result (λ t. V.tells → EndsAt items says max_size t.items.end) }
@@ -72,6 +76,12 @@ impl<F: Family, C: Backing, H: Hasher> Journal<F, C, H> {
             (NotOpened V.tells H.Digest.spelling (H.Digest.Read.admits tt) F.shape map log items says max_size) }
         ensures names { let names = two_logs_and_map (C.config journal_cfg).name (string_bytes merkle_cfg.nodes)
             (string_bytes merkle_cfg.metadata) in V.tells → NamesCall names (V.state vol.old) (V.state vol.new) }
+        // An image of the log loses at most what is behind the end.
+        ensures log { let view = C.config journal_cfg in let old = V.state vol.old in
+            let items = items_of C.Item.spelling C.Item.admits view old in
+            let says = FnReturnsAt P.Fn predicate in V.tells →
+            LogKeeps view.name (Follows (old.log_left old.clock view.name) (ShrinksToEnd items says max_size))
+            old (V.state vol.new) }
         ensures changes { Changes V.tells Error.Volume (V.state vol.old) (V.state vol.new) result }
     {
         let recovery = Journal::prepare(
@@ -104,6 +114,9 @@ impl<F: Family, C: Backing, H: Hasher> Journal<F, C, H> {
         requires apart { (C.config journal_cfg).name ≢ string_bytes merkle_cfg.nodes }
         ensures named { IfOk result (λ t. SameButBounds (C.config journal_cfg) t.items × (t.bagging ≡ bagging)
             × (t.failed ≡ false)) }
+        ensures tree_named { IfOk result (λ t. (t.tree.log.name ≡ string_bytes merkle_cfg.nodes)
+            × (t.tree.log.blob ≡ non_zero_u64_get merkle_cfg.items_per_blob)
+            × (t.tree.metadata ≡ string_bytes merkle_cfg.metadata)) }
         ensures found { let items = items_of C.Item.spelling C.Item.admits (C.config journal_cfg) (V.state vol.old) in
             let says = FnReturnsAt P.Fn predicate in
             IfOk result (λ t. V.tells → EndsAt items says None t.items.end) }
@@ -138,6 +151,12 @@ impl<F: Family, C: Backing, H: Hasher> Journal<F, C, H> {
             (NotOpened V.tells H.Digest.spelling (H.Digest.Read.admits tt) F.shape map log items says None) }
         ensures names { let names = two_logs_and_map (C.config journal_cfg).name (string_bytes merkle_cfg.nodes)
             (string_bytes merkle_cfg.metadata) in V.tells → NamesCall names (V.state vol.old) (V.state vol.new) }
+        // An image of the log loses at most what is behind the end.
+        ensures log { let view = C.config journal_cfg in let old = V.state vol.old in
+            let items = items_of C.Item.spelling C.Item.admits view old in
+            let says = FnReturnsAt P.Fn predicate in V.tells →
+            LogKeeps view.name (Follows (old.log_left old.clock view.name) (ShrinksToEnd items says None))
+            old (V.state vol.new) }
         ensures changes { Changes V.tells Error.Volume (V.state vol.old) (V.state vol.new) result }
     {
         Journal::open_under(
@@ -169,6 +188,9 @@ impl<F: Family, C: Backing, H: Hasher> Journal<F, C, H> {
         requires apart { (C.config journal_cfg).name ≢ string_bytes merkle_cfg.nodes }
         ensures named { IfOk result (λ t. SameButBounds (C.config journal_cfg) t.items × (t.bagging ≡ bagging)
             × (t.failed ≡ false)) }
+        ensures tree_named { IfOk result (λ t. (t.tree.log.name ≡ string_bytes merkle_cfg.nodes)
+            × (t.tree.log.blob ≡ non_zero_u64_get merkle_cfg.items_per_blob)
+            × (t.tree.metadata ≡ string_bytes merkle_cfg.metadata)) }
         ensures found { let items = items_of C.Item.spelling C.Item.admits (C.config journal_cfg) (V.state vol.old) in
             let says = FnReturnsAt P.Fn predicate in
             IfOk result (λ t. V.tells → EndsAt items says (Some max_size) t.items.end) }
@@ -203,6 +225,12 @@ impl<F: Family, C: Backing, H: Hasher> Journal<F, C, H> {
             (NotOpened V.tells H.Digest.spelling (H.Digest.Read.admits tt) F.shape map log items says (Some max_size)) }
         ensures names { let names = two_logs_and_map (C.config journal_cfg).name (string_bytes merkle_cfg.nodes)
             (string_bytes merkle_cfg.metadata) in V.tells → NamesCall names (V.state vol.old) (V.state vol.new) }
+        // An image of the log loses at most what is behind the end.
+        ensures log { let view = C.config journal_cfg in let old = V.state vol.old in
+            let items = items_of C.Item.spelling C.Item.admits view old in
+            let says = FnReturnsAt P.Fn predicate in V.tells →
+            LogKeeps view.name (Follows (old.log_left old.clock view.name) (ShrinksToEnd items says (Some max_size)))
+            old (V.state vol.new) }
         ensures changes { Changes V.tells Error.Volume (V.state vol.old) (V.state vol.new) result }
     {
         Journal::open_under(

@@ -1,11 +1,12 @@
 use Rattle.std.proofs.Common.{◌≡◌, inl, inr, Ok, Some, take, refl, sym, ◌∙◌, ap, subst}
 use Rattle.std.specs.Fn.{FnReturnsAt}
 use Rattle.std.specs.Prelude.{string_bytes}
-use Rattle.volume_base.specs.Log.{Log, cut_to}
-use Rattle.volume_base.specs.Moments.{present}
+use Rattle.volume_base.specs.Log.{Log, cut_to, Shrinks}
+use Rattle.volume_base.specs.Moments.{present, LogKeeps}
 use Rattle.volume_base.specs.Names.{two_logs_and_map, NamesCall}
-use Rattle.volume_base.specs.Volume.{Map, OnlyLeft}
+use Rattle.volume_base.specs.Volume.{Map, OnlyLeft, Follows}
 use Rattle.volume_base.proofs.CallLemmas.{names_call_log, names_call_joins}
+use Rattle.volume_base.proofs.MomentLemmas.{log_stays_log}
 use Rattle.volume_base.proofs.JoinLemmas.{went_of, changes_joins}
 use Rattle.journal_base.specs.Items.{items_of, Spells}
 use Rattle.journal_base.specs.View.{View, at_bounds}
@@ -15,11 +16,11 @@ use Rattle.merkle_full.proofs.GrownLemmas.{err_same}
 use Rattle.merkle_full.proofs.PrepareLemmas.{kept_standing}
 use Rattle.auth_journal.specs.Aligning.{NotAligned}
 use Rattle.auth_journal.specs.Joined.{IsJoinedOf, leaves_of}
-use Rattle.auth_journal.specs.Opening.{OpensAt}
+use Rattle.auth_journal.specs.Opening.{OpensAt, ShrinksToEnd}
 use Rattle.auth_journal.specs.Searching.{EndsAt}
 use Rattle.auth_journal.specs.declared.error.Error.TheVariants as joined
 use Rattle.auth_journal.proofs.AlignLemmas.{changes_same}
-use Rattle.auth_journal.proofs.OpeningLemmas.{seen_items}
+use Rattle.auth_journal.proofs.OpeningLemmas.{seen_items, keeps_behind}
 use Rattle.auth_journal.proofs.journal.Journal.open_under.Goals as goal
 
 pub returns-clause-named : goal.returns-clause-named
@@ -46,6 +47,12 @@ returns-clause-named g c =
     let did_finish = c.in_ok-opened.ensures {u = tt} in
     let from = did_finish.from in
     (from.items ∙ ap (λ (v : View g.row.C-Item-Cfg.Denot). at_bounds v t.items.start t.items.end) did.named.0, from.bagging ∙ did.named.2, from.failed)
+
+pub returns-clause-tree_named : goal.returns-clause-tree_named
+returns-clause-tree_named g c =
+    let is = (c.in_ok-recovery.ensures {u = tt}).named.1 in
+    let from = (c.in_ok-opened.ensures {u = tt}).from in
+    (ap (λ (v : View (Unit {0})). v.name) from.log ∙ is.nodes_is, ap (λ (v : View (Unit {0})). v.blob) from.log ∙ is.blob_is, from.metadata ∙ is.metadata_is)
 
 pub returns-clause-found : goal.returns-clause-found
 returns-clause-found g c told =
@@ -364,6 +371,52 @@ returns-clause-names g c told =
     let names = two_logs_and_map first.name nodes metadata in
     let call = subst (λ m. NamesCall (two_logs_and_map first.name nodes m) s1 s2) did.named.1.metadata_is (subst (λ n. NamesCall (two_logs_and_map first.name n r.tree.metadata) s1 s2) did.named.1.nodes_is (subst (λ n. NamesCall (two_logs_and_map n r.tree.log.name r.tree.metadata) s1 s2) name (did_finish.names told))) in
     names_call_joins names s0 s1 s2 (names_call_log names nodes _ s0 s1 (inr (inl refl)) (did.log told)) call
+
+pub returns-in_err-recovery-clause-log : goal.returns-in_err-recovery-clause-log
+returns-in_err-recovery-clause-log g c told =
+    let says = FnReturnsAt g.P.Fn c.args.predicate in
+    let cap = c.args.max_size in
+    let s0 = g.V.Volume.state c.args.vol.now in
+    let s1 = g.V.Volume.state c.prepare.new.vol in
+    let first = g.C.Backing.config c.args.journal_cfg in
+    let nodes = string_bytes c.args.merkle_cfg.nodes in
+    let items = items_of g.C.Item.Spelled.spelling g.C.Item.Read.admits first s0 in
+    let step = ShrinksToEnd items says cap in
+    log_stays_log nodes first.name _ (Follows (s0.log_left s0.clock first.name) step) s0 s1 (c.in_err-recovery.ensures.log told).images c.requires.apart (λ log left. (log, left, inl refl))
+
+pub returns-in_err-opened-clause-log : goal.returns-in_err-opened-clause-log
+returns-in_err-opened-clause-log g c told =
+    let says = FnReturnsAt g.P.Fn c.args.predicate in
+    let cap = c.args.max_size in
+    let s0 = g.V.Volume.state c.args.vol.now in
+    let s1 = g.V.Volume.state c.prepare.new.vol in
+    let first = g.C.Backing.config c.args.journal_cfg in
+    let nodes = string_bytes c.args.merkle_cfg.nodes in
+    let items = items_of g.C.Item.Spelled.spelling g.C.Item.Read.admits first s0 in
+    let step = ShrinksToEnd items says cap in
+    let r = c.in_ok-recovery.recovery in
+    let did = c.in_ok-recovery.ensures {u = tt} in
+    let name : r.items.name ≡ first.name = ap (λ (v : View g.row.C-Item-Cfg.Denot). v.name) did.named.0 in
+    let s2 = g.V.Volume.state c.finish.new.vol in
+    let keeps = subst (λ n. LogKeeps n (Follows (s1.log_left s1.clock n) (Shrinks r.end)) s1 s2) name (c.in_err-opened.ensures.log told (did.within told)) in
+    keeps_behind first.name nodes _ (Shrinks r.end) step s0 s1 s2 c.requires.apart (did.log told) keeps (λ log. inl refl) (λ old new shrinks. inr (r.end, did.found told, shrinks))
+
+pub returns-clause-log : goal.returns-clause-log
+returns-clause-log g c told =
+    let says = FnReturnsAt g.P.Fn c.args.predicate in
+    let cap = c.args.max_size in
+    let s0 = g.V.Volume.state c.args.vol.now in
+    let s1 = g.V.Volume.state c.prepare.new.vol in
+    let first = g.C.Backing.config c.args.journal_cfg in
+    let nodes = string_bytes c.args.merkle_cfg.nodes in
+    let items = items_of g.C.Item.Spelled.spelling g.C.Item.Read.admits first s0 in
+    let step = ShrinksToEnd items says cap in
+    let r = c.in_ok-recovery.recovery in
+    let did = c.in_ok-recovery.ensures {u = tt} in
+    let name : r.items.name ≡ first.name = ap (λ (v : View g.row.C-Item-Cfg.Denot). v.name) did.named.0 in
+    let s2 = g.V.Volume.state c.finish.new.vol in
+    let keeps = subst (λ n. LogKeeps n (Follows (s1.log_left s1.clock n) (Shrinks r.end)) s1 s2) name ((c.in_ok-opened.ensures {u = tt}).log told (did.within told)) in
+    keeps_behind first.name nodes _ (Shrinks r.end) step s0 s1 s2 c.requires.apart (did.log told) keeps (λ log. inl refl) (λ old new shrinks. inr (r.end, did.found told, shrinks))
 
 pub returns-in_err-opened-clause-changes : goal.returns-in_err-opened-clause-changes
 returns-in_err-opened-clause-changes g c =
