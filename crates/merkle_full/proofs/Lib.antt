@@ -5,6 +5,8 @@ pub mod PeakLemmas
 pub mod GrownLemmas
 pub mod OpeningLemmas
 pub mod RepinLemmas
+pub mod LiftedLemmas
+pub mod RecallLemmas
 pub mod ReopenLemmas
 pub mod ProvedLemmas
 pub mod OrphanLemmas

@@ -12,15 +12,19 @@ use Rattle.tree_shape.proofs.NeededLemmas.{made_le}
 use Rattle.tree_shape.specs.Hashing.{Hashing}
 use Rattle.tree_store.specs.Stored.{size, boundary_key, TreeStands}
 use Rattle.tree_store.specs.declared.error.Error.{Error}
+use Rattle.tree_core.specs.Tree.{Tree}
 use Rattle.merkle_full.specs.Opening.{boundary_in, some_ok, stored_as, stored_in, Selects}
-use Rattle.merkle_full.specs.Recovering.{Source, source_of, IsRecovered, AllRecovered, NotRecovered, NotAllRecovered, ArePeaksRecovered, NotReopened}
-use Rattle.merkle_full.specs.Preparing.{contents_of, leaves_reached, log_kept, NotReached, NotOpened, NotPrepared, Opens}
+use Rattle.merkle_full.specs.Recovering.{Source, source_of, IsRecovered, AllRecovered, NotRecovered, NotAllRecovered, ArePeaksRecovered, IsRecalled, NotReopened}
+use Rattle.merkle_full.specs.Preparing.{contents_of, has_orphan, leaves_reached, log_kept, IsOrphanRead, NotReached, NotOpened, NotPrepared, Opens}
 
 -- ---- what holds under a premise that is known
 
 module _ {D : Type 0} (known : Type 0) (k : known) (source : Source D) where
   recovered_known : (p : ℕ) (d : D) → IsRecovered known source p d → IsRecovered (Unit {0}) source p d
   recovered_known p d r = record { pinned = r.pinned; logged = λ none _. r.logged none k }
+
+  pub recalled_known : (count : ℕ) (t : Tree D) → IsRecalled known source count t → IsRecalled (Unit {0}) source count t
+  recalled_known count t all p d lt at = recovered_known p d (all p d lt at)
 
   all_known : (ps : List ℕ) → AllRecovered known source ps → AllRecovered (Unit {0}) source ps
   all_known ps all i p at = let r = all i p at in (r.0, recovered_known p r.0 r.1)
@@ -131,13 +135,14 @@ module _ {D : Type 0} (F : Type 0) (spelling : D → List ℕ) (admits : D → T
       inr (inr (stored, ap stored_in (sym same) ∙ is, subst (λ (r : Map). NotOpened (Unit {0}) (contents_of spelling admits r (log_kept stored log)) s (unwrap_or stored 0) top e) same capped))
 
   pub prepared : (start end complete pruned leaves : ℕ) → start ≡ (log_kept stored log).start → end ≡ end_of (log_kept stored log) → Selects s b start end high complete pruned
-      → ArePeaksRecovered (Unit {0}) (contents_of spelling admits read (log_kept stored log)) s complete pruned → leaves ≡ leaves_reached s high end complete → Opens F spelling admits s m log top b complete pruned leaves
-  prepared start end complete pruned leaves from to selects peaks reached = record {
+      → ArePeaksRecovered (Unit {0}) (contents_of spelling admits read (log_kept stored log)) s complete pruned → IsOrphanRead (contents_of spelling admits read (log_kept stored log)).items s high end complete → leaves ≡ leaves_reached s high end complete → Opens F spelling admits s m log top b complete pruned leaves
+  prepared start end complete pruned leaves from to selects peaks orphan reached = record {
     stored = stored;
     stored_is = ap stored_in (sym same) ∙ is;
     boundary_is = boundary;
     selects = subst (λ (n : ℕ). Selects s b (log_kept stored log).start (end_of (log_kept stored log)) n complete pruned) under (selects_in s b start end (log_kept stored log).start (end_of (log_kept stored log)) high complete pruned from to selects);
     peaks = subst (λ (r : Map). ArePeaksRecovered (Unit {0}) (contents_of spelling admits r (log_kept stored log)) s complete pruned) same peaks;
+    orphan = λ has. orphan (ap (λ (n : ℕ). has_orphan s n end complete) under ∙ ap (λ (n : ℕ). has_orphan s top n complete) to ∙ has);
     leaves_are = reached ∙ ap (λ (n : ℕ). leaves_reached s n end complete) under ∙ ap (λ (n : ℕ). leaves_reached s top n complete) to;
   }
 

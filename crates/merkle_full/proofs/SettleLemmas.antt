@@ -171,10 +171,10 @@ some_at {F = F} b n is few stored at =
     let here : some_ok {F = F} (if nat_le n (2 ^ 62) then Ok n else Err (LocationOverflow n)) ≡ Ok (Some n) = ap (λ (t : Bool). some_ok {F = F} (if t then Ok n else Err (LocationOverflow n))) (le-leb n (2 ^ 62) few) in
     sym is ∙ ap (λ (o : Option ℕ). unwrap_or o 0) (let same : Some n ≡ stored = cc in same)
 
-abbrev read_ok : {F : Type 0} → Option ℕ → Result (Option ℕ) (Error F)
+abbrev pub read_ok : {F : Type 0} → Option ℕ → Result (Option ℕ) (Error F)
 read_ok o = Ok o
 
-same_ok : {F : Type 0} (a b : Option ℕ) → read_ok {F = F} a ≡ read_ok b → a ≡ b
+pub same_ok : {F : Type 0} (a b : Option ℕ) → read_ok {F = F} a ≡ read_ok b → a ≡ b
 same_ok a b is = cc
 
 -- a boundary that a map stores is read back

@@ -1,15 +1,16 @@
 -- What a flush and a sync leave of a tree, and what a crash leaves of its log and its map.
-use Rattle.std.specs.Prelude.{◌≡◌, ◌⊎◌, ℕ, ◌<◌, ◌≤◌, Bool, List, length, None, Result, Ok, Err}
+use Rattle.std.specs.Prelude.{◌≡◌, ◌⊎◌, ℕ, ◌+◌, ◌-◌, ◌<◌, ◌≤◌, Bool, List, length, map, slice_get, Some, None, Result, Ok, Err}
 use Rattle.journal_base.specs.declared.ticket.SyncTicket.{SyncTicket}
 use Rattle.journal_base.specs.declared.ticket.SyncTicket.TheVariants.{Done, Failed}
 use Rattle.journal_base.specs.View.{SameButBounds, after_sync}
 use Rattle.tree_shape.specs.Hashing.{Hashing}
-use Rattle.tree_core.specs.Tree.{node_at}
+use Rattle.tree_core.specs.Tree.{Tree, node_at}
 use Rattle.tree_shape.specs.Shape.{Shape, made}
 use Rattle.tree_store.specs.Stored.{TreeStands}
 use Rattle.tree_store.specs.Stores.{IsOutside}
 use Rattle.tree_store.specs.declared.error.Error.{Error}
 use Rattle.tree_store.specs.declared.error.Error.TheVariants.{Volume, MissingNode, Journal}
+use Rattle.volume_base.specs.Log.{Log, appended}
 use Rattle.volume_base.specs.Moments.{PairHas, PairKeeps}
 use Rattle.volume_base.specs.Volume.{State}
 use Rattle.volume_base.specs.declared.error.JournalError.TheVariants as journal
@@ -21,6 +22,13 @@ pub record IsSameTree {D : Type 0} (t u : Full D) : Type 0 where
   pub boundary : u.boundary ≡ t.boundary
   pub log : SameButBounds t.log u.log
   pub metadata : u.metadata ≡ t.metadata
+
+-- The log is the other, and behind it stand the nodes of memory from this position to its end.
+pub record IsFilled {D : Type 0} (s : Shape) (spelling : D → List ℕ) (t : Tree D) (from : ℕ) (old new : Log) : Type 0 where
+  pub more : List D
+  pub counted : length more ≡ length (made s t.leaves) - from
+  pub nodes : (i : ℕ) (d : D) → slice_get more i ≡ Some d → node_at t (from + i) ≡ Some d
+  pub log : new ≡ appended old (map spelling more)
 
 -- the same tree after a started sync
 abbrev pub after_start : {D : Type 0} → Full D → Bool → Full D

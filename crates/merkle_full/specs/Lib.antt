@@ -1,4 +1,5 @@
 pub mod Full
+pub mod Lifted
 pub mod Reading
 pub mod Lists
 pub mod Opening

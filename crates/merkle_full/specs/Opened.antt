@@ -1,14 +1,15 @@
 -- A tree that is opened from a map beside a log.
-use Rattle.std.specs.Prelude.{◌≡◌, ℕ, ◌≤◌, ◌^◌, List, length, take, false}
-use Rattle.volume_base.specs.Log.{Log}
+use Rattle.std.specs.Prelude.{◌≡◌, ℕ, ◌≤◌, ◌^◌, List, length, take, Option, Ok, false}
+use Rattle.volume_base.specs.Log.{Log, cut_to}
 use Rattle.volume_base.specs.Moments.{Image, PairHas, PairKeeps}
 use Rattle.volume_base.specs.Volume.{State, Map}
 use Rattle.tree_shape.specs.Hashing.{Hashing}
 use Rattle.tree_shape.specs.Shape.{Shape}
-use Rattle.tree_store.specs.Stored.{TreeStands}
+use Rattle.tree_store.specs.Stored.{TreeStands, size}
 use Rattle.merkle_full.specs.Full.{Full}
 use Rattle.merkle_full.specs.Lists.{AreDigests, IsFullOf}
-use Rattle.merkle_full.specs.Preparing.{Opens}
+use Rattle.merkle_full.specs.Opening.{stored_in}
+use Rattle.merkle_full.specs.Preparing.{Opens, Recalls, log_kept, settled_log}
 
 -- It keeps no failure, its log and its map have these names, and the log's blobs so many nodes.
 pub record IsOpenedAs {D : Type 0} (nodes : List ℕ) (blob : ℕ) (metadata : List ℕ) (t : Full D) : Type 0 where
@@ -17,10 +18,19 @@ pub record IsOpenedAs {D : Type 0} (nodes : List ℕ) (blob : ℕ) (metadata : L
   pub unfailed : t.log.failed ≡ false
   pub metadata_is : t.metadata ≡ metadata
 
--- It is pruned at, and has, as many leaves as boundary, nodes and cap allow.
-abbrev pub IsOpenedUnder : {D : Type 0} → Type 0 → (D → List ℕ) → (D → Type 0) → Shape → Map → Log → ℕ → Full D → Type 0
-IsOpenedUnder F spelling admits s m log cap t =
-    (boundary complete : ℕ) × Opens F spelling admits s m log cap boundary complete t.boundary t.tree.leaves
+-- The log is that of the tree which is opened, up to the nodes of its complete leaves.
+pub record IsOpenedLog (F : Type 0) (s : Shape) (m : Map) (blob boundary complete : ℕ) (old new : Log) : Type 0 where
+  pub stored : Option ℕ
+  pub stored_is : stored_in {F = F} m ≡ Ok stored
+  pub log : cut_to new (size s complete) ≡ settled_log s blob boundary complete (log_kept stored old)
+
+-- It is pruned at, and has, as many leaves as boundary, nodes and cap allow; its memory is recovered, and its log is what is kept.
+pub record IsOpenedUnder {D : Type 0} (F : Type 0) (spelling : D → List ℕ) (admits : D → Type 0) (s : Shape) (m : Map) (old new : Log) (cap : ℕ) (t : Full D) : Type 0 where
+  pub boundary : ℕ
+  pub complete : ℕ
+  pub opens : Opens F spelling admits s m old cap boundary complete t.boundary t.tree.leaves
+  pub recalls : Recalls F spelling admits s m old complete t.tree
+  pub log : IsOpenedLog F s m t.log.blob boundary complete old new
 
 -- For each list that map and log stood for, it is held, and is the tree of its first leaves.
 abbrev pub IsOfEach : {D : Type 0} → Shape → Hashing D → (D → List ℕ) → (D → Type 0) → Map → Log → Full D → Image

@@ -2,10 +2,11 @@
 use Rattle.std.specs.Prelude.{◌≡◌, ◌⊎◌, ℕ, ◌+◌, ◌^◌, ◌<◌, ◌≤◌, min, List, Option, Some, None, Ok, Err, unwrap_or, Bool, ◌&&◌, true, nat_lt, is_some, if◌then◌else◌}
 use Rattle.std.specs.Coded.{Coded, coded_ℕ, coded_list}
 use Rattle.std.specs.FinMap as finmap
-use Rattle.volume_base.specs.Log.{Log, end_of, cleared_at}
+use Rattle.volume_base.specs.Log.{Log, end_of, cleared_at, cut_to, pruned_to}
 use Rattle.volume_base.specs.Volume.{State, Map}
 use Rattle.volume_base.specs.declared.error.JournalError.TheVariants as journal
-use Rattle.journal_base.specs.Items.{Items, IsCorrupt}
+use Rattle.journal_base.specs.Blobs.{blob_start}
+use Rattle.journal_base.specs.Items.{Items, Holds, IsCorrupt}
 use Rattle.journal_base.specs.View.{View, SameButBounds, IsHeld}
 use Rattle.tree_shape.specs.Shape.{Shape}
 use Rattle.tree_store.specs.Stored.{size}
@@ -15,7 +16,7 @@ use Rattle.tree_store.specs.declared.error.Error.TheVariants.{Journal}
 use Rattle.tree_core.specs.Tree.{Tree, IsSound, node_at, rests}
 use Rattle.merkle_full.specs.Full.{Full}
 use Rattle.merkle_full.specs.Opening.{stored_in, Selects, NotSelected}
-use Rattle.merkle_full.specs.Recovering.{Source, ArePeaksRecovered, NotReopened}
+use Rattle.merkle_full.specs.Recovering.{Source, ArePeaksRecovered, IsRecalled, NotReopened}
 
 -- a cap on the number of leaves; none, and one above the greatest number, counts as that
 abbrev pub cap_of : Option ℕ → ℕ
@@ -33,6 +34,14 @@ has_orphan s cap end complete = nat_lt complete cap && nat_lt (size s complete) 
 -- the leaves of the opened tree: the complete ones, and an orphan
 abbrev pub leaves_reached : Shape → ℕ → ℕ → ℕ → ℕ
 leaves_reached s cap end complete = if has_orphan s cap end complete then complete + 1 else complete
+
+-- the node log of an opened tree: cut to the nodes of the complete leaves, and from the blob of the boundary's position on
+abbrev pub settled_log : Shape → ℕ → ℕ → ℕ → Log → Log
+settled_log s blob boundary complete log = pruned_to (cut_to log (size s complete)) (blob_start blob (size s boundary))
+
+-- Where an orphan leaf stands behind the nodes of so many leaves, it is a digest.
+abbrev pub IsOrphanRead : {D : Type 0} → Items D → Shape → ℕ → ℕ → ℕ → Type 0
+IsOrphanRead {D} items s cap end complete = has_orphan s cap end complete ≡ true → (d : D) × Holds items (size s complete) d
 
 -- Why the orphan isn't added: by the outside, or it is no digest.
 abbrev pub NotReached : {F D : Type 0} → Items D → Shape → ℕ → ℕ → ℕ → Error F → Type 0
@@ -101,7 +110,14 @@ pub record Opens {D : Type 0} (F : Type 0) (spelling : D → List ℕ) (admits :
   pub boundary_is : boundary ≡ unwrap_or stored 0
   pub selects : Selects s boundary (log_kept stored log).start (end_of (log_kept stored log)) cap complete pruned
   pub peaks : ArePeaksRecovered (Unit {0}) (contents_of spelling admits m (log_kept stored log)) s complete pruned
+  pub orphan : IsOrphanRead (contents_of spelling admits m (log_kept stored log)).items s cap (end_of (log_kept stored log)) complete
   pub leaves_are : leaves ≡ leaves_reached s cap (end_of (log_kept stored log)) complete
+
+-- Each node that memory has of the complete leaves is recovered from a map and the log that is kept: a pin before what the log has.
+pub record Recalls {D : Type 0} (F : Type 0) (spelling : D → List ℕ) (admits : D → Type 0) (s : Shape) (m : Map) (log : Log) (complete : ℕ) (t : Tree D) : Type 0 where
+  pub stored : Option ℕ
+  pub stored_is : stored_in {F = F} m ≡ Ok stored
+  pub recalled : IsRecalled (Unit {0}) (contents_of spelling admits m (log_kept stored log)) (size s complete) t
 
 -- The volume holds log and map as it has them.
 pub record IsPreparedIn {D : Type 0} (r : Prepared D) (state : State) : Type 0 where

@@ -11,6 +11,7 @@ use Rattle.tree_shape.specs.Shape.{Shape}
 use Rattle.tree_shape.specs.Slow.{nodes}
 use Rattle.tree_store.specs.Stored.{node_key}
 use Rattle.tree_store.specs.Stores.{IsOutside}
+use Rattle.tree_core.specs.Tree.{Tree, node_at}
 use Rattle.tree_store.specs.declared.error.Error.{Error}
 use Rattle.tree_store.specs.declared.error.Error.TheVariants.{DataCorrupted, MissingNode, Journal}
 use Rattle.tree_store.specs.declared.error.TreeData.TheVariants.{Digest}
@@ -81,3 +82,7 @@ abbrev pub NotReopened : {F D : Type 0} → Type 0 → Source D → Shape → �
 NotReopened known source s leaves boundary e =
     NotAllRecovered known source (pins s leaves) e
     ⊎ (AllRecovered known source (pins s leaves) × NotAllRecovered known source (pins s boundary) e)
+
+-- Each node that memory has before this size is recovered.
+abbrev pub IsRecalled : {D : Type 0} → Type 0 → Source D → ℕ → Tree D → Type 0
+IsRecalled {D} known source size t = (p : ℕ) (d : D) → p < size → node_at t p ≡ Some d → IsRecovered known source p d

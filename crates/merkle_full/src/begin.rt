@@ -12,8 +12,10 @@ ghost use Rattle.volume_base.specs.Moments.{present, PairKeeps};
 ghost use Rattle.volume_base.specs.Names.{log_and_map, NamesCall};
 ghost use Rattle.volume_base.specs.Volume.{OnlyLeft, Reads, Writes, Changes};
 ghost use Rattle.merkle_full.specs.Full.{Rests, IsSeated};
+ghost use Rattle.merkle_full.specs.Lifted.{IsLifted};
 ghost use Rattle.merkle_full.specs.Lists.{AreDigests, IsFullOf};
 ghost use Rattle.merkle_full.specs.Preparing.{contents_of};
+ghost use Rattle.merkle_full.specs.Recovering.{IsRecalled};
 ghost use Rattle.merkle_full.specs.Syncing.{KeepsOf, log_begun, IsMapBegun, IsMiscounted};
 ghost use Rattle.merkle_full.specs.Syncing.{Begins, IsBegunAs, IsBegunFrom, NotBegun, BeginsInOrder};
 
@@ -91,6 +93,10 @@ fn ready<F: Family, D: Digest, V: Volume>(
         let source = contents_of D.spelling (D.Read.admits tt) map log in
         V.tells → IsHeld (seen_of nodes.now) (V.state vol.old) →
         IfErr result (NotBegun source F.shape start end (option_map (λ v. v.items) given)) }
+    ensures recalls { let log = log_of (seen_of nodes.now) (V.state vol.old) in
+        IfOk result (λ r. V.tells → IsHeld (seen_of nodes.now) (V.state vol.old) → IsRecalled (Unit {0})
+        (contents_of D.spelling (D.Read.admits tt) r.map log) (size F.shape (unwrap_or r.kept start)) r.mem) }
+    ensures errors { IfErr result IsLifted }
     ensures reads { Reads V.tells Error.Volume (V.state vol.old) (V.state vol.new) result }
 {
     let positions = pin_positions::<F>(alloc, start)?;
@@ -134,6 +140,7 @@ impl<F: Family, D: Digest> Start<F, D> {
         ensures durable_map { let state = V.state vol.new in
             OnOk result (V.tells → OnlyLeft (state.map_left state.clock (string_bytes metadata)) self.map) }
         ensures outside { V.tells → IsHeld (seen_of nodes) (V.state vol.old) → IfErr result IsOutside }
+        ensures errors { IfErr result IsLifted }
         ensures names { V.tells →
             NamesCall (log_and_map (seen_of nodes).name (string_bytes metadata)) (V.state vol.old) (V.state vol.new) }
         ensures images { let old = V.state vol.old in let name = (seen_of nodes).name in
@@ -158,13 +165,16 @@ impl<F: Family, D: Digest> Merkle<F, D> {
     ghost use Rattle.std.specs.Option.{option_map};
     ghost use Rattle.std.specs.NonZero.{non_zero_u64_get};
     ghost use Rattle.tree_shape.specs.Hashing.{Hashing};
+    ghost use Rattle.tree_store.specs.Stored.{size};
     ghost use Rattle.tree_store.specs.Stores.{IsOutside};
     ghost use Rattle.volume_base.specs.Moments.{present, PairKeeps};
     ghost use Rattle.volume_base.specs.Names.{log_and_map, NamesCall};
     ghost use Rattle.volume_base.specs.Volume.{OnlyLeft, Changes};
     ghost use Rattle.merkle_full.specs.Full.{Rests, IsSeated};
+    ghost use Rattle.merkle_full.specs.Lifted.{IsLifted};
     ghost use Rattle.merkle_full.specs.Lists.{AreDigests, IsFullOf};
     ghost use Rattle.merkle_full.specs.Preparing.{contents_of};
+    ghost use Rattle.merkle_full.specs.Recovering.{IsRecalled};
     ghost use Rattle.merkle_full.specs.Syncing.{IsMapBegun, IsMiscounted};
     ghost use Rattle.merkle_full.specs.Syncing.{Begins, IsBegunAs, IsBegunFrom, NotBegun, BeginsInOrder};
 
@@ -194,6 +204,11 @@ impl<F: Family, D: Digest> Merkle<F, D> {
             OnOk result (V.tells → IsMapBegun source F.shape cfg.start (option_map (λ v. v.items) cfg.pinned_nodes)
             ((V.state vol.new).map (string_bytes cfg.config.metadata))) }
         ensures rests { IfOk result (λ t. Rests F.shape t) }
+        // Each node that memory has is the recovered one: a pin of the new map, or else what the log had.
+        ensures recalls { let map = (V.state vol.new).map (string_bytes cfg.config.metadata) in
+            let log = (V.state vol.old).log (string_bytes cfg.config.nodes) in
+            IfOk result (λ t. V.tells → IsRecalled (Unit {0}) (contents_of D.spelling (D.Read.admits tt) map log)
+            (size F.shape t.tree.leaves) t.tree) }
         ensures seated { IfOk result (λ t. V.tells → IsSeated F.shape t (present (V.state vol.new))) }
         // For each list from which it begins it is held, and is the tree of its first leaves.
         ensures full { let map = (V.state vol.old).map (string_bytes cfg.config.metadata) in
@@ -211,6 +226,8 @@ impl<F: Family, D: Digest> Merkle<F, D> {
             let source = contents_of D.spelling (D.Read.admits tt) map log in
             V.tells → IfErr result
             (NotBegun source F.shape cfg.start cfg.end (option_map (λ v. v.items) cfg.pinned_nodes)) }
+        // Of any contents, and of a volume that tells nothing.
+        ensures errors { IfErr result IsLifted }
         // Beside a refusal by name nothing is written.
         ensures unwritten { V.tells → IfErr result
             (λ e. IsOutside e ⊎ ((V.state vol.new).clock ≡ (V.state vol.old).clock)) }

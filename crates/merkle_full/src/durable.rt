@@ -10,13 +10,14 @@ impl<F: Family, D: Digest> Merkle<F, D> {
     ghost use Rattle.journal_base.specs.Tickets.{is_failed};
     ghost use Rattle.journal_base.specs.View.{SameLog, IsDurable};
     ghost use Rattle.tree_shape.specs.Hashing.{Hashing};
+    ghost use Rattle.tree_core.specs.Tree.{IsRested};
     ghost use Rattle.tree_store.specs.Stores.{IsOutside};
     ghost use Rattle.tree_store.specs.declared.error.Error.{Error};
     ghost use Rattle.volume_base.specs.Log.{Stays};
     ghost use Rattle.volume_base.specs.Moments.{present};
     ghost use Rattle.volume_base.specs.Names.{log_alone, NamesCall};
     ghost use Rattle.volume_base.specs.Volume.{LogCall, Writes};
-    ghost use Rattle.merkle_full.specs.Flushing.{IsSameTree, AllStand, AllKeepStanding, after_start, outcome, IsOfFlush};
+    ghost use Rattle.merkle_full.specs.Flushing.{IsSameTree, IsFilled, AllStand, AllKeepStanding, after_start, outcome, IsOfFlush};
     ghost use Rattle.merkle_full.specs.Full.{Full, Rests, IsSeated};
     ghost use Rattle.merkle_full.specs.Lists.{IsFullOf};
 
@@ -33,6 +34,10 @@ impl<F: Family, D: Digest> Merkle<F, D> {
         ensures kept { self.log.failed ≡ true → IsErrOf result Error.Volume × (vol.new ≡ vol.old) }
         ensures same { IfOk result (λ t. IsSameTree self t) }
         ensures rests { IfOk result (λ t. Rests F.shape t) }
+        ensures rested { IfOk result (λ t. IsRested F.shape self.boundary self.tree t.tree) }
+        // Of any tree, whatever the volume holds: behind what the log had stand the nodes of memory.
+        ensures filled { let name = self.log.name in OnOk result (V.tells →
+            IsFilled F.shape D.spelling self.tree self.log.end ((V.state vol.old).log name) ((V.state vol.new).log name)) }
         ensures start { IfOk result (λ t. V.tells → (h : Hashing D) (all : List D) →
             IsFullOf F.shape h D.spelling (D.Read.admits tt) all self (present (V.state vol.old)) →
             t.log.start ≡ self.log.start) }

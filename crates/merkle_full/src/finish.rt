@@ -8,20 +8,29 @@ impl<F: Family, D: Digest> Recovery<F, D> {
     ghost use Rattle.std.specs.Prelude.{◌≡◌, ◌≤◌, ◌^◌, ℕ, false, length, List, take, IfOk, IfErr, OnOk};
     ghost use Rattle.journal_base.specs.View.{IsDurable};
     ghost use Rattle.tree_shape.specs.Hashing.{Hashing};
-    ghost use Rattle.tree_store.specs.Stored.{TreeStands};
+    ghost use Rattle.tree_store.specs.Stored.{TreeStands, size};
     ghost use Rattle.tree_store.specs.Stores.{IsOutside};
-    ghost use Rattle.tree_core.specs.Tree.{IsOf};
+    ghost use Rattle.tree_core.specs.Tree.{IsOf, IsRested};
     ghost use Rattle.volume_base.specs.Moments.{present, PairHas, PairKeeps};
     ghost use Rattle.volume_base.specs.Names.{log_and_map, NamesCall};
     ghost use Rattle.volume_base.specs.Volume.{Writes};
+    ghost use Rattle.merkle_full.specs.Flushing.{IsFilled};
     ghost use Rattle.merkle_full.specs.Full.{Rests, IsSeated};
+    ghost use Rattle.merkle_full.specs.Lifted.{IsLifted};
     ghost use Rattle.merkle_full.specs.Lists.{AreDigests, IsFullOf};
-    ghost use Rattle.merkle_full.specs.Preparing.{IsPreparedIn, IsOpenedFrom};
+    ghost use Rattle.merkle_full.specs.Preparing.{settled_log, IsPreparedIn, IsOpenedFrom};
 
     /// The tree beside the settled log. Its memory may be ahead of the log by an orphan's nodes.
     fn settle<V: Volume>(self, vol: &mut V) -> Result<Merkle<F, D>, Error<F>>
         ensures from { IfOk result (λ t. IsOpenedFrom self t) }
         ensures tree { IfOk result (λ t. t.tree ≡ self.tree) }
+        ensures ends { IfOk result (λ t. V.tells → IsPreparedIn self (V.state vol.old) →
+            t.log.end ≡ size F.shape self.complete) }
+        ensures log { let log = (V.state vol.old).log self.log.name in
+            OnOk result (V.tells → IsPreparedIn self (V.state vol.old) → (V.state vol.new).log self.log.name
+            ≡ settled_log F.shape self.log.blob self.boundary self.complete log) }
+        ensures map { OnOk result (V.tells → IsPreparedIn self (V.state vol.old) →
+            (V.state vol.new).map self.metadata ≡ self.read) }
         ensures seated { IfOk result (λ t. V.tells → IsPreparedIn self (V.state vol.old) →
             IsSeated F.shape t (present (V.state vol.new))) }
         ensures full { IfOk result (λ t. V.tells → (h : Hashing D) (all : List D) (durable top : ℕ) →
@@ -36,6 +45,8 @@ impl<F: Family, D: Digest> Recovery<F, D> {
             PairHas (V.state vol.old) self.log.name self.metadata (TreeStands F.shape h D.spelling all durable top) →
             PairKeeps self.log.name self.metadata (TreeStands F.shape h D.spelling all durable top)
             (V.state vol.old) (V.state vol.new) }
+        // Of any contents, and of a volume that tells nothing.
+        ensures errors { IfErr result IsLifted }
         ensures failed { IfOk result (λ t. t.log.failed ≡ false) }
         ensures writes { Writes V.tells Error.Volume (V.state vol.old) (V.state vol.new) result }
     {
@@ -63,6 +74,14 @@ impl<F: Family, D: Digest> Recovery<F, D> {
     pub fn finish<V: Volume>(self, vol: &mut V) -> Result<Merkle<F, D>, Error<F>>
         ensures from { IfOk result (λ t. IsOpenedFrom self t) }
         ensures rests { IfOk result (λ t. Rests F.shape t) }
+        // Of any contents, memory is at rest; the log is what was cut, with memory's further nodes; and the map is as it was read.
+        ensures rested { IfOk result (λ t. IsRested F.shape self.pruned self.tree t.tree) }
+        ensures log { let log = (V.state vol.old).log self.log.name in
+            let settled = settled_log F.shape self.log.blob self.boundary self.complete log in
+            OnOk result (V.tells → IsPreparedIn self (V.state vol.old) → IsFilled F.shape D.spelling self.tree
+            (size F.shape self.complete) settled ((V.state vol.new).log self.log.name)) }
+        ensures map { OnOk result (V.tells → IsPreparedIn self (V.state vol.old) →
+            (V.state vol.new).map self.metadata ≡ self.read) }
         // The contents are those of the tree's log and map.
         ensures seated { IfOk result (λ t. V.tells → IsPreparedIn self (V.state vol.old) →
             IsSeated F.shape t (present (V.state vol.new))) }
@@ -72,6 +91,8 @@ impl<F: Family, D: Digest> Recovery<F, D> {
             TreeStands F.shape h D.spelling all durable top ((V.state vol.old).log self.log.name) self.read →
             length all ≤ 2 ^ 62 → AreDigests F.shape h (D.Read.admits tt) all → IsOf F.shape h (take self.tree.leaves all) self.tree →
             IsFullOf F.shape h D.spelling (D.Read.admits tt) (take self.tree.leaves all) t (present (V.state vol.new))) }
+        // Of any contents, and of a volume that tells nothing.
+        ensures errors { IfErr result IsLifted }
         ensures fresh { IfOk result (λ t. t.log.failed ≡ false) }
         ensures durable { OnOk result (V.tells → IsDurable self.log (V.state vol.new)) }
         ensures outside { V.tells → IsPreparedIn self (V.state vol.old) → IfErr result IsOutside }

@@ -6,15 +6,16 @@ use tree_core::{Digest, Error, Family, Location};
 use volume_base::Volume;
 
 impl<F: Family, D: Digest> Merkle<F, D> {
-    ghost use Rattle.std.specs.Prelude.{◌++◌, ◌≡◌, ℕ, List, length, IsOk, IfOk, IfErr};
+    ghost use Rattle.std.specs.Prelude.{◌++◌, ◌≡◌, ℕ, List, length, IsOk, IfOk, IfErr, OnOk};
     ghost use Rattle.tree_shape.specs.Hashing.{Hashing};
     ghost use Rattle.tree_shape.specs.Shape.{made};
+    ghost use Rattle.tree_core.specs.Tree.{IsRested};
     ghost use Rattle.tree_store.specs.Stores.{IsOutside};
     ghost use Rattle.tree_store.specs.declared.error.Error.{Error};
     ghost use Rattle.volume_base.specs.Moments.{present};
     ghost use Rattle.volume_base.specs.Names.{log_alone, NamesCall};
     ghost use Rattle.volume_base.specs.Volume.{Writes};
-    ghost use Rattle.merkle_full.specs.Flushing.{IsSameTree, AllStand, AllKeepStanding, IsOfFlush};
+    ghost use Rattle.merkle_full.specs.Flushing.{IsSameTree, IsFilled, AllStand, AllKeepStanding, IsOfFlush};
     ghost use Rattle.merkle_full.specs.Full.{Rests, IsSeated};
     ghost use Rattle.merkle_full.specs.Lists.{IsFullOf};
 
@@ -25,6 +26,10 @@ impl<F: Family, D: Digest> Merkle<F, D> {
         ensures idle { self.log.end ≡ length (made F.shape self.tree.leaves) → IsOk result × (vol.new ≡ vol.old) }
         ensures same { IfOk result (λ t. IsSameTree self t) }
         ensures rests { IfOk result (λ t. Rests F.shape t) }
+        ensures rested { IfOk result (λ t. IsRested F.shape self.boundary self.tree t.tree) }
+        // Of any tree, whatever the volume holds: behind what the log had stand the nodes of memory.
+        ensures filled { let name = self.log.name in OnOk result (V.tells →
+            IsFilled F.shape D.spelling self.tree self.log.end ((V.state vol.old).log name) ((V.state vol.new).log name)) }
         ensures start { IfOk result (λ t. V.tells → (h : Hashing D) (all : List D) →
             IsFullOf F.shape h D.spelling (D.Read.admits tt) all self (present (V.state vol.old)) →
             t.log.start ≡ self.log.start) }

@@ -1,12 +1,14 @@
 //! What is opened of a map and a node log.
 ghost use Rattle.std.specs.Prelude.{◌≡◌, ◌<◌, ◌≤◌, ◌^◌, ℕ, List, take, is_some, IfOk, IfErr};
+ghost use Rattle.journal_base.specs.Items.{items_of};
 ghost use Rattle.journal_base.specs.View.{IsWithin};
 ghost use Rattle.tree_store.specs.Stored.{TreeStands, size};
 ghost use Rattle.volume_base.specs.Volume.{Reads};
 ghost use Rattle.tree_core.specs.Tree.{IsOf, IsSound, node_at, rests};
 ghost use Rattle.merkle_full.specs.Opening.{Selects};
-ghost use Rattle.merkle_full.specs.Recovering.{source_of, ArePeaksRecovered};
-ghost use Rattle.merkle_full.specs.Preparing.{leaves_reached, NotOpened};
+ghost use Rattle.merkle_full.specs.Lifted.{IsLifted};
+ghost use Rattle.merkle_full.specs.Recovering.{source_of, ArePeaksRecovered, IsRecalled};
+ghost use Rattle.merkle_full.specs.Preparing.{leaves_reached, IsOrphanRead, NotOpened};
 
 use crate::orphan::with_orphan;
 use crate::reopen::reopened;
@@ -52,6 +54,11 @@ pub(crate) fn open_memory<
     ensures peaks { let source = source_of D.spelling D.Read.admits map.now (R.view log.now) (V.state vol.old) in
         let known = V.tells × IsWithin (R.view log.now) (V.state vol.old) in
         IfOk result (λ r. ArePeaksRecovered known source F.shape r.selection.complete r.selection.pruned) }
+    ensures recalls { let source = source_of D.spelling D.Read.admits map.now (R.view log.now) (V.state vol.old) in
+        let known = V.tells × IsWithin (R.view log.now) (V.state vol.old) in
+        IfOk result (λ r. IsRecalled known source (size F.shape r.selection.complete) r.mem) }
+    ensures orphan { let items = items_of D.spelling D.Read.admits (R.view log.now) (V.state vol.old) in
+        IfOk result (λ r. V.tells → IsOrphanRead items F.shape cap (R.view log.now).end r.selection.complete) }
     // For each list that map and log stand for, it is the tree of its first leaves.
     ensures list { let log_now = (V.state vol.old).log (R.view log.now).name in
         IfOk result (λ r. V.tells → IsWithin (R.view log.now) (V.state vol.old) →
@@ -61,6 +68,7 @@ pub(crate) fn open_memory<
         let known = V.tells × IsWithin (R.view log.now) (V.state vol.old) in
         V.tells → IsWithin (R.view log.now) (V.state vol.old) →
         IfErr result (NotOpened known source F.shape boundary cap) }
+    ensures errors { IfErr result IsLifted }
     ensures reads { Reads V.tells Error.Volume (V.state vol.old) (V.state vol.new) result }
 {
     let (start, end) = log.bounds();

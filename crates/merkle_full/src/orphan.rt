@@ -1,5 +1,5 @@
 //! A leaf that stands in the node log behind the nodes of a complete tree.
-ghost use Rattle.std.specs.Prelude.{◌≡◌, ◌+◌, ◌<◌, ◌≤◌, ◌^◌, ℕ, List, [], ◌∷◌, ◌++◌, take, length, IfOk, IfErr, IsOkUnless};
+ghost use Rattle.std.specs.Prelude.{◌≡◌, ◌+◌, ◌<◌, ◌≤◌, ◌^◌, ℕ, List, [], ◌∷◌, ◌++◌, take, length, IfOk, IfErr, OnOk, IsOkUnless};
 ghost use Rattle.journal_base.specs.Items.{items_of};
 ghost use Rattle.journal_base.specs.View.{IsWithin};
 ghost use Rattle.tree_shape.specs.Shape.{made};
@@ -7,7 +7,8 @@ ghost use Rattle.tree_store.specs.Stored.{TreeStands};
 ghost use Rattle.volume_base.specs.Volume.{Reads};
 ghost use Rattle.tree_core.specs.Tree.{IsOf, IsSound, node_at};
 ghost use Rattle.merkle_full.specs.Recovering.{source_of};
-ghost use Rattle.merkle_full.specs.Preparing.{leaves_reached, NotReached};
+ghost use Rattle.merkle_full.specs.Lifted.{IsLifted};
+ghost use Rattle.merkle_full.specs.Preparing.{leaves_reached, IsOrphanRead, NotReached};
 
 use journal_base::BackingRecovery;
 use tree_core::{Digest, Error, Family, Hasher, Mem, Standard};
@@ -59,6 +60,8 @@ pub(crate) fn with_orphan<
     ensures boundary { IfOk result (λ m. m.boundary ≡ mem.boundary) }
     ensures sound { IfOk result (λ m. IsSound F.shape m) }
     ensures nodes { IfOk result (λ m. (p : ℕ) → p < length (made F.shape mem.leaves) → node_at m p ≡ node_at mem p) }
+    ensures orphan { let items = items_of D.spelling D.Read.admits (R.view log.now) (V.state vol.old) in
+        OnOk result (V.tells → IsOrphanRead items F.shape cap (R.view log.now).end mem.leaves) }
     // For each list that a map stands for beside the log, a tree of the list's first leaves becomes one of its next.
     ensures list { let log = (V.state vol.old).log (R.view log.now).name in
         IfOk result (λ m. V.tells → (all : List D) (durable top : ℕ) (pins : _) →
@@ -67,6 +70,7 @@ pub(crate) fn with_orphan<
     ensures refused { let items = items_of D.spelling D.Read.admits (R.view log.now) (V.state vol.old) in
         V.tells → IsWithin (R.view log.now) (V.state vol.old) → (R.view log.now).start ≤ length (made F.shape mem.leaves) →
         IfErr result (NotReached items F.shape cap (R.view log.now).end mem.leaves) }
+    ensures errors { IfErr result IsLifted }
     ensures reads { Reads V.tells Error.Volume (V.state vol.old) (V.state vol.new) result }
 {
     let (_, end) = log.bounds();

@@ -67,14 +67,15 @@ impl<F: Family, D: Digest> Recovery<F, D> {
 }
 
 impl<F: Family, D: Digest> Merkle<F, D> {
-    ghost use Rattle.std.specs.Prelude.{◌≡◌, ◌≤◌, ◌^◌, ℕ, List, take, Ok, Option, string_bytes, IfOk, IfErr};
+    ghost use Rattle.std.specs.Prelude.{◌≡◌, ◌≤◌, ◌^◌, ℕ, List, take, Ok, Option, string_bytes, IfOk, IfErr, OnOk};
     ghost use Rattle.std.specs.NonZero.{non_zero_u64_get};
     ghost use Rattle.tree_store.specs.Stored.{TreeStands};
     ghost use Rattle.tree_core.specs.Tree.{IsOf};
     ghost use Rattle.volume_base.specs.Log.{cleared_at, BecomesOneOf};
     ghost use Rattle.volume_base.specs.Volume.{LogCall, Changes};
+    ghost use Rattle.merkle_full.specs.Lifted.{IsLifted};
     ghost use Rattle.merkle_full.specs.Opening.{stored_in};
-    ghost use Rattle.merkle_full.specs.Preparing.{cap_of, log_kept, NotPrepared, Opens, IsPreparedIn, IsNamed};
+    ghost use Rattle.merkle_full.specs.Preparing.{cap_of, log_kept, NotPrepared, Opens, Recalls, IsPreparedIn, IsNamed};
 
     /// Reads the map and the node log, and makes memory of the most leaves that the boundary, the nodes and the cap allow.
     pub fn prepare<H: Hasher<Digest = D>, V: Volume>(
@@ -90,6 +91,11 @@ impl<F: Family, D: Digest> Merkle<F, D> {
             let log = (V.state vol.old).log (string_bytes cfg.nodes) in
             IfOk result (λ r. V.tells → Opens F D.spelling (D.Read.admits tt) F.shape map log (cap_of max_leaves)
             r.boundary r.complete r.pruned r.tree.leaves) }
+        // Each node that memory has of the complete leaves is the recovered one.
+        ensures recalls { let map = (V.state vol.old).map (string_bytes cfg.metadata) in
+            let log = (V.state vol.old).log (string_bytes cfg.nodes) in
+            IfOk result (λ r. V.tells →
+            Recalls F D.spelling (D.Read.admits tt) F.shape map log r.complete r.tree) }
         ensures within { IfOk result (λ r. V.tells → IsPreparedIn r (V.state vol.new)) }
         // For each list that the contents stand for, it is the tree of its first leaves.
         ensures list { let map = (V.state vol.old).map (string_bytes cfg.metadata) in
@@ -99,9 +105,15 @@ impl<F: Family, D: Digest> Merkle<F, D> {
         ensures refused { let map = (V.state vol.old).map (string_bytes cfg.metadata) in
             let log = (V.state vol.old).log (string_bytes cfg.nodes) in
             V.tells → IfErr result (NotPrepared D.spelling (D.Read.admits tt) F.shape map log (cap_of max_leaves)) }
+        // Of any contents, and of a volume that tells nothing.
+        ensures errors { IfErr result IsLifted }
         // At most the log is cleared, where no boundary is stored and it starts past 0.
         ensures log { V.tells →
             LogCall (string_bytes cfg.nodes) (BecomesOneOf (cleared_at 0)) (V.state vol.old) (V.state vol.new) }
+        ensures kept { let map = (V.state vol.old).map (string_bytes cfg.metadata) in
+            let log = (V.state vol.old).log (string_bytes cfg.nodes) in
+            OnOk result (V.tells → (stored : Option ℕ) → stored_in {F = F} map ≡ Ok stored →
+            (V.state vol.new).log (string_bytes cfg.nodes) ≡ log_kept stored log) }
         ensures still { let map = (V.state vol.old).map (string_bytes cfg.metadata) in
             let log = (V.state vol.old).log (string_bytes cfg.nodes) in
             V.tells → ((stored : Option ℕ) → stored_in {F = F} map ≡ Ok stored → log_kept stored log ≡ log) →

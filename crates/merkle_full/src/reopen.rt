@@ -3,11 +3,11 @@ ghost use Rattle.std.specs.Prelude.{◌≡◌, ◌≤◌, ◌^◌, ℕ, List, le
 ghost use Rattle.journal_base.specs.View.{IsWithin};
 ghost use Rattle.tree_shape.specs.Hashing.{Hashing};
 ghost use Rattle.tree_shape.specs.Shape.{made};
-ghost use Rattle.tree_store.specs.Stored.{TreeStands};
+ghost use Rattle.tree_store.specs.Stored.{TreeStands, size};
 ghost use Rattle.volume_base.specs.Log.{end_of};
 ghost use Rattle.volume_base.specs.Volume.{Reads};
 ghost use Rattle.tree_core.specs.Tree.{IsOf, IsSound, node_at, rests};
-ghost use Rattle.merkle_full.specs.Recovering.{source_of, TellsPeaks, ArePeaksRecovered, NotReopened};
+ghost use Rattle.merkle_full.specs.Recovering.{source_of, TellsPeaks, ArePeaksRecovered, IsRecalled, NotReopened};
 
 use crate::pins::pin_positions;
 use crate::recovered::recovered_nodes;
@@ -44,6 +44,9 @@ pub(crate) fn reopened<F: Family, D: Digest, R: BackingRecovery<Item = D>, V: Vo
         IfOk result (λ m. (h : Hashing D) (all : List D) → complete ≤ length all →
         TellsPeaks known source F.shape h all complete → TellsPeaks known source F.shape h all pruned →
         IsOf F.shape h (take complete all) m) }
+    ensures recalls { let source = source_of D.spelling D.Read.admits map.now (R.view log.now) (V.state vol.old) in
+        let known = V.tells × IsWithin (R.view log.now) (V.state vol.old) in
+        IfOk result (IsRecalled known source (size F.shape complete)) }
     ensures peaks { let source = source_of D.spelling D.Read.admits map.now (R.view log.now) (V.state vol.old) in
         let known = V.tells × IsWithin (R.view log.now) (V.state vol.old) in
         OnOk result (ArePeaksRecovered known source F.shape complete pruned) }

@@ -1,5 +1,5 @@
 //! A tree in memory at rest, with the peaks of a boundary.
-ghost use Rattle.std.specs.Prelude.{◌≡◌, ◌<◌, ◌≤◌, ◌^◌, ℕ, List, length, map, slice_get, Some, IsSome, is_some, IfOk, IsOkUnless};
+ghost use Rattle.std.specs.Prelude.{◌≡◌, ◌⊎◌, ◌<◌, ◌≤◌, ◌^◌, ℕ, List, length, map, slice_get, Some, IsSome, is_some, IfOk, IsOkUnless};
 ghost use Rattle.std.specs.BTreeMap.{get};
 ghost use Rattle.std.specs.Ordering.{nat_cmp};
 ghost use Rattle.tree_shape.specs.Hashing.{Hashing};
@@ -47,6 +47,8 @@ pub(crate) fn repinned<F: Family, D: Digest>(
     ensures boundary { IfOk result (λ m. m.boundary ≡ mem.leaves) }
     ensures sound { IfOk result (λ m. IsSound F.shape m) }
     ensures exact { IfOk result (λ m. (p : ℕ) → is_some (node_at m p) ≡ rests F.shape mem.leaves boundary p) }
+    ensures nodes { IfOk result (λ m. (p : ℕ) (d : D) → node_at m p ≡ Some d →
+        (node_at mem p ≡ Some d) ⊎ IsPinAt positions.now digests.now p d) }
     ensures tree { IfOk result (λ m. (h : Hashing D) (all : List D) → IsOf F.shape h all mem →
         digests.now ≡ map (node_of F.shape h all) (peaks F.shape boundary) → IsOf F.shape h all m) }
     ensures memory { IsOkUnless result Error.Memory }

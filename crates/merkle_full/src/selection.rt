@@ -1,5 +1,6 @@
 //! At how many leaves a tree is opened.
 ghost use Rattle.std.specs.Prelude.{◌≡◌, ◌⊎◌, ◌≤◌, ◌^◌, IfOk, IfErr};
+ghost use Rattle.merkle_full.specs.Lifted.{IsLifted};
 ghost use Rattle.merkle_full.specs.Opening.{Selects, NotSelected, boundary_in, stored_in};
 
 use crate::keys::boundary_key;
@@ -17,7 +18,8 @@ pub(crate) struct Selection {
 
 /// The boundary that these bytes spell.
 fn boundary_of<F: Family>(bytes: &[u8]) -> Result<u64, Error<F>>
-    ensures { result ≡ boundary_in bytes.now }
+    ensures boundary { result ≡ boundary_in bytes.now }
+    ensures errors { IfErr result IsLifted }
 {
     if bytes.len() != 8 {
         return Err(Error::DataCorrupted(TreeData::Boundary));
@@ -38,6 +40,7 @@ pub(crate) fn stored_boundary<F: Family>(
 ) -> Result<Option<u64>, Error<F>>
     ensures stored { IfOk result (λ boundary. stored_in {F = F} map.now ≡ Ok boundary) }
     ensures refused { IfErr result (λ e. (e ≡ Error.Memory) ⊎ (stored_in {F = F} map.now ≡ Err e)) }
+    ensures errors { IfErr result IsLifted }
 {
     let key = boundary_key(alloc)?;
     match map.get(key.as_slice()) {
@@ -61,6 +64,7 @@ pub(crate) fn select<F: Family>(
     requires few { cap ≤ 2 ^ 62 }
     ensures selects { IfOk result (λ r. Selects F.shape boundary start end cap r.complete r.pruned) }
     ensures refused { IfErr result (NotSelected F.shape boundary start end cap) }
+    ensures errors { IfErr result IsLifted }
 {
     let top = F::size(cap);
     if cap < boundary {

@@ -10,6 +10,7 @@ ghost use Rattle.volume_base.specs.Log.{cut_to, pruned_to};
 ghost use Rattle.volume_base.specs.Moments.{PairHas, PairKeeps};
 ghost use Rattle.volume_base.specs.Names.{log_and_map, NamesCall};
 ghost use Rattle.volume_base.specs.Volume.{Writes};
+ghost use Rattle.merkle_full.specs.Lifted.{IsLifted};
 
 use journal_base::{BackingRecovery, Fixed, FixedJournal, Recovery as JournalRecovery};
 use std::num::NonZeroU64;
@@ -81,6 +82,7 @@ pub(crate) fn settled<F: Family, D: Digest, V: Volume>(
     ensures map { OnOk result (V.tells → (V.state vol.old).map metadata.now ≡ read.now →
         (V.state vol.new).map metadata.now ≡ read.now) }
     ensures outside { V.tells → IsHeld (seen_of nodes) (V.state vol.old) → IfErr result IsOutside }
+    ensures errors { IfErr result IsLifted }
     ensures names { V.tells → NamesCall (log_and_map (seen_of nodes).name metadata.now) (V.state vol.old) (V.state vol.new) }
     // Where no more leaves are durable than are complete, each image goes on standing for the list.
     ensures images { V.tells → (h : Hashing D) (all : List D) (durable top : ℕ) → IsHeld (seen_of nodes) (V.state vol.old) →

@@ -5,19 +5,20 @@ use tree_core::{Digest, Error, Family};
 use volume_base::Volume;
 
 impl<F: Family, D: Digest> Merkle<F, D> {
-    ghost use Rattle.std.specs.Prelude.{◌≡◌, ℕ, List, length, true, false, IfOk, IfErr, IsErrOf};
+    ghost use Rattle.std.specs.Prelude.{◌≡◌, ℕ, List, length, true, false, IfOk, IfErr, OnOk, IsErrOf};
     ghost use Rattle.codec_base.specs.Causes.{Rose};
     ghost use Rattle.journal_base.specs.Tickets.{is_failed};
     ghost use Rattle.journal_base.specs.View.{SameLog, IsDurable};
     ghost use Rattle.tree_shape.specs.Hashing.{Hashing};
     ghost use Rattle.tree_shape.specs.Shape.{made};
+    ghost use Rattle.tree_core.specs.Tree.{IsRested};
     ghost use Rattle.tree_store.specs.Stores.{IsOutside};
     ghost use Rattle.tree_store.specs.declared.error.Error.{Error};
     ghost use Rattle.volume_base.specs.Log.{Stays};
     ghost use Rattle.volume_base.specs.Moments.{present};
     ghost use Rattle.volume_base.specs.Names.{log_alone, NamesCall};
     ghost use Rattle.volume_base.specs.Volume.{LogCall, Writes};
-    ghost use Rattle.merkle_full.specs.Flushing.{IsSameTree, after_start, outcome, AllStand, AllKeepStanding, IsOfFlush};
+    ghost use Rattle.merkle_full.specs.Flushing.{IsSameTree, IsFilled, after_start, outcome, AllStand, AllKeepStanding, IsOfFlush};
     ghost use Rattle.merkle_full.specs.Full.{Full, Rests};
     ghost use Rattle.merkle_full.specs.Lists.{IsFullOf};
 
@@ -30,6 +31,10 @@ impl<F: Family, D: Digest> Merkle<F, D> {
             IsErrOf result Error.Volume → ⊥ }
         ensures same { IfOk result (λ made. IsSameTree (after_start self (is_failed made.1)) made.0) }
         ensures rests { IfOk result (λ made. Rests F.shape made.0) }
+        ensures rested { IfOk result (λ made. IsRested F.shape self.boundary self.tree made.0.tree) }
+        // Of any tree, whatever the volume holds: behind what the log had stand the nodes of memory.
+        ensures filled { let name = self.log.name in OnOk result (V.tells →
+            IsFilled F.shape D.spelling self.tree self.log.end ((V.state vol.old).log name) ((V.state vol.new).log name)) }
         ensures start { IfOk result (λ made. V.tells → (h : Hashing D) (all : List D) →
             IsFullOf F.shape h D.spelling (D.Read.admits tt) all self (present (V.state vol.old)) →
             made.0.log.start ≡ self.log.start) }

@@ -7,6 +7,7 @@ ghost use Rattle.tree_store.specs.Stores.{IsOutside};
 ghost use Rattle.volume_base.specs.Log.{Log, end_of, cleared_at, cut_to, pruned_to};
 ghost use Rattle.volume_base.specs.Names.{log_alone, NamesCall};
 ghost use Rattle.volume_base.specs.Volume.{Writes};
+ghost use Rattle.merkle_full.specs.Lifted.{IsLifted};
 ghost use Rattle.merkle_full.specs.Syncing.{KeepsOf, log_begun};
 
 use crate::sizes::most_leaves;
@@ -47,6 +48,7 @@ fn cleared_log<F: Family, D: Digest, V: Volume>(
     ensures log { OnOk result (V.tells → log_of (seen_of nodes) (V.state vol.new) ≡ cleared_at position) }
     ensures durable { OnOk result (V.tells → IsDurable (seen_of nodes) (V.state vol.new)) }
     ensures outside { V.tells → IfErr result IsOutside }
+    ensures errors { IfErr result IsLifted }
     ensures names { V.tells → NamesCall (log_alone (seen_of nodes).name) (V.state vol.old) (V.state vol.new) }
     ensures writes { Writes V.tells Error.Volume (V.state vol.old) (V.state vol.new) result }
 {
@@ -73,6 +75,7 @@ fn trimmed_log<F: Family, D: Digest, V: Volume>(
         pruned_to (cut_to log end) (blob_start (seen_of nodes).blob position)) }
     ensures durable { OnOk result (V.tells → IsDurable (seen_of nodes) (V.state vol.new)) }
     ensures outside { V.tells → IsHeld (seen_of nodes) (V.state vol.old) → IfErr result IsOutside }
+    ensures errors { IfErr result IsLifted }
     ensures names { V.tells → NamesCall (log_alone (seen_of nodes).name) (V.state vol.old) (V.state vol.new) }
     ensures writes { Writes V.tells Error.Volume (V.state vol.old) (V.state vol.new) result }
 {
@@ -101,6 +104,7 @@ pub(crate) fn begun_log<F: Family, D: Digest, V: Volume>(
         log_of (seen_of nodes) (V.state vol.new) ≡ log_begun F.shape (seen_of nodes).blob start kept log) }
     ensures durable { OnOk result (V.tells → IsDurable (seen_of nodes) (V.state vol.new)) }
     ensures outside { V.tells → IsHeld (seen_of nodes) (V.state vol.old) → IfErr result IsOutside }
+    ensures errors { IfErr result IsLifted }
     ensures names { V.tells → NamesCall (log_alone (seen_of nodes).name) (V.state vol.old) (V.state vol.new) }
     ensures writes { Writes V.tells Error.Volume (V.state vol.old) (V.state vol.new) result }
 {

@@ -5,6 +5,7 @@ ghost use Rattle.std.specs.FinMap as finmap;
 ghost use Rattle.journal_base.specs.View.{IsWithin};
 ghost use Rattle.tree_store.specs.Stores.{IsOutside};
 ghost use Rattle.volume_base.specs.Volume.{Reads};
+ghost use Rattle.merkle_full.specs.Lifted.{IsLifted};
 ghost use Rattle.merkle_full.specs.Pruning.{pinned_map};
 ghost use Rattle.merkle_full.specs.Recovering.{source_of, IsRecovered, NotAllRecovered};
 ghost use Rattle.merkle_full.specs.Syncing.{ArePins, IsMiscounted};
@@ -52,6 +53,7 @@ fn stored_pins<F: Family, D: Digest, R: BackingRecovery<Item = D>, V: Volume>(
         let source = source_of D.spelling D.Read.admits map (R.view log.now) (V.state vol.old) in
         let known = V.tells × IsWithin (R.view log.now) (V.state vol.old) in
         V.tells → IfErr result (NotAllRecovered known source positions.now) }
+    ensures errors { IfErr result IsLifted }
     ensures reads { Reads V.tells Error.Volume (V.state vol.old) (V.state vol.new) result }
 {
     let read = vol.map_get(metadata)?;
@@ -81,6 +83,7 @@ pub(crate) fn start_pins<F: Family, D: Digest, R: BackingRecovery<Item = D>, V: 
         let known = V.tells × IsWithin (R.view log.now) (V.state vol.old) in
         V.tells → IfErr result (λ e. (option_map (λ v. v.items) given ≡ None)
         × NotAllRecovered known source positions.now e) }
+    ensures errors { IfErr result IsLifted }
     ensures reads { Reads V.tells Error.Volume (V.state vol.old) (V.state vol.new) result }
 {
     match given {

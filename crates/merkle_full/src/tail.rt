@@ -1,5 +1,5 @@
 //! The nodes that memory has from a position on.
-ghost use Rattle.std.specs.Prelude.{◌≡◌, ◌⊎◌, ℕ, ◌-◌, ◌<◌, ◌≤◌, List, length, drop, None, IsOk, IfOk, IfErr};
+ghost use Rattle.std.specs.Prelude.{◌≡◌, ◌⊎◌, ℕ, ◌+◌, ◌-◌, ◌<◌, ◌≤◌, List, length, drop, slice_get, Some, None, IsOk, IfOk, IfErr};
 ghost use Rattle.tree_shape.specs.Hashing.{Hashing};
 ghost use Rattle.tree_shape.specs.Shape.{made};
 ghost use Rattle.tree_shape.specs.Slow.{nodes};
@@ -15,6 +15,8 @@ pub(crate) fn nodes_from<F: Family, D: Digest>(
     first: u64,
 ) -> Result<Vec<D>, Error<F>>
     ensures counted { IfOk result (λ tail. length tail.items ≡ length (made F.shape mem.now.leaves) - first) }
+    ensures told { IfOk result (λ tail. (i : ℕ) (d : D) → slice_get tail.items i ≡ Some d →
+        node_at mem.now (first + i) ≡ Some d) }
     ensures tree { IfOk result (λ tail. (h : Hashing D) (all : List D) → IsOf F.shape h all mem.now →
         tail.items ≡ drop first (nodes F.shape h all)) }
     ensures missing { IfErr result (λ e. (e ≡ Error.Memory)

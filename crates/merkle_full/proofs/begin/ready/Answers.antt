@@ -13,12 +13,14 @@ use Rattle.tree_store.specs.declared.error.Error.TheVariants as tree
 use Rattle.tree_core.specs.Tree.{IsOf, rests}
 use Rattle.merkle_full.specs.Preparing.{contents_of}
 use Rattle.merkle_full.specs.Pruning.{pinned_map}
-use Rattle.merkle_full.specs.Recovering.{source_of, TellsPeaks, NotAllRecovered, NotReopened}
+use Rattle.merkle_full.specs.Recovering.{source_of, TellsPeaks, IsRecalled, NotAllRecovered, NotReopened}
 use Rattle.merkle_full.specs.Syncing.{ArePins, NotBegun}
 use Rattle.merkle_full.proofs.BeginLemmas.{begun_is_map, tells_begun, tells_pins, pins_known, leaves_few, kept_low, kept_high, counted_given}
 use Rattle.merkle_full.proofs.GrownLemmas.{err_same, memory_alone, reads_ok}
-use Rattle.merkle_full.proofs.PrepareLemmas.{held_source, held_within, not_all_known, not_reopened_known}
+use Rattle.merkle_full.proofs.PrepareLemmas.{held_source, held_within, recalled_known, not_all_known, not_reopened_known}
 use Rattle.merkle_full.proofs.RunLemmas.{same_fault, not_ok}
+use Rattle.merkle_full.specs.Lifted.{IsLifted}
+use Rattle.merkle_full.proofs.LiftedLemmas.{not_reopened_lifted}
 use Rattle.merkle_full.proofs.begin.ready.Goals as goal
 
 pub start_pins-requires : goal.start_pins-requires
@@ -187,3 +189,33 @@ returns-clause-reads g c =
     let one = only_read_joins _ _ _ _ _ _ (only_read_none g.V.Volume.tells (g.V.Volume.state c.args.vol.now)) (c.in_ok-pins.ensures {u = tt}).reads in
     let two = only_read_joins _ _ _ _ _ _ one (c.in_ok-mem.ensures {u = tt}).reads in
     reads_ok _ _ _ _ _ two
+
+pub returns-clause-recalls : goal.returns-clause-recalls
+returns-clause-recalls g c told held =
+    let s = g.F.Family.shape in
+    let spelling = g.D.Spelled.spelling in
+    let old = g.V.Volume.state c.args.vol.now in
+    let new = g.V.Volume.state c.start_pins.new.vol in
+    let view = seen_of c.args.nodes.now in
+    let log = log_of view old in
+    let log_is = ((c.in_ok-pins.ensures {u = tt}).reads.contents told).logs view.name in
+    let now : IsHeld view new = record { start_is = held.start_is ∙ ap (λ (l : Log). l.start) (sym log_is); end_is = held.end_is ∙ ap end_of (sym log_is) } in
+    let m = c.in_ok-map.map in
+    let mem = c.in_ok-mem.mem in
+    let n = size s c.unwrap_or.result in
+    let later = source_of spelling g.D.Read.admits m view new in
+    let recalled = recalled_known (g.V.Volume.tells × IsWithin view new) (told, held_within view new now) later n mem (c.in_ok-mem.ensures {u = tt}).recalls in
+    let there = held_source (λ src. IsRecalled (Unit {0}) src n mem) spelling g.D.Read.admits m view new log now log_is recalled in
+    subst (λ (k : ℕ). IsRecalled (Unit {0}) (contents_of spelling (g.D.Read.admits tt) m log) (size s k) mem) c.unwrap_or.ensures there
+
+pub returns-in_err-mem-clause-errors : goal.returns-in_err-mem-clause-errors
+returns-in_err-mem-clause-errors g c =
+    let s = g.F.Family.shape in
+    let new = g.V.Volume.state c.start_pins.new.vol in
+    let view = seen_of c.args.nodes.now in
+    let e = c.in_err-mem.field-0.0 in
+    let later = source_of g.D.Spelled.spelling g.D.Read.admits c.in_ok-map.map view new in
+    err_same c.from_residual-in_err-mem.result e IsLifted c.from_residual-in_err-mem.ensures.1 (not_reopened_lifted (g.V.Volume.tells × IsWithin view new) later s c.unwrap_or.result c.args.start e c.in_err-mem.ensures.refused)
+
+pub returns-in_err-map-clause-errors : goal.returns-in_err-map-clause-errors
+returns-in_err-map-clause-errors g c = err_same c.from_residual-in_err-map.result c.in_err-map.field-0.0 IsLifted c.from_residual-in_err-map.ensures.1 (subst IsLifted (sym c.in_err-map.ensures.memory) tt)

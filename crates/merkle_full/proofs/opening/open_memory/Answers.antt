@@ -1,5 +1,6 @@
 use Rattle.std.proofs.Common.{◌≡◌, inl, inr, ℕ, ◌<◌, Err, refl, length, take, subst, sym, ◌∙◌, ap, arith}
 use Rattle.std.specs.Prelude.{is_some}
+use Rattle.journal_base.specs.Items.{Items}
 use Rattle.journal_base.specs.View.{IsWithin}
 use Rattle.journal_base.proofs.MatchLemmas.{within_later}
 use Rattle.tree_shape.specs.Shape.{made}
@@ -8,11 +9,13 @@ use Rattle.tree_core.specs.Tree.{IsOf}
 use Rattle.volume_base.specs.Log.{Log}
 use Rattle.volume_base.proofs.ReadLemmas.{only_read_none, only_read_joins, reads_joins}
 use Rattle.merkle_full.specs.Recovering.{source_of}
-use Rattle.merkle_full.specs.Preparing.{NotReached, NotOpened}
+use Rattle.merkle_full.specs.Preparing.{IsOrphanRead, NotReached, NotOpened}
 use Rattle.merkle_full.proofs.GrownLemmas.{err_same, reads_ok}
 use Rattle.merkle_full.proofs.PrepareLemmas.{selects_in, selected_past, not_reached_before}
 use Rattle.merkle_full.proofs.RunLemmas.{same_fault, not_ok}
 use Rattle.tree_store.specs.declared.error.Error.TheVariants as tree
+use Rattle.merkle_full.specs.Lifted.{IsLifted}
+use Rattle.merkle_full.proofs.LiftedLemmas.{not_reopened_lifted}
 use Rattle.merkle_full.proofs.opening.open_memory.Goals as goal
 
 pub returns-in_err-mem-clause-refused : goal.returns-in_err-mem-clause-refused
@@ -68,3 +71,28 @@ returns-clause-reads g c =
     let old = g.V.Volume.state c.args.vol.now in
     let one = only_read_joins _ _ _ _ _ _ (only_read_none g.V.Volume.tells old) (c.in_ok-mem.ensures {u = tt}).reads in
     reads_ok _ _ _ _ _ (only_read_joins _ _ _ _ _ _ one (c.in_ok-mem-2.ensures {u = tt}).reads)
+
+pub returns-clause-recalls : goal.returns-clause-recalls
+returns-clause-recalls g c p d lt is =
+    let did = c.in_ok-mem.ensures {u = tt} in
+    let below : p < length (made g.F.Family.shape c.in_ok-mem.mem.leaves) = omega (arith, lt, ap (λ (n : ℕ). length (made g.F.Family.shape n)) did.leaves) in
+    did.recalls p d lt (sym ((c.in_ok-mem-2.ensures {u = tt}).nodes p below) ∙ is)
+
+pub returns-clause-orphan : goal.returns-clause-orphan
+returns-clause-orphan g c told =
+    let s = g.F.Family.shape in
+    let view = g.R.BackingRecovery.view c.args.log.now in
+    let old = g.V.Volume.state c.args.vol.now in
+    let did = c.in_ok-mem.ensures {u = tt} in
+    let items : Log → Items g.row.D.Denot = λ l. record { log = l; spelling = g.D.Spelled.spelling; admits = g.D.Read.admits view.codec } in
+    subst (λ (l : Log). IsOrphanRead (items l) s c.args.cap view.end c.in_ok-selection.selection.complete) ((did.reads.contents told).logs view.name)
+    (subst (λ (n : ℕ). IsOrphanRead (items ((g.V.Volume.state c.reopened.new.vol).log view.name)) s c.args.cap view.end n) did.leaves ((c.in_ok-mem-2.ensures {u = tt}).orphan told))
+
+pub returns-in_err-mem-clause-errors : goal.returns-in_err-mem-clause-errors
+returns-in_err-mem-clause-errors g c =
+    let view = g.R.BackingRecovery.view c.args.log.now in
+    let old = g.V.Volume.state c.args.vol.now in
+    let e = c.in_err-mem.field-0.0 in
+    let source = source_of g.D.Spelled.spelling g.D.Read.admits c.args.map.now view old in
+    let selection = c.in_ok-selection.selection in
+    err_same c.from_residual-in_err-mem.result e IsLifted c.from_residual-in_err-mem.ensures.1 (not_reopened_lifted (g.V.Volume.tells × IsWithin view old) source g.F.Family.shape selection.complete selection.pruned e c.in_err-mem.ensures.refused)

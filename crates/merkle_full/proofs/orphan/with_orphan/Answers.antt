@@ -2,9 +2,12 @@ use Rattle.std.proofs.Common.{◌≡◌, ℕ, List, Err, length, take, subst, sy
 use Rattle.journal_base.specs.Items.{items_of}
 use Rattle.tree_core.specs.Tree.{IsOf}
 use Rattle.tree_shape.specs.Shape.{made}
+use Rattle.volume_base.specs.Log.{IsItemAt}
 use Rattle.merkle_full.specs.Preparing.{NotReached}
 use Rattle.merkle_full.proofs.OpeningLemmas.{node_in_log}
 use Rattle.merkle_full.proofs.OrphanLemmas.{ok_both, orphan_next, not_reached}
+use Rattle.merkle_full.proofs.LiftedLemmas.{made_lifted, memory_lifted}
+use Rattle.merkle_full.proofs.RecallLemmas.{ok_any}
 use Rattle.merkle_full.proofs.orphan.with_orphan.Goals as goal
 
 pub returns-in-Ok-clause-list : goal.returns-in-Ok-clause-list
@@ -33,3 +36,18 @@ returns-in-Err-clause-refused g c told within low =
     (λ p is. (c.in-Err.ensures.pruned p (ap Err is)).1 told within)
     (λ p is. (c.in-Err.ensures.out_of_range p (ap Err is)).1 told within)
     (λ p is. let bad = c.in-Err.ensures.corrupt p (ap Err is) in (bad.0, bad.3 told)) c.in-Err.ensures.errors)
+
+pub returns-in-Ok-clause-orphan : goal.returns-in-Ok-clause-orphan
+returns-in-Ok-clause-orphan g c =
+    let s = g.F.Family.shape in
+    let n = c.args.mem.leaves in
+    let view = g.R.BackingRecovery.view c.args.log.now in
+    let log = (g.V.Volume.state c.args.vol.now).log view.name in
+    let place : c.size-position.result ≡ length (made s n) = c.size-position.ensures ∙ ap (λ (k : ℕ). length (made s k)) (c.as_u64-leaves.ensures ∙ c.leaves.ensures.leaves) in
+    ok_any c.with_leaf.result _ (λ told has. (c.in-Ok.leaf, subst (λ (p : ℕ). IsItemAt log p (g.D.Spelled.spelling c.in-Ok.leaf)) place (c.in-Ok.ensures.item told)))
+
+pub returns-in-Err-clause-errors : goal.returns-in-Err-clause-errors
+returns-in-Err-clause-errors g c = made_lifted _ c.in-Err.error c.from.ensures
+
+pub returns-in-Ok-clause-errors : goal.returns-in-Ok-clause-errors
+returns-in-Ok-clause-errors g c = memory_lifted c.with_leaf.result c.with_leaf.ensures.memory

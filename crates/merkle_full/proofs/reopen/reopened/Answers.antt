@@ -1,6 +1,7 @@
 use Rattle.std.proofs.Common.{◌≡◌, inl, inr, ◌-◌, ℕ, List, length, map, take, sym, ◌∙◌, ap, subst, arith}
 use Rattle.std.specs.Prelude.{slice_get}
 use Rattle.std.proofs.lemmas.List.{length-take-le}
+use Rattle.tree_shape.specs.Pins.{pins}
 use Rattle.tree_shape.specs.Shape.{made, peaks}
 use Rattle.tree_shape.specs.Slow.{node_of}
 use Rattle.volume_base.specs.Log.{Log}
@@ -14,6 +15,7 @@ use Rattle.merkle_full.proofs.PeakLemmas.{pin_count}
 use Rattle.volume_base.proofs.ReadLemmas.{only_read_none, only_read_joins, reads_of}
 use Rattle.merkle_full.specs.Recovering.{source_of, AllRecovered, NotAllRecovered, NotReopened}
 use Rattle.journal_base.specs.View.{IsWithin}
+use Rattle.merkle_full.proofs.RecallLemmas.{built_pin}
 use Rattle.merkle_full.proofs.reopen.reopened.Goals as goal
 
 mem_leaves : (g : _) (c : goal.After-drop-leaf_positions-2 g) → c.in_ok-mem.mem.leaves ≡ c.args.complete
@@ -146,3 +148,22 @@ returns-clause-peaks g c =
       of_leaves = subst (λ (ps : List ℕ). AllRecovered known source ps) (c.deref.ensures.value ∙ c.in_ok-leaf_positions.ensures {u = tt}) first.recovered;
       of_boundary = subst (λ (ps : List ℕ). AllRecovered known source ps) (c.deref-2.ensures.value ∙ c.in_ok-positions.ensures {u = tt}) then;
     }
+
+pub returns-clause-recalls : goal.returns-clause-recalls
+returns-clause-recalls g c p d lt is =
+    let s = g.F.Family.shape in
+    let view = g.R.BackingRecovery.view c.args.log.now in
+    let old = g.V.Volume.state c.args.vol.now in
+    let new = g.V.Volume.state c.recovered_nodes.new.vol in
+    let first = c.in_ok-peaks.ensures {u = tt} in
+    let second = c.in_ok-pins.ensures {u = tt} in
+    let leaf = c.deref.ensures.value ∙ c.in_ok-leaf_positions.ensures {u = tt} ∙ ap (pins s) (sym c.new-2.ensures) in
+    let before = known_before g.V.Volume.tells g.D.Spelled.spelling g.D.Read.admits c.args.map.now view old new first.reads.contents in
+    elim ((c.in_ok-opened.ensures {u = tt}).nodes p d is) [
+      | inl here ↦
+          let pin = built_pin s c.new-2.result c.new.result.items c.in_ok-peaks.peaks.items c.in_ok-mem.mem (c.in_ok-mem.ensures {u = tt}).built c.new.ensures.items p d here in
+          first.nodes pin.index p d (ap (λ (l : List ℕ). slice_get l pin.index) leaf ∙ pin.position) pin.digest
+      | inr pin ↦
+          before p d
+          (second.nodes pin.index p d (ap (λ (l : List ℕ). slice_get l pin.index) (c.deref-2.ensures.value ∙ sym c.deref-3.ensures.value) ∙ pin.position) (ap (λ (l : List _). slice_get l pin.index) (sym c.deref-4.ensures.value) ∙ pin.digest))
+    ]

@@ -11,6 +11,9 @@ use Rattle.volume_base.specs.Volume.{LogCall, LogMoves, OnlyLeft}
 use Rattle.volume_base.proofs.CallLemmas.{names_call_log, names_call_joins}
 use Rattle.merkle_full.proofs.PrepareLemmas.{held_within}
 use Rattle.merkle_full.proofs.SettleLemmas.{blob_below, cut_down, long_now, then_more, then_cut, start_settled, log_settled, start_outside}
+use Rattle.merkle_full.specs.Lifted.{IsLifted}
+use Rattle.merkle_full.proofs.GrownLemmas.{err_same}
+use Rattle.merkle_full.proofs.LiftedLemmas.{err_lifted, outside_lifted}
 use Rattle.merkle_full.proofs.settle.settled.Goals as goal
 
 pub returns-in_err-cut-clause-images : goal.returns-in_err-cut-clause-images
@@ -192,3 +195,12 @@ returns-clause-images g c told h all durable top held is only few has =
     let both = ap (λ (v : View _). v.name) (c.in_ok-kept.ensures {u = tt}).made ∙ named in
     let moves = subst (λ (n : List ℕ). LogMoves n (Shrinks (min end (end_of (s2.log n)))) s2 s3) both ((c.in_ok-journal.ensures {u = tt}).call.log told).images in
     then_cut s h spelling all durable top name metadata end s0 s2 s3 two moves (g.met.V.Volume.contents_left c.advance.new.vol told) (omega (arith, fits, c.size-end.ensures))
+
+pub returns-in_err-cut-clause-errors : goal.returns-in_err-cut-clause-errors
+returns-in_err-cut-clause-errors g c = err_lifted c.from_residual.result c.in_err-cut.field-0.0 c.from_residual.ensures.1
+
+pub returns-in_err-kept-clause-errors : goal.returns-in_err-kept-clause-errors
+returns-in_err-kept-clause-errors g c = let e = c.in_err-kept.field-0.0 in err_same c.from_residual-in_err-kept.result e IsLifted c.from_residual-in_err-kept.ensures.1 (outside_lifted e c.in_err-kept.ensures.outside)
+
+pub returns-in_err-journal-clause-errors : goal.returns-in_err-journal-clause-errors
+returns-in_err-journal-clause-errors g c = err_lifted c.from_residual-in_err-journal.result c.in_err-journal.field-0.0 c.from_residual-in_err-journal.ensures.1

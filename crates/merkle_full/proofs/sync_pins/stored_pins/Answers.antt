@@ -4,6 +4,10 @@ use Rattle.journal_base.specs.View.{IsWithin}
 use Rattle.merkle_full.specs.Recovering.{source_of, IsRecovered, NotAllRecovered}
 use Rattle.merkle_full.proofs.GrownLemmas.{err_same}
 use Rattle.merkle_full.proofs.ReopenLemmas.{known_before, first_before}
+use Rattle.volume_base.specs.Errors.{as_journal_error}
+use Rattle.merkle_full.specs.Lifted.{IsLifted}
+use Rattle.merkle_full.proofs.GrownLemmas.{err_same}
+use Rattle.merkle_full.proofs.LiftedLemmas.{err_lifted, not_all_lifted}
 use Rattle.merkle_full.proofs.sync_pins.stored_pins.Goals as goal
 
 pub returns-in_err-pins-clause-refused : goal.returns-in_err-pins-clause-refused
@@ -29,3 +33,9 @@ returns-clause-nodes g c told i p d at is =
     let got = c.in_ok-read.ensures {u = tt} in
     let here = known_before g.V.Volume.tells spelling g.D.Read.admits c.in_ok-read.read view old new got.answers.contents p d ((c.in_ok-pins.ensures {u = tt}).nodes i p d at is) in
     subst (λ (m : Map). IsRecovered known (source_of spelling g.D.Read.admits m view old) p d) (got.map told) here
+
+pub returns-in_err-read-clause-errors : goal.returns-in_err-read-clause-errors
+returns-in_err-read-clause-errors g c = err_lifted c.from_residual.result (as_journal_error c.in_err-read.field-0.0) c.from_residual.ensures.1
+
+pub returns-in_err-pins-clause-errors : goal.returns-in_err-pins-clause-errors
+returns-in_err-pins-clause-errors g c = let e = c.in_err-pins.field-0.0 in err_same c.from_residual-in_err-pins.result e IsLifted c.from_residual-in_err-pins.ensures.1 (not_all_lifted _ _ _ e c.in_err-pins.ensures.refused)

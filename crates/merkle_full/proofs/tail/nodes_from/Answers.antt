@@ -20,3 +20,6 @@ returns-clause-tree g c h all of =
     let count = of.count in
     list_from c.loop-position.tail.items (nodes s h all) c.args.first (omega (arith, counted, length-nodes s h all, ap (λ n. length (made s n)) count))
     (λ i d e. of.right (c.args.first + i) d (c.loop-position.invariant.told i d e))
+
+pub returns-clause-told : goal.returns-clause-told
+returns-clause-told g c i d is = c.loop-position.invariant.told i d is

@@ -9,6 +9,8 @@ use Rattle.volume_base.specs.Volume.{MapCall, OnlyLeft}
 use Rattle.volume_base.proofs.CallLemmas.{names_call_map, names_call_joins}
 use Rattle.merkle_full.proofs.BeginLemmas.{map_begun, log_after, kept_low, ends_begun}
 use Rattle.merkle_full.proofs.PruneRun.{names_wider}
+use Rattle.volume_base.specs.Errors.{as_journal_error}
+use Rattle.merkle_full.proofs.LiftedLemmas.{err_lifted}
 use Rattle.merkle_full.proofs.begin.Start.begin.Goals as goal
 
 pub returns-in_err-map_replace-clause-names : goal.returns-in_err-map_replace-clause-names
@@ -115,3 +117,6 @@ returns-clause-images g c told =
     let call = subst (λ (m : List ℕ). MapCall m (BecomesOneOf made) s0 s1) c.as_str.ensures.value (replaced.call.map told) in
     let only = subst (λ (m : List ℕ). OnlyLeft (s1.map_left s1.clock m) made) c.as_str.ensures.value (replaced.durable told) in
     log_after name metadata made (λ log m. (s0.log_left s0.clock name log × s0.map_left s0.clock metadata m) ⊎ (m ≡ made)) s0 s1 s2 (map_begun name metadata made s0 s1 call.images) only (λ log. inr refl) ((c.in_ok-nodes.ensures {u = tt}).names told)
+
+pub returns-in_err-map_replace-clause-errors : goal.returns-in_err-map_replace-clause-errors
+returns-in_err-map_replace-clause-errors g c = err_lifted c.from_residual.result (as_journal_error c.in_err-map_replace.field-0.0) c.from_residual.ensures.1

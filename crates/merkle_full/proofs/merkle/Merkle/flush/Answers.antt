@@ -1,15 +1,15 @@
-use Rattle.std.proofs.Common.{inl, ℕ, List, ◌++◌, length, map, drop, Err, refl, sym, ◌∙◌, ap, subst, arith}
+use Rattle.std.proofs.Common.{inl, ℕ, ◌+◌, ◌-◌, List, ◌++◌, length, map, drop, Err, refl, sym, ◌∙◌, ap, subst, arith}
 use Rattle.std.specs.String.{string_bytes}
 use Rattle.journal_base.specs.View.{view_of}
 use Rattle.tree_shape.specs.Slow.{nodes}
-use Rattle.tree_core.specs.Tree.{IsRested}
+use Rattle.tree_core.specs.Tree.{IsRested, node_at}
 use Rattle.tree_shape.specs.Shape.{made}
 use Rattle.tree_shape.proofs.NeededLemmas.{made_le}
 use Rattle.volume_base.specs.Log.{appended, end_of}
 use Rattle.volume_base.specs.Moments.{present}
 use Rattle.volume_base.specs.Names.{log_alone, NamesCall}
 use Rattle.volume_base.proofs.CallLemmas.{names_call_none, names_call_log}
-use Rattle.merkle_full.specs.Flushing.{AllStand, AllKeepStanding, IsOfFlush}
+use Rattle.merkle_full.specs.Flushing.{AllStand, AllKeepStanding, IsFilled, IsOfFlush}
 use Rattle.merkle_full.specs.Full.{Full, IsSeated}
 use Rattle.merkle_full.specs.Lists.{IsFullOf}
 use Rattle.merkle_full.proofs.FullLemmas.{full_end}
@@ -177,3 +177,25 @@ returns-in_err-tail-clause-errors g c =
 
 pub returns-in_err-nodes-clause-errors : goal.returns-in_err-nodes-clause-errors
 returns-in_err-nodes-clause-errors g c = of_append g.F.Family.shape c.args.self _ c.in_err-nodes.field-0.0 c.from_residual-in_err-nodes.ensures.1 (c.in_err-nodes.ensures.errors tt)
+
+pub returns-clause-rested : goal.returns-clause-rested
+returns-clause-rested g c =
+    let rested = subst (λ (n : ℕ). IsRested g.F.Family.shape n c.self.inside.mem c.rest.new.self) c.new.ensures c.rest.ensures.rested in
+    subst (λ (t : Full g.row.D.Denot). IsRested g.F.Family.shape t.boundary t.tree c.rest.new.self) c.self.view_is rested
+
+pub returns-clause-filled : goal.returns-clause-filled
+returns-clause-filled g c tells =
+    let s = g.F.Family.shape in
+    let spelling = g.D.Spelled.spelling in
+    let old = g.V.Volume.state c.args.vol.now in
+    let new = g.V.Volume.state c.append_all.new.vol in
+    let did = c.in_ok-nodes.ensures {u = tt} in
+    let tail = c.in_ok-tail.ensures {u = tt} in
+    let from = c.bounds-end.ensures.end in
+    let P : Full g.row.D.Denot → Type 0 = λ t. IsFilled s spelling t.tree t.log.end (old.log t.log.name) (new.log t.log.name) in
+    subst P c.self.view_is (record {
+      more = c.in_ok-tail.tail.items;
+      counted = tail.counted ∙ ap (λ (n : ℕ). length (made s c.self.inside.mem.leaves) - n) from;
+      nodes = λ i d is. ap (λ (n : ℕ). node_at c.self.inside.mem (n + i)) (sym from) ∙ tail.told i d is;
+      log = did.appended tells ∙ ap (λ (xs : List g.row.D.Denot). appended (old.log (string_bytes c.self.inside.nodes.name)) (map spelling xs)) c.deref.ensures.value;
+    })

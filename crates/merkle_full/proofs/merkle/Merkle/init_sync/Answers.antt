@@ -9,7 +9,7 @@ use Rattle.volume_base.specs.Volume.{Map}
 use Rattle.volume_base.proofs.CallLemmas.{names_call_idle, names_call_joins}
 use Rattle.volume_base.proofs.JoinLemmas.{went_of_reads, went_joins, changes_of_reads, changes_of_writes, changes_joins}
 use Rattle.volume_base.proofs.ReadLemmas.{only_read_none, only_read_joins, reads_joins}
-use Rattle.tree_store.specs.Stored.{IsMapOf}
+use Rattle.tree_store.specs.Stored.{size, IsMapOf}
 use Rattle.tree_store.specs.declared.error.Error.TheVariants as tree
 use Rattle.tree_core.specs.Tree.{Tree, IsOf}
 use Rattle.merkle_full.specs.Lists.{IsFullOf}
@@ -19,6 +19,9 @@ use Rattle.merkle_full.proofs.BeginLemmas.{begun_is_map, held_later, same_begun,
 use Rattle.merkle_full.proofs.GrownLemmas.{err_same}
 use Rattle.merkle_full.proofs.RunLemmas.{renamed_durable, same_fault, not_ok}
 use Rattle.merkle_full.proofs.StandLemmas.{pair_idle}
+use Rattle.merkle_full.specs.Recovering.{Source, IsRecalled}
+use Rattle.merkle_full.specs.Lifted.{IsLifted}
+use Rattle.merkle_full.proofs.LiftedLemmas.{outside_lifted}
 use Rattle.merkle_full.proofs.merkle.Merkle.init_sync.Goals as goal
 
 -- ---- the count is tested first
@@ -499,3 +502,29 @@ returns-clause-full g c told h all digests from =
     let boundary = ap (λ (u : Tree _). u.boundary) did.tree ∙ plan.boundary ∙ ap (unwrap_or kept) start_is in
     let full = begun_full s h w all start end given contents from admits t (present s3) kept keeps (did.seated told held2) boundary (did.named.boundary_is ∙ start_is) pinned log_at digests of in
     subst (λ (n : ℕ). IsFullOf s h spelling admits (take n all) t (present s3)) (sym (ap (λ (u : Tree _). u.leaves) did.tree ∙ n_is)) full
+
+pub returns-clause-recalls : goal.returns-clause-recalls
+returns-clause-recalls g c told =
+    let s = g.F.Family.shape in
+    let s0 = g.V.Volume.state c.args.vol.now in
+    let s1 = g.V.Volume.state c.seen_nodes.new.vol in
+    let nodes = string_bytes c.args.cfg.config.nodes in
+    let seen = c.in_ok-nodes.ensures {u = tt} in
+    let view = seen_of c.in_ok-nodes.nodes in
+    let held1 = held_later view s0 s1 (seen.reads.contents told) (seen.held told) in
+    let log_is = ap s1.log (ap (λ (v : View _). v.name) seen.made) ∙ (seen.reads.contents told).logs nodes in
+    let plan = c.in_ok-plan.ensures {u = tt} in
+    let did = c.in_ok-tree.ensures {u = tt} in
+    let mem = c.in_ok-plan.plan.mem in
+    let of : Map → Log → Source g.row.D.Denot = contents_of g.D.Spelled.spelling (g.D.Read.admits tt) in
+    let one = subst (λ (l : Log). IsRecalled (Unit {0}) (of c.in_ok-plan.plan.map l) (size s (unwrap_or c.in_ok-plan.plan.kept c.as_u64-start.result)) mem) log_is (plan.recalls told held1) in
+    let two = subst (λ (m : Map). IsRecalled (Unit {0}) (of m (s0.log nodes)) (size s (unwrap_or c.in_ok-plan.plan.kept c.as_u64-start.result)) mem) (sym (did.map told)) one in
+    let m = (g.V.Volume.state c.begin.new.vol).map (string_bytes c.args.cfg.config.metadata) in
+    let three = subst (λ (n : ℕ). IsRecalled (Unit {0}) (of m (s0.log nodes)) (size s n) mem) (sym plan.leaves) two in
+    subst (λ (u : Tree _). IsRecalled (Unit {0}) (of m (s0.log nodes)) (size s u.leaves) u) (sym did.tree) three
+
+pub returns-in_err-check_count-clause-errors : goal.returns-in_err-check_count-clause-errors
+returns-in_err-check_count-clause-errors g c = err_same c.from_residual.result c.in_err-check_count.field-0.0 IsLifted c.from_residual.ensures.1 (subst IsLifted (sym c.in_err-check_count.ensures.refused.0) tt)
+
+pub returns-in_err-nodes-clause-errors : goal.returns-in_err-nodes-clause-errors
+returns-in_err-nodes-clause-errors g c = let e = c.in_err-nodes.field-0.0 in err_same c.from_residual-in_err-nodes.result e IsLifted c.from_residual-in_err-nodes.ensures.1 (outside_lifted e c.in_err-nodes.ensures.outside)

@@ -1,19 +1,22 @@
-use Rattle.std.proofs.Common.{inl, ℕ, List, Ok, take, refl, subst, sym, ◌∙◌, ap}
+use Rattle.std.proofs.Common.{inl, ℕ, List, Ok, take, refl, arith, subst, sym, ◌∙◌, ap}
 use Rattle.std.specs.Prelude.{string_bytes}
-use Rattle.tree_store.specs.Stored.{TreeStands}
+use Rattle.tree_store.specs.Stored.{TreeStands, size}
 use Rattle.tree_store.specs.declared.error.Error.TheVariants as tree
 use Rattle.journal_base.specs.View.{View}
-use Rattle.volume_base.specs.Log.{Log}
+use Rattle.volume_base.specs.Log.{Log, cut_to}
 use Rattle.volume_base.specs.Moments.{present, PairHas, PairKeeps}
 use Rattle.volume_base.specs.Names.{log_and_map, NamesCall}
 use Rattle.volume_base.specs.Volume.{Map}
 use Rattle.volume_base.proofs.CallLemmas.{names_call_log, names_call_joins}
 use Rattle.volume_base.proofs.JoinLemmas.{went_of, changes_joins, changes_of_writes}
 use Rattle.volume_base.proofs.MomentLemmas.{pair_has_after, pair_keeps_joins}
+use Rattle.merkle_full.specs.Flushing.{IsFilled}
 use Rattle.merkle_full.specs.Lists.{IsFullOf}
-use Rattle.merkle_full.specs.Preparing.{cap_of, Opens}
-use Rattle.merkle_full.proofs.PrepareLemmas.{kept_standing, durable_fits}
+use Rattle.merkle_full.specs.Preparing.{cap_of, log_kept, settled_log, Opens}
+use Rattle.merkle_full.proofs.PrepareLemmas.{kept_standing, durable_fits, selected_past}
+use Rattle.merkle_full.proofs.RecallLemmas.{rested_node, filled_front}
 use Rattle.merkle_full.proofs.RunLemmas.{renamed_durable}
+use Rattle.merkle_full.proofs.SettleLemmas.{ends_settled}
 use Rattle.merkle_full.proofs.StandLemmas.{pair_idle}
 use Rattle.merkle_full.proofs.merkle.Merkle.open_under.Goals as goal
 
@@ -35,21 +38,54 @@ returns-clause-durable g c told =
 pub returns-clause-opens : goal.returns-clause-opens
 returns-clause-opens g c told =
     let s = g.F.Family.shape in
-    let h = g.H.Hasher.hash in
     let spelling = g.D.Spelled.spelling in
+    let admits = g.D.Read.admits tt in
     let s0 = g.V.Volume.state c.args.vol.now in
     let s1 = g.V.Volume.state c.prepare.new.vol in
+    let s2 = g.V.Volume.state c.finish.new.vol in
     let nodes = string_bytes c.args.cfg.nodes in
-    let metadata = string_bytes c.args.cfg.metadata in
+    let m = s0.map (string_bytes c.args.cfg.metadata) in
+    let top = cap_of c.args.max_leaves in
     let r = c.in_ok-recovery.recovery in
     let did = c.in_ok-recovery.ensures {u = tt} in
-    let from = (c.in_ok-opened.ensures {u = tt}).from in
-    let t = c.in_ok-opened.opened in (
-      r.boundary,
-      r.complete,
-      subst (λ (n : ℕ). Opens g.row.F.Denot spelling (g.D.Read.admits tt) s (s0.map metadata) (s0.log nodes) (cap_of c.args.max_leaves) r.boundary r.complete t.boundary n) (sym from.leaves)
-          (subst (λ (b : ℕ). Opens g.row.F.Denot spelling (g.D.Read.admits tt) s (s0.map metadata) (s0.log nodes) (cap_of c.args.max_leaves) r.boundary r.complete b r.tree.leaves) (sym from.boundary) (did.prepared told)),
-    )
+    let opened = c.in_ok-opened.ensures {u = tt} in
+    let t = c.in_ok-opened.opened in
+    let opens = did.prepared told in
+    let kept = log_kept opens.stored (s0.log nodes) in
+    let selects = opens.selects in
+    let named = did.named.nodes_is in
+    let log_is = ap s1.log named ∙ did.kept told opens.stored opens.stored_is in
+    let past = selected_past s r.boundary _ _ top r.complete r.pruned r.complete selects refl in
+    let ends = ends_settled s kept r.complete r.boundary r.log.blob (omega (arith, selects.pruned_is, selects.within)) past selects.most.fits in
+    let filled = subst (λ (l : Log). IsFilled s spelling r.tree (size s r.complete) (settled_log s r.log.blob r.boundary r.complete l) (s2.log r.log.name)) log_is (opened.log told (did.within told)) in
+    let blob = ap (λ (v : View _). v.blob) opened.from.log in
+    record {
+      boundary = r.boundary;
+      complete = r.complete;
+      opens = subst (λ (n : ℕ). Opens g.row.F.Denot spelling admits s m (s0.log nodes) top r.boundary r.complete t.boundary n) (sym opened.from.leaves)
+          (subst (λ (b : ℕ). Opens g.row.F.Denot spelling admits s m (s0.log nodes) top r.boundary r.complete b r.tree.leaves) (sym opened.from.boundary) opens);
+      recalls = let had = did.recalls told in record {
+        stored = had.stored;
+        stored_is = had.stored_is;
+        recalled = λ p d lt is. had.recalled p d lt (rested_node s r.pruned r.tree t.tree p d opened.rested is);
+      };
+      log = record {
+        stored = opens.stored;
+        stored_is = opens.stored_is;
+        log = ap (λ (n : List ℕ). cut_to (s2.log n) (size s r.complete)) (sym named) ∙ filled_front s spelling r.tree (size s r.complete) _ _ filled ends ∙ ap (λ (b : ℕ). settled_log s b r.boundary r.complete kept) (sym blob);
+      };
+    }
+
+pub returns-clause-map : goal.returns-clause-map
+returns-clause-map g c told =
+    let s0 = g.V.Volume.state c.args.vol.now in
+    let s1 = g.V.Volume.state c.prepare.new.vol in
+    let s2 = g.V.Volume.state c.finish.new.vol in
+    let metadata = string_bytes c.args.cfg.metadata in
+    let did = c.in_ok-recovery.ensures {u = tt} in
+    let within = did.within told in
+    let named = did.named.metadata_is in
+    ap s2.map (sym named) ∙ (c.in_ok-opened.ensures {u = tt}).map told within ∙ sym within.read ∙ ap s1.map named ∙ (did.log told).others.maps metadata
 
 pub returns-clause-full : goal.returns-clause-full
 returns-clause-full g c told all durable top stands long digests =

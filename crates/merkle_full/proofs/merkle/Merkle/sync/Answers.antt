@@ -1,9 +1,10 @@
-use Rattle.std.proofs.Common.{◌≡◌, inl, ◌++◌, Ok, Err, refl, sym, ◌∙◌, ap, subst}
+use Rattle.std.proofs.Common.{◌≡◌, inl, ℕ, List, ◌++◌, Ok, Err, refl, sym, ◌∙◌, ap, subst}
 use Rattle.volume_base.specs.Log.{Log, end_of}
 use Rattle.volume_base.specs.Moments.{present}
 use Rattle.volume_base.proofs.JoinLemmas.{writes_joins}
+use Rattle.tree_core.specs.Tree.{IsRested}
 use Rattle.tree_store.specs.declared.error.Error.TheVariants as tree
-use Rattle.merkle_full.specs.Flushing.{IsOfFlush}
+use Rattle.merkle_full.specs.Flushing.{IsFilled, IsOfFlush}
 use Rattle.merkle_full.specs.Full.{Full, IsSeated}
 use Rattle.merkle_full.specs.Lists.{IsFullOf}
 use Rattle.merkle_full.proofs.FullLemmas.{full_later}
@@ -100,3 +101,18 @@ returns-in_err-synced-clause-writes g c sound =
 
 pub returns-in_err-synced-clause-errors : goal.returns-in_err-synced-clause-errors
 returns-in_err-synced-clause-errors g c = err_same _ c.in_err-synced.field-0.0 (IsOfFlush g.F.Family.shape c.args.self) c.from_residual-in_err-synced.ensures.1 (inl c.in_err-synced.ensures.outside)
+
+pub returns-clause-rested : goal.returns-clause-rested
+returns-clause-rested g c =
+    let r = c.args.self in
+    subst (λ (t : Full g.row.D.Denot). IsRested g.F.Family.shape r.boundary r.tree t.tree) (sym (c.in_ok-synced.ensures {u = tt}).same) (c.in_ok-flushed.ensures {u = tt}).rested
+
+pub returns-clause-filled : goal.returns-clause-filled
+returns-clause-filled g c tells =
+    let r = c.args.self in
+    let s0 = g.V.Volume.state c.args.vol.now in
+    let s1 = g.V.Volume.state c.flush.new.vol in
+    let s2 = g.V.Volume.state c.sync_log.new.vol in
+    let flushed = c.in_ok-flushed.ensures {u = tt} in
+    let log = subst (λ (n : List ℕ). s2.log n ≡ s1.log n) (ap (λ v. v.name) flushed.same.log) ((c.in_ok-synced.ensures {u = tt}).contents tells) in
+    subst (λ (l : Log). IsFilled g.F.Family.shape g.D.Spelled.spelling r.tree r.log.end (s0.log r.log.name) l) (sym log) (flushed.filled tells)

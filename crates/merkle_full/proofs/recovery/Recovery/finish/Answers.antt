@@ -1,8 +1,10 @@
 use Rattle.std.proofs.Common.{◌≡◌, ◌∙◌, ℕ, List, Ok, Err, refl, take, drop, subst, sym, ap}
 use Rattle.std.proofs.lemmas.List.{take-append-drop}
 use Rattle.journal_base.specs.View.{View}
-use Rattle.tree_store.specs.Stored.{TreeStands}
+use Rattle.tree_store.specs.Stored.{TreeStands, size}
+use Rattle.tree_core.specs.Tree.{Tree, IsRested}
 use Rattle.tree_store.specs.declared.error.Error.TheVariants as tree
+use Rattle.volume_base.specs.Log.{Log}
 use Rattle.volume_base.specs.Moments.{PairHas, PairKeeps}
 use Rattle.volume_base.specs.Names.{log_alone, log_and_map, NamesCall}
 use Rattle.volume_base.specs.Volume.{Map, OnlyLeft}
@@ -11,6 +13,11 @@ use Rattle.volume_base.proofs.JoinLemmas.{writes_joins}
 use Rattle.volume_base.proofs.MomentLemmas.{pair_has_after, pair_keeps_joins}
 use Rattle.merkle_full.proofs.RunLemmas.{same_fault, not_ok}
 use Rattle.merkle_full.proofs.PruneRun.{names_wider}
+use Rattle.merkle_full.specs.Flushing.{IsFilled}
+use Rattle.merkle_full.specs.Lifted.{IsLifted}
+use Rattle.merkle_full.specs.Preparing.{settled_log}
+use Rattle.merkle_full.proofs.GrownLemmas.{err_same}
+use Rattle.merkle_full.proofs.LiftedLemmas.{flush_lifted}
 use Rattle.merkle_full.proofs.recovery.Recovery.finish.Goals as goal
 
 pub returns-in_err-settled-clause-images : goal.returns-in_err-settled-clause-images
@@ -113,3 +120,35 @@ returns-clause-writes g c =
 
 pub returns-clause-fresh : goal.returns-clause-fresh
 returns-clause-fresh g c = ap (λ (v : View _). v.failed) (c.in_ok-opened.ensures {u = tt}).same.log ∙ (c.in_ok-settled.ensures {u = tt}).failed
+
+pub returns-clause-rested : goal.returns-clause-rested
+returns-clause-rested g c =
+    let s = g.F.Family.shape in
+    let t = c.in_ok-settled.settled in
+    let u = c.in_ok-opened.opened in
+    let did = c.in_ok-settled.ensures {u = tt} in
+    subst (λ (b : ℕ). IsRested s b c.args.self.tree u.tree) did.from.boundary (subst (λ (m : Tree _). IsRested s t.boundary m u.tree) did.tree (c.in_ok-opened.ensures {u = tt}).rested)
+
+pub returns-clause-log : goal.returns-clause-log
+returns-clause-log g c told within =
+    let s = g.F.Family.shape in
+    let spelling = g.D.Spelled.spelling in
+    let s0 = g.V.Volume.state c.args.vol.now in
+    let s1 = g.V.Volume.state c.settle.new.vol in
+    let s2 = g.V.Volume.state c.sync.new.vol in
+    let r = c.args.self in
+    let t = c.in_ok-settled.settled in
+    let did = c.in_ok-settled.ensures {u = tt} in
+    let name = ap (λ (v : View _). v.name) did.from.log in
+    let settled = settled_log s r.log.blob r.boundary r.complete (s0.log r.log.name) in
+    let now = s2.log r.log.name in
+    let one = subst (λ (n : List ℕ). IsFilled s spelling t.tree t.log.end (s1.log n) (s2.log n)) name ((c.in_ok-opened.ensures {u = tt}).filled told) in
+    let two = subst (λ (l : Log). IsFilled s spelling t.tree t.log.end l now) (did.log told within) one in
+    let three = subst (λ (e : ℕ). IsFilled s spelling t.tree e settled now) (did.ends told within) two in
+    subst (λ (m : Tree _). IsFilled s spelling m (size s r.complete) settled now) did.tree three
+
+pub returns-clause-map : goal.returns-clause-map
+returns-clause-map g c told within = ((c.in_ok-opened.ensures {u = tt}).names told).others.maps c.args.self.metadata tt ∙ (c.in_ok-settled.ensures {u = tt}).map told within
+
+pub returns-in_err-opened-clause-errors : goal.returns-in_err-opened-clause-errors
+returns-in_err-opened-clause-errors g c = let e = c.in_err-opened.field-0.0 in err_same c.from_residual-in_err-opened.result e IsLifted c.from_residual-in_err-opened.ensures.1 (flush_lifted g.F.Family.shape c.in_ok-settled.settled e c.in_err-opened.ensures.errors)

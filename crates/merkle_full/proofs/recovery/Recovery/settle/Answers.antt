@@ -1,14 +1,14 @@
-use Rattle.std.proofs.Common.{◌≤◌, ℕ, List, length, take, refl, subst, sym, ◌∙◌, ap, arith}
+use Rattle.std.proofs.Common.{◌≡◌, ◌≤◌, ℕ, List, length, take, refl, subst, sym, ◌∙◌, ap, arith}
 use Rattle.std.specs.Prelude.{string_bytes}
 use Rattle.journal_base.specs.View.{View, seen_of, view_of}
 use Rattle.tree_shape.specs.Shape.{made}
-use Rattle.tree_store.specs.Stored.{TreeStands}
+use Rattle.tree_store.specs.Stored.{TreeStands, size}
 use Rattle.tree_core.specs.Tree.{IsOf, rests}
 use Rattle.volume_base.specs.Log.{end_of}
 use Rattle.volume_base.specs.Moments.{present, PairHas, PairKeeps}
 use Rattle.merkle_full.specs.Full.{Full, IsSeated}
 use Rattle.merkle_full.specs.Lists.{IsFullOf}
-use Rattle.merkle_full.specs.Preparing.{Prepared, IsPreparedIn}
+use Rattle.merkle_full.specs.Preparing.{Prepared, IsPreparedIn, settled_log}
 use Rattle.merkle_full.proofs.PrepareLemmas.{selected_past}
 use Rattle.merkle_full.proofs.SettleLemmas.{ends_settled, full_settled, only_stored}
 use Rattle.merkle_full.proofs.recovery.Recovery.settle.Goals as goal
@@ -110,3 +110,39 @@ returns-clause-images g c told h all durable top within long few has =
     (λ here room stand.
     subst (λ (m : List ℕ). PairKeeps name m Q s0 s1) text
     ((c.in_ok-nodes.ensures {u = tt}).images told h all durable top here.log (ap s0.map text ∙ here.read) (λ b le stored. only_stored g.row.F.Denot s _ (length all) b inv long le stored) room (subst (λ (m : List ℕ). PairHas s0 name m Q) (sym text) stand))) within few has
+
+pub returns-clause-ends : goal.returns-clause-ends
+returns-clause-ends g c told within =
+    let s = g.F.Family.shape in
+    let inv = c.self.invariant.0 in
+    let s0 = g.V.Volume.state c.args.vol.now in
+    let s1 = g.V.Volume.state c.settled.new.vol in
+    let name = (seen_of c.self.inside.nodes).name in
+    let text = c.as_str.ensures.value in
+    let did = c.in_ok-nodes.ensures {u = tt} in
+    let complete = c.self.inside.complete in
+    let boundary = c.self.inside.boundary in
+    let blob = (seen_of c.self.inside.nodes).blob in
+    let past = selected_past s _ _ _ _ complete _ complete inv.selects refl in
+    let end = (view_of c.in_ok-nodes.nodes).end in
+    let P : Prepared g.row.D.Denot → Type 0 = λ r. IsPreparedIn r s0 → end ≡ size s r.complete in
+    subst P c.self.view_is
+    (λ here. (did.held told).end_is ∙ ap (λ (v : View _). end_of (s1.log v.name)) did.made ∙ ap end_of (did.log told here.log)
+    ∙ ends_settled s (s0.log name) complete boundary blob (omega (arith, inv.selects.pruned_is, inv.selects.within)) (omega (arith, past, here.log.start_is)) (omega (arith, inv.selects.most.fits, here.log.end_is))) within
+
+pub returns-clause-log : goal.returns-clause-log
+returns-clause-log g c told within =
+    let s = g.F.Family.shape in
+    let s0 = g.V.Volume.state c.args.vol.now in
+    let s1 = g.V.Volume.state c.settled.new.vol in
+    let did = c.in_ok-nodes.ensures {u = tt} in
+    let P : Prepared g.row.D.Denot → Type 0 = λ r. IsPreparedIn r s0 → s1.log r.log.name ≡ settled_log s r.log.blob r.boundary r.complete (s0.log r.log.name) in
+    subst P c.self.view_is (λ here. did.log told here.log) within
+
+pub returns-clause-map : goal.returns-clause-map
+returns-clause-map g c told within =
+    let s0 = g.V.Volume.state c.args.vol.now in
+    let s1 = g.V.Volume.state c.settled.new.vol in
+    let text = c.as_str.ensures.value in
+    let P : Prepared g.row.D.Denot → Type 0 = λ r. IsPreparedIn r s0 → s1.map r.metadata ≡ r.read in
+    subst P c.self.view_is (λ here. ap s1.map (sym text) ∙ (c.in_ok-nodes.ensures {u = tt}).map told (ap s0.map text ∙ here.read)) within
