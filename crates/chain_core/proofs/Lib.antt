@@ -6,3 +6,4 @@ pub mod ReachedLemmas
 pub mod StateLemmas
 pub mod PlaceLemmas
 pub mod ChainLemmas
+pub mod MarkLemmas

@@ -50,7 +50,7 @@ module _ {T F D Op V : Type 0} (bounds : T → Bounds F D) (s : Shape) (h : Hash
   abbrev pub StandsIn : List Op → T → Type 0
   StandsIn list b = IsStateIn s h m list (bounds b).base × IsStateIn s h m list (bounds b).tip
 
-  -- A parent that is alive began at a state of a front of this list, and so did each batch that is reached from it.
+  -- Of a parent that is alive the chain began at a state of a front of this list, and base and tip of each batch that is reached from it are such states.
   pub record IsPoolOf (pool : List (Option (HeldBatch T))) (parent : Option ℕ) (list : List Op) : Type 0 where
     pub boundary : (b : T) → linked_item pool parent ≡ Some b → IsStateIn s h m list (bounds b).db
     pub reached : (ids : List ℕ) → IsReach (slot_at pool) parent ids → AllByRecursion (StandsIn list) (items_at pool ids)

@@ -6,5 +6,6 @@ pub mod Texts
 pub mod States
 pub mod Reached
 pub mod Sealing
+pub mod Marks
 pub mod Chains
 pub mod Answers
