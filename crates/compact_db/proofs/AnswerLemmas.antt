@@ -12,9 +12,10 @@ use Rattle.tree_core.specs.Tree.{Tree}
 use Rattle.tree_store.specs.declared.error.Error.TheVariants.{RangeOutOfBounds}
 use Rattle.log_model.specs.Meaning.{Meaning}
 use Rattle.target_codec.specs.declared.request.Request.{Request}
+use Rattle.chain_core.specs.Answers.{IsOutside}
 use Rattle.chain_core.specs.declared.error.Error.{Error}
 use Rattle.chain_core.specs.declared.error.Error.TheVariants.{Journal, Merkle, Volume, Memory}
-use Rattle.compact_db.specs.Serving.{has_size, is_kept, kept_answer, serve_answer, response_to, AnswersAs, IsOutside}
+use Rattle.compact_db.specs.Serving.{has_size, is_kept, kept_answer, serve_answer, response_to, AnswersAs}
 use Rattle.compact_db.specs.StateOf.{IsStateOf, verified_of}
 use Rattle.compact_db.specs.declared.verified.VerifiedWitness.{VerifiedWitness}
 use Rattle.compact_db.proofs.ApplyLemmas.{one_item}
@@ -86,7 +87,7 @@ other_kept tip size sizes other = let e : (size == tip) ≡ false = grind (arith
 pub memory_as : {F T U : Type 0} (answer : Result (Unit {0}) (Error F)) (other : Result U (Error F)) (r : Result T (Error F)) → answer ≡ Ok tt → IsOkUnless r Memory
     → AnswersAs answer other r
 memory_as answer other (Ok x) is f = is
-memory_as answer other (Err e) is f = inr (inl (inr f))
+memory_as answer other (Err e) is f = inr (inl (subst (λ x. IsOutside x) (sym f) tt))
 
 pub memory_alone : {F T : Type 0} (r : Result T (Error F)) → IsOkUnless r Memory → IsErrOf r Volume → ⊥
 memory_alone (Ok x) f is = absurd cc
@@ -97,7 +98,7 @@ memory_alone {F} (Err e) f is =
 
 pub memory_err : {F T : Type 0} (A B : Error F → Type 0) (r : Result T (Error F)) → IsOkUnless r Memory → IfErr r (λ e. A e ⊎ (IsOutside e ⊎ B e))
 memory_err A B (Ok x) f = tt
-memory_err A B (Err e) f = inr (inl (inr f))
+memory_err A B (Err e) f = inr (inl (subst (λ x. IsOutside x) (sym f) tt))
 
 -- ---- of a list
 

@@ -1,6 +1,9 @@
 -- The last operation of a batch, and what an apply may build on.
-use Rattle.std.proofs.Common.{◌≡◌, ℕ, zero, suc, ◌-◌, ◌<◌, ◌≤◌, List, [], ◌∷◌, ◌++◌, length, drop, get_or, Option, Some, refl, sym, ◌∙◌, ap, arith}
-use Rattle.std.specs.Prelude.{slice_get, Result, Ok, Err, IfOk}
+use Rattle.std.proofs.Common.{◌≡◌, inl, inr, ℕ, zero, suc, ◌-◌, ◌<◌, ◌≤◌, List, [], ◌∷◌, ◌++◌, length, drop, get_or, Option, Some, refl, sym, ◌∙◌, ap, subst, arith}
+use Rattle.std.specs.Prelude.{slice_get, Result, Ok, Err, IsOk, IfOk, IfErr, OnOk, IsErrOf, Contains}
+use Rattle.chain_core.specs.declared.error.Error.{Error}
+use Rattle.chain_core.specs.declared.error.Error.TheVariants.{StaleBatch, Memory}
+use Rattle.compact_db.specs.Writing.{IsOutsideOrFull}
 
 -- what holds whatever is answered
 pub always : {A E X : Type 0} (r : Result A E) → X → IfOk r (λ a. X)
@@ -54,3 +57,55 @@ pub none_more : {X : Type 0} (xs more : List X) → length (xs ++ more) ≤ leng
 none_more [] [] le = refl
 none_more [] (y ∷ ys) le = absurd (omega (arith, le))
 none_more (x ∷ xs) more le = ap (λ l. x ∷ l) (none_more xs more (omega (arith, le)))
+
+-- what an answer gives where something else is known
+pub later_ok : {A E : Type 0} (W : Type 0) (r : Result A E) (P : A → Type 0) → (W → IfOk r P) → IfOk r (λ a. W → P a)
+later_ok W (Ok a) P give = give
+later_ok W (Err e) P give = tt
+
+pub later_on : {A E : Type 0} (W P : Type 0) (r : Result A E) → (W → OnOk r P) → IfOk r (λ a. W → P)
+later_on W P (Ok a) give = give
+later_on W P (Err e) give = tt
+
+pub on_later : {A E : Type 0} (W P : Type 0) (r : Result A E) → (W → OnOk r P) → OnOk r (W → P)
+on_later W P (Ok a) give = give
+on_later W P (Err e) give = tt
+
+pub on_more : {A E : Type 0} (P Q : Type 0) (r : Result A E) → OnOk r P → (P → Q) → OnOk r Q
+on_more P Q (Ok a) p give = give p
+on_more P Q (Err e) p give = tt
+
+pub err_more : {A E : Type 0} (P Q : E → Type 0) (r : Result A E) → IfErr r P → ((e : E) → P e → Q e) → IfErr r Q
+err_more P Q (Ok a) p give = tt
+err_more P Q (Err e) p give = give e p
+
+-- a failure from outside, or a full log, is no stale batch
+pub outside_not_stale : {F T : Type 0} (r : Result T (Error F)) → IfErr r IsOutsideOrFull → IsErrOf r StaleBatch → ⊥
+outside_not_stale (Ok x) out is = absurd cc
+outside_not_stale {F} (Err e) out is =
+    let here : e ≡ StaleBatch = cc in
+    no_stale (subst (λ x. IsOutsideOrFull x) here out)
+  where
+    no_stale : IsOutsideOrFull {F = F} StaleBatch → ⊥
+    no_stale (inl never) = never
+    no_stale (inr never) = cc
+
+-- one thing alone is in a list of one
+pub only_there : {X : Type 0} (x y : X) (xs : List X) → xs ≡ [] → Contains (x ∷ xs) y → x ≡ y
+only_there {X} x y xs none here = one (subst (λ (ys : List X). Contains (x ∷ ys) y) none here)
+  where
+    one : Contains (x ∷ []) y → x ≡ y
+    one (zero, within, is) = is
+    one (suc k, within, is) = absurd (omega (arith, within))
+
+-- an error is no answer
+pub err_ok : (A : Type 0) {E : Type 0} (e : E) → IsOk (let r : Result A E = Err e in r) → ⊥
+err_ok A e is = cc
+
+-- want of memory is no stale batch
+pub stale_memory : {F T : Type 0} (x : Error F) → IsErrOf (let r : Result T (Error F) = Err x in r) StaleBatch → x ≡ Memory → ⊥
+stale_memory {F} x is memory =
+    let here : x ≡ StaleBatch = cc in
+    let m : Error F = Memory in
+    let bad : m ≡ StaleBatch = sym memory ∙ here in
+    cc

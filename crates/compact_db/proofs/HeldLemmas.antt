@@ -145,7 +145,7 @@ module _ {F D Op V : Type 0} (s : Shape) (h : Hashing D) (m : Meaning Op V) wher
 -- ---- from call to call
 
 -- the same state is that of the same list
-list_same : {F D Op V Cfg : Type 0} (s : Shape) (h : Hashing D) (m : Meaning Op V) (db made : DbView F D Op Cfg) → SameState db made → (ops : List Op) → IsOfList s h m ops db → IsOfList s h m ops made
+pub list_same : {F D Op V Cfg : Type 0} (s : Shape) (h : Hashing D) (m : Meaning Op V) (db made : DbView F D Op Cfg) → SameState db made → (ops : List Op) → IsOfList s h m ops db → IsOfList s h m ops made
 list_same {D = D} s h m db made same ops is = record {
   ends = is.ends;
   few = is.few;

@@ -15,3 +15,4 @@ pub mod DerivedLemmas
 pub mod ServingLemmas
 pub mod AnswerLemmas
 pub mod ProvingLemmas
+pub mod MarkLemmas

@@ -1,21 +1,20 @@
 -- How a database is opened.
-use Rattle.std.proofs.Common.{◌≡◌, ◌⊎◌, inl, inr, ℕ, ◌+◌, ◌-◌, ◌<◌, ◌≤◌, true, false, List, [], ◌∷◌, length, map, drop, refl, sym, ◌∙◌, ap, subst, arith}
+use Rattle.std.proofs.Common.{◌≡◌, ◌⊎◌, inl, inr, ℕ, ◌-◌, ◌≤◌, true, false, List, [], ◌∷◌, length, map, drop, refl, sym, ◌∙◌, ap, subst, arith}
 use Rattle.std.specs.Prelude.{slice_get}
 use Rattle.std.specs.List.{AllByRecursion}
 use Rattle.std.proofs.lemmas.List.{drop-map}
 use Rattle.journal_base.specs.Answers.{IsOfRead, IsOfStart, IsOfSize}
 use Rattle.journal_base.specs.Items.{Items, IsCorrupt}
-use Rattle.volume_base.specs.Log.{Log, end_of, no_log, cut_to}
+use Rattle.volume_base.specs.Log.{Log, end_of, no_log}
 use Rattle.volume_base.specs.declared.error.JournalError.{JournalError}
 use Rattle.volume_base.specs.declared.error.JournalError.TheVariants as journal_error
 use Rattle.volume_base.specs.declared.error.JournalError.TheVariants.{ItemPruned, ItemOutOfRange, EmptyAppend, SizeOverflow, Corruption, Tree}
 use Rattle.volume_base.proofs.StepLemmas.{log_is}
-use Rattle.chain_core.specs.declared.error.Error.{Error}
 use Rattle.chain_core.specs.declared.error.Error.TheVariants.{Journal}
+use Rattle.chain_core.specs.Answers.{IsOutside}
 use Rattle.chain_core.specs.Errors.{from_journal}
 use Rattle.witness_store.specs.declared.witness.Witness.{Witness}
 use Rattle.witness_store.specs.Witnesses.{Rises, sizes_of, Keeps}
-use Rattle.compact_db.specs.Writing.{IsOutside}
 use Rattle.compact_db.proofs.SizeLemmas.{all_at, got_map}
 
 -- ---- logs

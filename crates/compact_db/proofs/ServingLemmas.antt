@@ -16,6 +16,7 @@ use Rattle.volume_base.specs.declared.error.JournalError.TheVariants.{ItemPruned
 use Rattle.tree_shape.specs.Hashing.{Hashing}
 use Rattle.tree_shape.specs.Shape.{Shape}
 use Rattle.log_model.specs.Meaning.{Meaning}
+use Rattle.chain_core.specs.Answers.{IsOutside}
 use Rattle.chain_core.specs.Errors.{from_journal}
 use Rattle.chain_core.specs.declared.error.DataFault.TheVariants as fault
 use Rattle.chain_core.specs.declared.error.Error.{Error}
@@ -27,7 +28,7 @@ use Rattle.witness_store.specs.declared.witness.Witness.{Witness}
 use Rattle.compact_db.specs.DbView.{DbView, seen_log}
 use Rattle.compact_db.specs.Held.{IsSizeOf, IsHeldFor}
 use Rattle.compact_db.specs.Rebuild.{RefusedOnlyAs, fits_witness, commit_answer, decoded_answer, rebuild_answer}
-use Rattle.compact_db.specs.Serving.{IsKeptAt, has_size, kept_answer, AnswersAs, IsDamaged, IsLogFault, IsOutside}
+use Rattle.compact_db.specs.Serving.{IsKeptAt, has_size, kept_answer, AnswersAs, IsDamaged, IsLogFault}
 use Rattle.compact_db.specs.WitnessOf.{witness_of}
 use Rattle.compact_db.proofs.WitnessLemmas.{longer}
 
@@ -121,17 +122,17 @@ none_corrupt items ws p keeps bad =
     let one = of_mapped items.spelling (drop start ws) (p - start) bad.bytes (sym (ap (λ l. slice_get l (p - start)) texts) ∙ bad.here.here) in
     bad.unspelled one.0 (each_at items.admits (drop start ws) (p - start) one.0 keeps.allowed one.1) (sym one.2)
 
-outside_of : {F A : Type 0} (told within : Type 0) (items : Items A) (cause : JournalError) → IsOfRead cause
+outside_of : (F : Type 0) {A : Type 0} (told within : Type 0) (items : Items A) (cause : JournalError) → IsOfRead cause
     → ((p : ℕ) → cause ≡ Corruption p → ⊥) → ((p : ℕ) → cause ≡ ItemPruned p → ⊥) → ((p : ℕ) → cause ≡ ItemOutOfRange p → ⊥)
     → IsOutside {F = F} (from_journal cause)
-outside_of told within items (ItemPruned p) of a b c = absurd (b p refl)
-outside_of told within items (ItemOutOfRange p) of a b c = absurd (c p refl)
-outside_of told within items EmptyAppend of a b c = absurd cc
-outside_of told within items SizeOverflow of a b c = absurd cc
-outside_of told within items (Corruption p) of a b c = absurd (a p refl)
-outside_of told within items (Tree x) of a b c = absurd cc
-outside_of told within items Volume of a b c = inl refl
-outside_of told within items Memory of a b c = inr refl
+outside_of F told within items (ItemPruned p) of a b c = absurd (b p refl)
+outside_of F told within items (ItemOutOfRange p) of a b c = absurd (c p refl)
+outside_of F told within items EmptyAppend of a b c = absurd cc
+outside_of F told within items SizeOverflow of a b c = absurd cc
+outside_of F told within items (Corruption p) of a b c = absurd (a p refl)
+outside_of F told within items (Tree x) of a b c = absurd cc
+outside_of F told within items Volume of a b c = tt
+outside_of F told within items Memory of a b c = tt
 
 within_held : {C : Type 0} (view : View C) (state : State) → IsHeld view state → IsWithin view state
 within_held view state held = record { start_is = held.start_is; low = omega (arith, held.start_is, held.end_is); high = omega (arith, held.end_is) }
@@ -145,7 +146,7 @@ fault_outside {F} s h m spelling admits told db state e fault tells ops sizes he
     let items = witnesses_of {F = F} spelling admits (seen_log db.log) state in
     let within = within_held (seen_log db.log) state held.bounds in
     subst (λ (x : Error F). IsOutside x) (sym fault.is)
-    (outside_of told (IsWithin (seen_log db.log) state) items fault.cause fault.of_read
+    (outside_of F told (IsWithin (seen_log db.log) state) items fault.cause fault.of_read
     (λ p is. none_corrupt items (map (witness_of s h m ops) sizes) p held.witnesses (fault.corrupt p is tells))
     (fault.not_pruned tells within) (fault.not_out_of_range tells within))
 
@@ -184,8 +185,8 @@ pub rebuilt_as : {F T U : Type 0} (size : ℕ) (kept : Bool) (answer : Result U 
     → AnswersAs (kept_answer size kept) answer r
 rebuilt_as size kept answer (Ok x) is f = rw is refl
 rebuilt_as size kept answer (Err e) is f = elim f [
-  | inl a ↦ inr (inr a)
-  | inr a ↦ inr (inl (inr a))
+  | inl a ↦ inr (inr (rw is refl, a))
+  | inr a ↦ inr (inl (subst (λ x. IsOutside x) (sym a) tt))
 ]
 
 pub damaged_as : {F D Op V T : Type 0} (s : Shape) (m : Meaning Op V) (decoded : List ℕ → Result Op CodecError) (told within : Type 0) (items : Items (Witness F D)) (size : ℕ)
@@ -195,7 +196,7 @@ pub damaged_as : {F D Op V T : Type 0} (s : Shape) (m : Meaning Op V) (decoded :
 damaged_as s m decoded told within items size other p w first (Ok x) here f = tt
 damaged_as s m decoded told within items size other p w first (Err e) here f = elim f [
   | inl a ↦ inr (inr (inr (record { position = p; witness = w; here = here; why = a })))
-  | inr a ↦ inr (inl (inr a))
+  | inr a ↦ inr (inl (subst (λ x. IsOutside x) (sym a) tt))
 ]
 
 pub none_kept : {F : Type 0} (size : ℕ) (kept : Bool) → kept ≡ false → kept_answer {F = F} size kept ≡ Err (Journal (ItemPruned (size - 1)))

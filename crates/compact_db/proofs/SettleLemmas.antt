@@ -7,7 +7,7 @@ use Rattle.journal_base.specs.View.{View, log_of, SameLog, SameButBounds, IsDura
 use Rattle.journal_base.specs.Tickets.{sync_of as journal_sync_of}
 use Rattle.journal_base.specs.declared.ticket.SyncTicket.{SyncTicket}
 use Rattle.journal_base.specs.declared.ticket.SyncTicket.TheVariants.{Done, Failed}
-use Rattle.volume_base.specs.Log.{Log, end_of, Stays}
+use Rattle.volume_base.specs.Log.{end_of, Stays}
 use Rattle.volume_base.specs.Moments.{Between, Turns, Steps}
 use Rattle.volume_base.specs.Volume.{State, OnlyLeft, LogCall, Writes, Changes}
 use Rattle.volume_base.specs.declared.error.JournalError.{JournalError}
@@ -16,13 +16,14 @@ use Rattle.volume_base.specs.declared.error.JournalError.TheVariants.{ItemPruned
 use Rattle.volume_base.proofs.CallLemmas.{log_call_then_stays}
 use Rattle.volume_base.proofs.JoinLemmas.{writes_joins}
 use Rattle.chain_core.specs.declared.error.Error.{Error}
-use Rattle.chain_core.specs.declared.error.Error.TheVariants.{Journal, DataCorrupted, Volume, Memory}
+use Rattle.chain_core.specs.declared.error.Error.TheVariants.{Journal, DataCorrupted, StaleBatch, Volume, Memory}
 use Rattle.chain_core.specs.declared.error.DataFault.{DataFault}
+use Rattle.chain_core.specs.Answers.{IsOutside}
 use Rattle.chain_core.specs.Errors.{from_journal}
 use Rattle.witness_store.specs.StoreView.{StoreView, IsSettled}
 use Rattle.witness_store.specs.declared.witness.Witness.{Witness}
 use Rattle.compact_db.specs.DbView.{seen_log, waits, is_uncommitted}
-use Rattle.compact_db.specs.Writing.{IsOutside, IsOutsideOrFull, IsSettledLog, Settles, SyncsLog, sync_of, outcome}
+use Rattle.compact_db.specs.Writing.{IsOutsideOrFull, IsSettledLog, Settles, SyncsLog, sync_of, outcome}
 use Rattle.compact_db.specs.declared.database.WitnessLog.{WitnessLog}
 use Rattle.compact_db.specs.declared.database.WitnessLog.TheVariants.{Open, Import}
 
@@ -120,6 +121,43 @@ writes_passed tells a b one two same w = record {
   kept = passed_ok one two (b.faults ≡ a.faults) same w.kept;
   steady = w.steady;
 }
+
+not_stale : {F : Type 0} (e : JournalError) → from_journal {F = F} e ≡ StaleBatch → ⊥
+not_stale (ItemPruned p) is = cc
+not_stale (ItemOutOfRange p) is = cc
+not_stale EmptyAppend is = cc
+not_stale SizeOverflow is = cc
+not_stale (Corruption p) is = cc
+not_stale (Tree x) is = cc
+not_stale journal_error.Volume is = cc
+not_stale journal_error.Memory is = cc
+
+-- an error of a journal, as a database's, is no stale batch
+pub never_stale : {F T : Type 0} (e : JournalError) (r : Result T (Error F)) → IsErrAnd r (λ d. d ≡ from_journal e) → IsErrOf r StaleBatch → ⊥
+never_stale e (Ok x) is stale = is
+never_stale e (Err d) is stale = let here : d ≡ StaleBatch = cc in not_stale e (sym is ∙ here)
+
+pub full_cause : {F T : Type 0} (e : JournalError) (r : Result T (Error F)) → IsErrAnd r (λ d. d ≡ from_journal e) → IsErrOf r (Journal SizeOverflow) → e ≡ SizeOverflow
+full_cause e (Ok x) is full = absurd is
+full_cause e (Err d) is full = let here : d ≡ Journal SizeOverflow = cc in full_is e (sym is ∙ here)
+
+-- an error that is passed on
+pub same_err : {E T : Type 0} (e x : E) (r : Result T E) → IsErrAnd r (λ d. d ≡ e) → IsErrOf r x → e ≡ x
+same_err e x (Ok y) is here = absurd is
+same_err e x (Err d) is here = let at : d ≡ x = cc in sym is ∙ at
+
+pub passed_each : {E T : Type 0} (e : E) (P : E → Type 0) (r : Result T E) → IsErrAnd r (λ d. d ≡ e) → P e → IfErr r P
+passed_each e P (Ok y) is p = absurd is
+passed_each e P (Err d) is p = subst P (sym is) p
+
+-- an apply that the tree refuses is no full log
+pub refused_not_full : {F : Type 0} (e : Error F) → (e ≡ StaleBatch) ⊎ (e ≡ Memory) → e ≡ Journal SizeOverflow → ⊥
+refused_not_full {F} e (inl is) full = let x : Error F = StaleBatch in let bad : x ≡ Journal SizeOverflow = sym is ∙ full in cc
+refused_not_full {F} e (inr is) full = let x : Error F = Memory in let bad : x ≡ Journal SizeOverflow = sym is ∙ full in cc
+
+pub refused_as : {F : Type 0} (e : Error F) → (e ≡ StaleBatch) ⊎ (e ≡ Memory) → (e ≡ StaleBatch) ⊎ IsOutsideOrFull e
+refused_as e (inl is) = inl is
+refused_as e (inr is) = inr (subst (λ x. IsOutsideOrFull x) (sym is) (inl tt))
 
 -- ---- logs of a database
 

@@ -1,11 +1,10 @@
 -- Logs that have the witnesses of a list's states, from call to call.
-use Rattle.std.proofs.Common.{◌≡◌, ℕ, zero, suc, ◌+◌, ◌-◌, ◌^◌, ◌<◌, ◌≤◌, max, List, [], ◌∷◌, ◌++◌, length, map, take, drop, Option, Some, None, refl, sym, ◌∙◌, ap, subst, arith}
+use Rattle.std.proofs.Common.{◌≡◌, ℕ, zero, suc, ◌+◌, ◌-◌, ◌^◌, ◌<◌, ◌≤◌, List, [], ◌∷◌, ◌++◌, length, map, take, drop, Option, Some, None, refl, sym, ◌∙◌, ap, subst, arith}
 use Rattle.std.specs.Prelude.{slice_get}
 use Rattle.std.specs.List.{AllByRecursion}
 use Rattle.std.proofs.lemmas.List.{length-append, length-take, length-map, length-drop, map-append, take-map, drop-map, drop-append-le, drop_all, drop-drop, drop-take, take-append-drop}
 use Rattle.std.proofs.lemmas.Option.{slice_get_within}
 use Rattle.journal_base.specs.Items.{Items}
-use Rattle.volume_base.specs.Log.{Log}
 use Rattle.tree_shape.specs.Hashing.{Hashing}
 use Rattle.tree_shape.specs.Shape.{Shape}
 use Rattle.log_model.specs.AppliedSizes.{first_at_least}
@@ -17,7 +16,6 @@ use Rattle.witness_store.specs.Witnesses.{Rises, sizes_of, Keeps}
 use Rattle.compact_db.specs.Held.{IsSizeOf, HasStates}
 use Rattle.compact_db.specs.Opening.{IsCapped, IsPast, IsLatest}
 use Rattle.compact_db.specs.WitnessOf.{witness_of}
-use Rattle.compact_db.proofs.RebuildLemmas.{at_last}
 use Rattle.compact_db.proofs.SizeLemmas.{all_more, all_behind, all_before, all_weaker, all_both, all_at, get_behind, get_before, got_map, size_longer, size_shorter, size_whole, size_some, all_upto, before_first, from_first}
 use Rattle.compact_db.proofs.WitnessLemmas.{longer}
 

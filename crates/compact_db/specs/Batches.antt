@@ -1,12 +1,14 @@
 -- Batches of a compact database, as contracts see them, and the lists that they are of.
-use Rattle.std.specs.Prelude.{◌≡◌, ℕ, ◌+◌, ◌^◌, ◌≤◌, List, [], ◌∷◌, ◌++◌, length, Option, Some}
+use Rattle.std.specs.Prelude.{◌≡◌, ℕ, ◌+◌, ◌^◌, ◌≤◌, List, [], ◌∷◌, ◌++◌, length, map, Option, Some}
 use Rattle.std.specs.List.{AllByRecursion}
 use Rattle.tree_shape.specs.Hashing.{Hashing}
 use Rattle.tree_shape.specs.Shape.{Shape}
 use Rattle.tree_core.specs.Batches.{Sealed, Unsealed, IsSealedOf, IsUnsealedOf}
+use Rattle.tree_core.specs.Links.{ChainSegment}
 use Rattle.log_model.specs.Meaning.{Meaning}
 use Rattle.log_model.specs.Operations.{leaves_from}
 use Rattle.log_model.specs.Good.{EndsWithCommit}
+use Rattle.chain_core.specs.Marks.{marks_of}
 use Rattle.chain_core.specs.Reached.{items_at, linked_item}
 use Rattle.chain_core.specs.Slots.{slot_at, IsReach}
 use Rattle.chain_core.specs.States.{commitment_of, IsStateIn, IsBatchOf}
@@ -45,6 +47,14 @@ pub record IsSoundMerkleized {F D : Type 0} (tree : Sealed D) (count : ℕ) (bou
 abbrev pub bounds_of : {F D Op : Type 0} → MerkleizedView F D Op → Bounds F D
 bounds_of b = b.bounds
 
+-- The leaves before each of these segments.
+abbrev pub link_marks : {D : Type 0} → List (ChainSegment D) → List ℕ
+link_marks links = map (λ g. g.leaves) links
+
+-- Its tree has a segment behind each state of its chain.
+abbrev pub HasMarks : {F D Op : Type 0} → MerkleizedView F D Op → Type 0
+HasMarks b = link_marks b.tree.links ≡ marks_of b.bounds
+
 module _ {F D Op V : Type 0} (s : Shape) (h : Hashing D) (m : Meaning Op V) where
   -- The batch goes on from this list, as its tree does.
   pub record IsUnmerkleizedOf (list : List Op) (b : UnmerkleizedView F D Op) : Type 0 where
@@ -62,7 +72,8 @@ module _ {F D Op V : Type 0} (s : Shape) (h : Hashing D) (m : Meaning Op V) wher
   abbrev pub StandsIn : List Op → MerkleizedView F D Op → Type 0
   StandsIn list b = IsStateIn s h m list b.bounds.base × IsStateIn s h m list b.bounds.tip
 
-  -- A parent that is alive began at a state of a front of this list, and so did each batch that is reached from it.
+  -- Of a parent that is alive the chain began at a state of a front of this list, and base and tip of each batch that is reached from it are such
+  -- states.
   pub record IsPoolOf (pool : List (Option (HeldBatch (MerkleizedView F D Op)))) (parent : Option ℕ)
       (list : List Op) : Type 0 where
     pub boundary : (b : MerkleizedView F D Op) → linked_item pool parent ≡ Some b → IsStateIn s h m list b.bounds.db

@@ -8,6 +8,7 @@ use Rattle.volume_base.specs.Volume.{State}
 use Rattle.volume_base.specs.declared.error.JournalError.TheVariants as journal_error
 use Rattle.tree_shape.specs.Shape.{Shape}
 use Rattle.log_model.specs.Meaning.{Meaning}
+use Rattle.chain_core.specs.Answers.{IsOutside}
 use Rattle.chain_core.specs.declared.error.Error.{Error}
 use Rattle.chain_core.specs.declared.error.Error.TheVariants.{Journal, HistoricalFloorPruned, DataCorrupted, InvalidInitializationBound}
 use Rattle.chain_core.specs.declared.error.DataFault.TheVariants as fault
@@ -17,7 +18,6 @@ use Rattle.witness_store.specs.declared.witness.Witness.{Witness}
 use Rattle.compact_db.specs.DbView.{DbView}
 use Rattle.compact_db.specs.Import.{journal_of}
 use Rattle.compact_db.specs.Rebuild.{rebuild_answer}
-use Rattle.compact_db.specs.Writing.{IsOutside}
 use Rattle.compact_db.specs.declared.database.CompactConfig.{CompactConfig}
 
 -- the witnesses that a volume has of a configuration

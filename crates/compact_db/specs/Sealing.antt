@@ -1,7 +1,5 @@
 -- When a batch is sealed, and why it isn't.
-use Rattle.std.specs.Prelude.{◌≡◌, ◌⊎◌, ℕ, ◌+◌, ◌-◌, List, [], ◌∷◌, ◌++◌, length, drop, Option, Some, None, IsSome}
-use Rattle.tree_core.specs.Batches.{Sealed, Unsealed}
-use Rattle.tree_core.specs.Links.{ChainSegment, first_leaves}
+use Rattle.std.specs.Prelude.{◌≡◌, ◌⊎◌, ℕ, ◌+◌, List, [], ◌∷◌, ◌++◌, length, Option, Some, None, IsSome}
 use Rattle.log_model.specs.Meaning.{Meaning}
 use Rattle.log_model.specs.declared.refusal.Refusal.{Refusal}
 use Rattle.chain_core.specs.Reached.{IsPlaceOf}
@@ -21,12 +19,6 @@ pub record IsEnded {Op V : Type 0} (m : Meaning Op V) (collected : List Op) (met
   pub ended : ops ≡ collected ++ commit ∷ []
   pub floored : m.floor commit ≡ Some floor
   pub valued : m.value commit ≡ metadata
-
--- A sealed batch's tree keeps the newest so many segments of the tree that was collected on, and its own.
-pub record KeepsSegments {D : Type 0} (t : Unsealed D) (reached : ℕ) (b : Sealed D) : Type 0 where
-  pub own : ChainSegment D
-  pub links : b.links ≡ drop (length t.links - reached) t.links ++ (own ∷ [])
-  pub first : b.first ≡ first_leaves (drop (length t.links - reached) t.links) t.base
 
 -- Where a batch stands in a pool, over a log of this floor.
 abbrev pub HasPlace : {F D Op : Type 0} → List (Option (HeldBatch (MerkleizedView F D Op)))

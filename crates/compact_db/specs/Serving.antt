@@ -13,9 +13,10 @@ use Rattle.target_codec.specs.declared.request.Request.{Request}
 use Rattle.target_codec.specs.declared.request.Request.TheVariants as request
 use Rattle.target_codec.specs.declared.response.Response.{Response}
 use Rattle.target_codec.specs.declared.response.Response.TheVariants.{Operations, Boundary}
+use Rattle.chain_core.specs.Answers.{IsOutside}
 use Rattle.chain_core.specs.Errors.{from_journal}
 use Rattle.chain_core.specs.declared.error.Error.{Error}
-use Rattle.chain_core.specs.declared.error.Error.TheVariants.{Journal, Merkle, Volume, Memory}
+use Rattle.chain_core.specs.declared.error.Error.TheVariants.{Journal, Merkle}
 use Rattle.witness_store.specs.Searched.{IsWitnessAt}
 use Rattle.witness_store.specs.declared.witness.Witness.{Witness}
 use Rattle.compact_db.specs.Rebuild.{rebuild_answer}
@@ -51,14 +52,10 @@ module _ {F : Type 0} where
       else Err (Merkle (RangeOutOfBounds start)))
       else Err (Merkle (RangeOutOfBounds size))
 
-  -- A failure of the volume, or want of memory.
-  abbrev pub IsOutside : Error F → Type 0
-  IsOutside e = (e ≡ Volume) ⊎ (e ≡ Memory)
-
-  -- The call answers as this says; or it fails by the volume, for want of memory, or as that says.
+  -- The call answers as this says; or it fails by the volume, for want of memory, or, where this refuses nothing, as that says.
   abbrev pub AnswersAs : {T U : Type 0} → Result (Unit {0}) (Error F) → Result U (Error F) → Result T (Error F) → Type 0
   AnswersAs answer other result =
-      MatchResult result (λ r. answer ≡ Ok tt) (λ e. (answer ≡ Err e) ⊎ (IsOutside e ⊎ (other ≡ Err e)))
+      MatchResult result (λ r. answer ≡ Ok tt) (λ e. (answer ≡ Err e) ⊎ (IsOutside e ⊎ ((answer ≡ Ok tt) × (other ≡ Err e))))
 
   -- The error is one of a read of these items, as a database's. Where they are told, corruption is of bytes that are
   -- none of them; and where the view of the log is within it besides, no position is missed.

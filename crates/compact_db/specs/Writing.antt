@@ -5,10 +5,10 @@ use Rattle.journal_base.specs.declared.ticket.SyncTicket.{SyncTicket}
 use Rattle.journal_base.specs.declared.ticket.SyncTicket.TheVariants.{Done, Failed}
 use Rattle.volume_base.specs.Log.{Log, end_of, cleared_at, appended, Grows, Stays}
 use Rattle.volume_base.specs.Volume.{State, LogCall, Writes}
-use Rattle.volume_base.specs.declared.error.JournalError.{JournalError}
 use Rattle.volume_base.specs.declared.error.JournalError.TheVariants as journal_error
+use Rattle.chain_core.specs.Answers.{IsOutside}
 use Rattle.chain_core.specs.declared.error.Error.{Error}
-use Rattle.chain_core.specs.declared.error.Error.TheVariants.{Journal, Volume, Memory}
+use Rattle.chain_core.specs.declared.error.Error.TheVariants.{Journal, Volume}
 use Rattle.witness_store.specs.StoreView.{import_place, Restarts}
 use Rattle.witness_store.specs.Witness.{text_of}
 use Rattle.witness_store.specs.declared.witness.Witness.{Witness}
@@ -16,13 +16,7 @@ use Rattle.compact_db.specs.DbView.{seen_log, waits, is_uncommitted}
 use Rattle.compact_db.specs.declared.database.WitnessLog.{WitnessLog}
 use Rattle.compact_db.specs.declared.database.WitnessLog.TheVariants.{Open, Import}
 
--- a failure of the outside, or want of memory
-abbrev pub IsOutside : {F : Type 0} → Error F → Type 0
-IsOutside Volume = Unit {0}
-IsOutside Memory = Unit {0}
-IsOutside e = ⊥
-
--- that, or an end past 2^64 - 1
+-- a failure of the outside, want of memory, or an end past 2^64 - 1
 abbrev pub IsOutsideOrFull : {F : Type 0} → Error F → Type 0
 IsOutsideOrFull e = IsOutside e ⊎ (e ≡ Journal journal_error.SizeOverflow)
 

@@ -1,6 +1,6 @@
 //! How a batch is applied to a compact database.
 ghost use Rattle.std.specs.Prelude.{◌≡◌, ◌⊎◌, ◌<◌, ◌≤◌, ◌^◌, ◌++◌, ◌∷◌, [], ℕ, List, length, Some, true, false, Ok, IfOk, IfErr, IsErrOf, Contains};
-ghost use Rattle.tree_core.specs.Applied.{FitsTree};
+ghost use Rattle.tree_core.specs.Applied.{FitsTree, Fits};
 ghost use Rattle.tree_core.specs.Batches.{IsSealedOf};
 ghost use Rattle.tree_core.specs.Tree.{IsOf};
 ghost use Rattle.tree_store.specs.declared.error.Error.TheVariants as tree_error;
@@ -44,6 +44,8 @@ pub(crate) fn applied<F: Family, O: CompactOperation, H: Hasher>(
         IsRestored F.shape H.hash (all ++ more) (O.meaning.encoding commit.now)
         (floor_of O.meaning (commit.now ∷ [])) (r.0, r.1)) }
     ensures stale { IsErrOf result Error.StaleBatch → (i : ℕ) → FitsTree F.shape merkle batch.now i → ⊥ }
+    ensures misfit { IsErrOf result Error.StaleBatch → (all : List H.Digest) → IsOf F.shape H.hash all merkle →
+        (i : ℕ) → Fits F.shape H.hash all merkle.leaves batch.now i → ⊥ }
     ensures errors { IfErr result (λ e. (e ≡ Error.StaleBatch) ⊎ (e ≡ Error.Memory)) }
 {
     let Ok(op_bytes) = encode(alloc, commit) else {

@@ -55,7 +55,7 @@ impl<F: Family, O: CompactOperation, H: Hasher> CompactDb<F, O, H> {
     ghost use Rattle.std.specs.Prelude.{◌≡◌, ◌↔◌, ◌∷◌, ◌++◌, [], ◌<◌, ◌-◌, ◌^◌, List, length, Some, None, IsOk, IfOk, OnOk, OnErr, IsOkUnless, Contains};
     ghost use Rattle.chain_core.specs.Reached.{item_at};
     ghost use Rattle.chain_core.specs.Slots.{IsAlive};
-    ghost use Rattle.compact_db.specs.Batches.{MerkleizedView, IsUnmerkleizedOf, IsMerkleizedOf};
+    ghost use Rattle.compact_db.specs.Batches.{MerkleizedView, IsUnmerkleizedOf, IsMerkleizedOf, HasMarks};
     ghost use Rattle.tree_core.specs.Batches.{BeginsAt};
     ghost use Rattle.compact_db.specs.DbView.{IsOfList, commitment_in, floor_in, snapshot_of};
 
@@ -137,7 +137,7 @@ impl<F: Family, O: CompactOperation, H: Hasher> CompactDb<F, O, H> {
         ensures number { IfOk result (λ id. id ≡ length pool.old) }
         ensures inserted { OnOk result ((b : MerkleizedView F H.Digest O)
             × (pool.new ≡ pool.old ++ Some (record { item = b; parent = None; holds = 1 }) ∷ [])
-            × (b.operations ≡ []) × (b.bounds ≡ snapshot_of O.meaning self.now)
+            × (b.operations ≡ []) × (b.bounds ≡ snapshot_of O.meaning self.now) × HasMarks b
             × ((list : List O) → IsOfList F.shape H.hash O.meaning list self.now →
             IsMerkleizedOf F.shape H.hash O.meaning list b)) }
         ensures err { OnErr result (pool.new ≡ pool.old) }
@@ -179,9 +179,12 @@ where
     ghost use Rattle.std.specs.Prelude.{◌≡◌, ◌<◌, ◌-◌, ◌^◌, ◌++◌, ◌∷◌, [], List, Some, length, min, IfOk, IfErr, OnOk, OnErr};
     ghost use Rattle.std.specs.Option.{ForSome};
     ghost use Rattle.chain_core.specs.Slots.{IsAlive, link_released};
-    ghost use Rattle.compact_db.specs.Batches.{MerkleizedView, IsUnmerkleizedOf, IsPoolOf, IsSealedBy};
+    ghost use Rattle.log_model.specs.Operations.{leaves_from};
+    ghost use Rattle.tree_core.specs.Batches.{IsSealedFrom, with_digests};
+    ghost use Rattle.chain_core.specs.Marks.{IsMarkedOn};
+    ghost use Rattle.compact_db.specs.Batches.{MerkleizedView, IsUnmerkleizedOf, IsPoolOf, IsSealedBy, HasMarks, bounds_of, link_marks};
     ghost use Rattle.compact_db.specs.DbView.{commitment_in, floor_in};
-    ghost use Rattle.compact_db.specs.Sealing.{IsEnded, IsSealedIn, KeepsSegments, WhyNotSealed};
+    ghost use Rattle.compact_db.specs.Sealing.{IsEnded, IsSealedIn, WhyNotSealed};
 
     /// Seals the batch by a commit, and puts it into the pool. Its hold on its parent ends, whatever is answered. It
     /// refuses as `seal` at the database's state.
@@ -203,7 +206,10 @@ where
             × ((list : List O) → IsUnmerkleizedOf F.shape H.hash O.meaning list self →
             IsPoolOf F.shape H.hash O.meaning pool.old self.parent list →
             IsSealedBy F.shape H.hash O.meaning list self.pending metadata inactivity_floor b)
-            × KeepsSegments self.tree (min (length b.bounds.ancestors) (length self.tree.links)) b.tree
+            × ((list : List O) → IsUnmerkleizedOf F.shape H.hash O.meaning list self →
+            IsMarkedOn bounds_of pool.old self.parent self.base (link_marks self.tree.links) → HasMarks b)
+            × IsSealedFrom (with_digests self.tree (leaves_from F.shape H.hash O.meaning self.base.size b.operations))
+            (min (length b.bounds.ancestors) (length self.tree.links)) b.tree
             × IsEnded O.meaning self.pending metadata inactivity_floor b.operations) }
         ensures released { OnErr result (pool.new ≡ link_released pool.old self.parent) }
         ensures refused { IfErr result (WhyNotSealed H.Digest.bytes pool.old self (commitment_in db.now)

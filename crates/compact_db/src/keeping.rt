@@ -1,15 +1,21 @@
 //! How a compact database goes on to the state of a batch.
-ghost use Rattle.std.specs.Prelude.{◌≡◌, ◌<◌, ◌≤◌, ◌-◌, ◌^◌, ◌++◌, ◌∷◌, [], ℕ, List, length, Some, true, false, slice_get, Ok, IfOk, IsErrOf, Contains};
+ghost use Rattle.std.specs.Prelude.{◌≡◌, ◌⊎◌, ◌<◌, ◌≤◌, ◌-◌, ◌^◌, ◌++◌, ◌∷◌, [], ℕ, List, length, Some, true, false, slice_get, Ok, IsOk, IfOk, IfErr, OnOk, IsErrOf, Contains};
+ghost use Rattle.journal_base.specs.View.{log_of, SameButBounds};
+ghost use Rattle.volume_base.specs.Log.{end_of};
+ghost use Rattle.volume_base.specs.Names.{log_alone, NamesCall};
 ghost use Rattle.volume_base.specs.Volume.{Writes};
+ghost use Rattle.volume_base.specs.declared.error.JournalError.TheVariants.{SizeOverflow};
+ghost use Rattle.tree_core.specs.Applied.{Fits};
 ghost use Rattle.tree_core.specs.Batches.{IsSealedOf};
 ghost use Rattle.log_model.specs.Good.{EndsWithCommit};
 ghost use Rattle.log_model.specs.Operations.{leaves_from};
 ghost use Rattle.chain_core.specs.Reached.{item_at};
 ghost use Rattle.chain_core.specs.Slots.{IsAlive};
 ghost use Rattle.chain_core.specs.declared.error.Error.TheVariants as error;
-ghost use Rattle.compact_db.specs.Batches.{MerkleizedView, IsMerkleizedOf};
+ghost use Rattle.compact_db.specs.Batches.{MerkleizedView, IsMerkleizedOf, HasMarks};
 ghost use Rattle.compact_db.specs.DbView.{IsOfList, commitment_in, seen_log, waits, is_uncommitted};
 ghost use Rattle.compact_db.specs.Held.{IsHeldFor, SameState};
+ghost use Rattle.compact_db.specs.Writing.{written_log, IsOutsideOrFull, IsSettledLog};
 
 use crate::applying::applied;
 use crate::durable::{extended, opened};
@@ -44,6 +50,19 @@ impl<F: Family, O: CompactOperation, H: Hasher> CompactDb<F, O, H> {
         ensures imported { waits self.log ≡ true → IfOk result (λ made. V.tells → (ops : List O) →
             IsOfList F.shape H.hash O.meaning ops made → (sizes : List ℕ)
             × IsHeldFor F.shape H.hash O.meaning H.Digest.spelling (H.Digest.admits tt) ops sizes made (V.state vol.new)) }
+        ensures log { IfOk result (λ made. SameButBounds (seen_log self.log) (seen_log made.log)) }
+        ensures uncommitted { IfOk result (λ made. is_uncommitted made.log ≡ true) }
+        ensures written { IfOk result (λ made. V.tells → log_of (seen_log self.log) (V.state vol.new)
+            ≡ written_log H.Digest.spelling self.log made.tip.witness (V.state vol.old)) }
+        ensures room { OnOk result (V.tells → end_of (log_of (seen_log self.log) (V.state vol.old)) < 2 ^ 64 - 1) }
+        ensures full { V.tells → IsErrOf result (error.Journal SizeOverflow) →
+            (end_of (log_of (seen_log self.log) (V.state vol.old)) ≡ 2 ^ 64 - 1) × ((V.state vol.new).clock ≡ (V.state vol.old).clock) }
+        ensures names { V.tells → NamesCall (log_alone (seen_log self.log).name) (V.state vol.old) (V.state vol.new) }
+        // Where the batch isn't taken, nothing is written, and no mark of it is that of this tree.
+        ensures unwritten { IsErrOf result error.StaleBatch → vol.new ≡ vol.old }
+        ensures misfit { IsErrOf result error.StaleBatch → (ops : List O) → IsOfList F.shape H.hash O.meaning ops self →
+            (i : ℕ) → Fits F.shape H.hash (leaves_from F.shape H.hash O.meaning 0 ops) self.tree.leaves batch.now i → ⊥ }
+        ensures errors { IfErr result (λ e. (e ≡ error.StaleBatch) ⊎ IsOutsideOrFull e) }
         ensures writes { Writes V.tells error.Volume (V.state vol.old) (V.state vol.new) result }
     {
         let CompactDb {
@@ -73,9 +92,19 @@ impl<F: Family, O: CompactOperation, H: Hasher> CompactDb<F, O, H> {
         ensures idle { waits self.log ≡ false → vol.new ≡ vol.old }
         ensures same_log { waits self.log ≡ false → IfOk result (λ made.
             (seen_log made.log ≡ seen_log self.log) × (is_uncommitted made.log ≡ is_uncommitted self.log)) }
+        ensures done { waits self.log ≡ false → IsOk result }
         ensures imported { waits self.log ≡ true → IfOk result (λ made. V.tells → (ops : List O) →
             IsOfList F.shape H.hash O.meaning ops self → (sizes : List ℕ)
             × IsHeldFor F.shape H.hash O.meaning H.Digest.spelling (H.Digest.admits tt) ops sizes made (V.state vol.new)) }
+        ensures log { IfOk result (λ made. SameButBounds (seen_log self.log) (seen_log made.log)) }
+        ensures settled { V.tells → IsSettledLog self.log (V.state vol.old) → IfOk result (λ made. IsSettledLog made.log (V.state vol.new)) }
+        ensures written { waits self.log ≡ true → OnOk result (V.tells → log_of (seen_log self.log) (V.state vol.new)
+            ≡ written_log H.Digest.spelling self.log self.tip.witness (V.state vol.old)) }
+        ensures room { waits self.log ≡ true → OnOk result (V.tells → end_of (log_of (seen_log self.log) (V.state vol.old)) < 2 ^ 64 - 1) }
+        ensures full { V.tells → IsErrOf result (error.Journal SizeOverflow) → (waits self.log ≡ true)
+            × (end_of (log_of (seen_log self.log) (V.state vol.old)) ≡ 2 ^ 64 - 1) × ((V.state vol.new).clock ≡ (V.state vol.old).clock) }
+        ensures names { V.tells → NamesCall (log_alone (seen_log self.log).name) (V.state vol.old) (V.state vol.new) }
+        ensures errors { IfErr result IsOutsideOrFull }
         ensures writes { Writes V.tells error.Volume (V.state vol.old) (V.state vol.new) result }
     {
         let CompactDb {
@@ -98,7 +127,9 @@ impl<F: Family, O: CompactOperation, H: Hasher> CompactDb<F, O, H> {
     }
 
     /// Makes the list that of a sealed batch, where it stands on this state, and writes one witness, at the batch's tip; where the batch has no more
-    /// operations, none, but that of an import that waits. It refuses with `StaleBatch` elsewhere, and where the tree takes the batch at no mark.
+    /// operations, none, but that of an import that waits. Refuses, in this order, before anything is written: `StaleBatch` where this state is neither
+    /// the one at which the batch's chain began nor an ancestor's tip; `Journal(SizeOverflow)` where a witness is to be written and the end of the
+    /// log is 2^64 - 1. Of a batch that isn't of a longer list it may answer `StaleBatch` besides.
     pub fn apply_batch<V: Volume>(
         self,
         vol: &mut V,
@@ -108,8 +139,21 @@ impl<F: Family, O: CompactOperation, H: Hasher> CompactDb<F, O, H> {
         requires { IsAlive pool.now id }
         ensures stands { IfOk result (λ made. (b : MerkleizedView F H.Digest O) → item_at pool.now id ≡ Some b →
             Contains (b.bounds.db ∷ b.bounds.ancestors) (commitment_in self)) }
+        ensures stale { (b : MerkleizedView F H.Digest O) → item_at pool.now id ≡ Some b →
+            (Contains (b.bounds.db ∷ b.bounds.ancestors) (commitment_in self) → ⊥) →
+            IsErrOf result error.StaleBatch × (vol.new ≡ vol.old) }
+        // Of a batch of a list that begins with the database's, with a mark at each state of its chain, it comes nowhere else.
+        ensures fits { IsErrOf result error.StaleBatch → (ops more : List O) (b : MerkleizedView F H.Digest O) → item_at pool.now id ≡ Some b →
+            IsOfList F.shape H.hash O.meaning ops self → IsMerkleizedOf F.shape H.hash O.meaning (ops ++ more) b → HasMarks b →
+            Contains (b.bounds.db ∷ b.bounds.ancestors) (commitment_in self) → ⊥ }
+        ensures unwritten { IsErrOf result error.StaleBatch → vol.new ≡ vol.old }
         ensures opened { IfOk result (λ made. waits made.log ≡ false) }
-        // Of a batch of a longer list that begins with the database's, it makes that list's database, and the volume has one more witness.
+        ensures codec { IfOk result (λ made. made.codec ≡ self.codec) }
+        // Of a batch of a list that begins with the database's, it makes that list's database.
+        ensures list { IfOk result (λ made. (ops more : List O) (b : MerkleizedView F H.Digest O) → item_at pool.now id ≡ Some b →
+            IsOfList F.shape H.hash O.meaning ops self → IsMerkleizedOf F.shape H.hash O.meaning (ops ++ more) b →
+            IsOfList F.shape H.hash O.meaning (ops ++ more) made) }
+        // Where that list is longer, the volume has one more witness.
         ensures held { IfOk result (λ made. V.tells → (ops more : List O) (sizes : List ℕ) (b : MerkleizedView F H.Digest O) → item_at pool.now id ≡ Some b →
             IsHeldFor F.shape H.hash O.meaning H.Digest.spelling (H.Digest.admits tt) ops sizes self (V.state vol.old) →
             IsMerkleizedOf F.shape H.hash O.meaning (ops ++ more) b → 0 < length more →
@@ -119,11 +163,32 @@ impl<F: Family, O: CompactOperation, H: Hasher> CompactDb<F, O, H> {
             item_at pool.now id ≡ Some b → IsOfList F.shape H.hash O.meaning ops self →
             IsMerkleizedOf F.shape H.hash O.meaning (ops ++ more) b → (sizes : List ℕ)
             × IsHeldFor F.shape H.hash O.meaning H.Digest.spelling (H.Digest.admits tt) (ops ++ more) sizes made (V.state vol.new)) }
-        // Where the batch has no more operations, the state stays, and nothing is written but for an import.
+        // Where the batch has no more operations, the state stays, and what is held. Nothing is written but for an import, and without one it is done.
         ensures stays { IfOk result (λ made. (b : MerkleizedView F H.Digest O) → item_at pool.now id ≡ Some b →
-            b.bounds.tip.size ≤ self.tip.witness.size → SameState self made) }
+            b.bounds.tip.size ≤ self.tip.witness.size → SameState self made × (waits self.log ≡ false →
+            (seen_log made.log ≡ seen_log self.log) × (is_uncommitted made.log ≡ is_uncommitted self.log))) }
         ensures idle { (b : MerkleizedView F H.Digest O) → item_at pool.now id ≡ Some b → b.bounds.tip.size ≤ self.tip.witness.size →
             waits self.log ≡ false → vol.new ≡ vol.old }
+        ensures done { (b : MerkleizedView F H.Digest O) → item_at pool.now id ≡ Some b → b.bounds.tip.size ≤ self.tip.witness.size →
+            waits self.log ≡ false → Contains (b.bounds.db ∷ b.bounds.ancestors) (commitment_in self) → IsOk result }
+        ensures kept { IfOk result (λ made. V.tells → (ops : List O) (sizes : List ℕ) (b : MerkleizedView F H.Digest O) → item_at pool.now id ≡ Some b →
+            b.bounds.tip.size ≤ self.tip.witness.size →
+            IsHeldFor F.shape H.hash O.meaning H.Digest.spelling (H.Digest.admits tt) ops sizes self (V.state vol.old) →
+            IsHeldFor F.shape H.hash O.meaning H.Digest.spelling (H.Digest.admits tt) ops sizes made (V.state vol.new)) }
+        ensures log { IfOk result (λ made. SameButBounds (seen_log self.log) (seen_log made.log)) }
+        ensures settled { V.tells → IsSettledLog self.log (V.state vol.old) → IfOk result (λ made. IsSettledLog made.log (V.state vol.new)) }
+        // One witness is written, behind the others; where an import waits, alone.
+        ensures written { IfOk result (λ made. V.tells → (b : MerkleizedView F H.Digest O) → item_at pool.now id ≡ Some b →
+            (self.tip.witness.size < b.bounds.tip.size) ⊎ (waits self.log ≡ true) → log_of (seen_log self.log) (V.state vol.new)
+            ≡ written_log H.Digest.spelling self.log made.tip.witness (V.state vol.old)) }
+        ensures room { OnOk result (V.tells → (b : MerkleizedView F H.Digest O) → item_at pool.now id ≡ Some b →
+            (self.tip.witness.size < b.bounds.tip.size) ⊎ (waits self.log ≡ true) →
+            end_of (log_of (seen_log self.log) (V.state vol.old)) < 2 ^ 64 - 1) }
+        ensures full { V.tells → IsErrOf result (error.Journal SizeOverflow) → (b : MerkleizedView F H.Digest O) → item_at pool.now id ≡ Some b →
+            ((self.tip.witness.size < b.bounds.tip.size) ⊎ (waits self.log ≡ true))
+            × (end_of (log_of (seen_log self.log) (V.state vol.old)) ≡ 2 ^ 64 - 1) × ((V.state vol.new).clock ≡ (V.state vol.old).clock) }
+        ensures names { V.tells → NamesCall (log_alone (seen_log self.log).name) (V.state vol.old) (V.state vol.new) }
+        ensures errors { IfErr result (λ e. (e ≡ error.StaleBatch) ⊎ IsOutsideOrFull e) }
         ensures writes { Writes V.tells error.Volume (V.state vol.old) (V.state vol.new) result }
     {
         let batch = pool.item(id);
@@ -135,7 +200,7 @@ impl<F: Family, O: CompactOperation, H: Hasher> CompactDb<F, O, H> {
             return self.settled(vol);
         }
         let [.., commit] = batch.operations.as_slice() else {
-            return Err(Error::StaleBatch);
+            unreachable!();
         };
         let Ok(commit) = commit.duplicate() else {
             return Err(Error::Memory);

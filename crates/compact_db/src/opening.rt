@@ -33,6 +33,10 @@ impl<F: Family, O: CompactOperation, H: Hasher> CompactDb<F, O, H> {
         ensures log { IfOk result (λ db. db.log ≡ WitnessLog.Import (journal_of cfg)) }
         ensures size { IfOk result (λ db. db.tip.witness.size ≡ last_commit_loc + 1) }
         ensures commit { IfOk result (λ db. db.commit ≡ op) }
+        ensures codec { IfOk result (λ db. db.codec ≡ cfg.commit_codec) }
+        // Of whichever pins, its witness has these.
+        ensures witness { IfOk result (λ db. db.tip.witness ≡
+            record { op_bytes = O.meaning.encoding op; size = last_commit_loc + 1; pinned_nodes = pinned_nodes.items }) }
         // It is the database of each list with this commit behind so many operations whose peaks these are.
         ensures list { IfOk result (λ db. (before : List O) → length before ≡ last_commit_loc →
             pinned_nodes.items ≡ map (node_of F.shape H.hash (leaves_from F.shape H.hash O.meaning 0 before)) (peaks F.shape last_commit_loc) →

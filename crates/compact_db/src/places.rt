@@ -2,12 +2,13 @@
 ghost use Rattle.std.specs.Prelude.{◌≡◌, ◌-◌, ℕ, List, true, false, None, Ok, IfOk, IfErr, IfSome};
 ghost use Rattle.journal_base.specs.View.{IsHeld, IsWithin};
 ghost use Rattle.volume_base.specs.Volume.{Reads};
+ghost use Rattle.chain_core.specs.Answers.{IsOutside};
 ghost use Rattle.chain_core.specs.declared.error.Error.TheVariants as error;
 ghost use Rattle.witness_store.specs.Searched.{IsWitnessAt, LooksFew};
 ghost use Rattle.witness_store.specs.Witnesses.{witnesses_of, Keeps, IsKept};
 ghost use Rattle.compact_db.specs.DbView.{seen_log, waits};
 ghost use Rattle.compact_db.specs.Held.{IsHeldFor};
-ghost use Rattle.compact_db.specs.Serving.{IsKeptAt, IsLogFault, IsOutside};
+ghost use Rattle.compact_db.specs.Serving.{IsKeptAt, IsLogFault};
 
 use crate::{CompactDb, CompactOperation, WitnessLog};
 use chain_core::Error;

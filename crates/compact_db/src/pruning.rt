@@ -1,18 +1,20 @@
 //! How a compact database drops witnesses, and is taken away.
 ghost use Rattle.std.specs.Prelude.{◌≡◌, ℕ, List, length, map, max, true, false, IfOk, IfErr, OnOk, IsErrOf};
 ghost use Rattle.journal_base.specs.Blobs.{blob_start};
-ghost use Rattle.journal_base.specs.View.{log_of, left_of, SameButBounds, IsDurable};
+ghost use Rattle.journal_base.specs.View.{log_of, left_of, SameButBounds, IsDurable, IsHeld};
 ghost use Rattle.volume_base.specs.Log.{no_log, pruned_to, Vanishes};
 ghost use Rattle.volume_base.specs.Moments.{LogHas, LogLeft, Steps};
 ghost use Rattle.volume_base.specs.Names.{log_alone, NamesCall};
 ghost use Rattle.volume_base.specs.Volume.{OnlyLeft, Changes, LogCall, Writes};
+ghost use Rattle.chain_core.specs.Answers.{IsOutside};
 ghost use Rattle.chain_core.specs.declared.error.DataFault.TheVariants as fault;
 ghost use Rattle.witness_store.specs.StoreView.{HasWitnesses};
-ghost use Rattle.witness_store.specs.Witnesses.{kept_from};
+ghost use Rattle.witness_store.specs.Witnesses.{witnesses_of, kept_from};
 ghost use Rattle.compact_db.specs.DbView.{seen_log, waits, is_uncommitted};
 ghost use Rattle.compact_db.specs.Held.{IsHeldFor, SameState};
+ghost use Rattle.compact_db.specs.Serving.{IsLogFault};
 ghost use Rattle.compact_db.specs.WitnessOf.{witness_of};
-ghost use Rattle.compact_db.specs.Writing.{IsOutside, IsSettledLog};
+ghost use Rattle.compact_db.specs.Writing.{IsSettledLog};
 
 use crate::durable::removed;
 use crate::{CompactDb, CompactOperation, WitnessLog};
@@ -54,6 +56,10 @@ impl<F: Family, O: CompactOperation, H: Hasher> CompactDb<F, O, H> {
         ensures outside { waits self.log ≡ false → V.tells → (ops : List O) (sizes : List ℕ) →
             IsHeldFor F.shape H.hash O.meaning H.Digest.spelling (H.Digest.admits tt) ops sizes self (V.state vol.old) →
             IfErr result IsOutside }
+        // On any contents an error is one of a read of the log.
+        ensures fault { let view = seen_log self.log in
+            let items = witnesses_of {F = F} H.Digest.spelling (H.Digest.admits tt) view (V.state vol.old) in
+            waits self.log ≡ false → IfErr result (IsLogFault V.tells (IsHeld view (V.state vol.old)) items) }
         ensures changes { (seen_log self.log).failed ≡ false →
             Changes V.tells Error.Volume (V.state vol.old) (V.state vol.new) result }
     {

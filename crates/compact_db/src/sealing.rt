@@ -3,10 +3,11 @@ ghost use Rattle.std.specs.Prelude.{◌≡◌, ◌≤◌, ◌<◌, ◌^◌, ◌+
 ghost use Rattle.std.specs.Option.{ForSome};
 ghost use Rattle.chain_core.specs.Slots.{IsAlive};
 ghost use Rattle.log_model.specs.Operations.{floor_of, leaves_from, root_of};
-ghost use Rattle.tree_core.specs.Batches.{IsSealedOf, IsUnsealedOf};
+ghost use Rattle.tree_core.specs.Batches.{IsSealedOf, IsSealedFrom, IsUnsealedOf, with_digests};
 ghost use Rattle.tree_shape.specs.Slow.{leaf};
-ghost use Rattle.compact_db.specs.Batches.{IsUnmerkleizedOf, IsPoolOf, IsSealedBy};
-ghost use Rattle.compact_db.specs.Sealing.{IsEnded, IsSealedIn, KeepsSegments, WhyNotSealed};
+ghost use Rattle.chain_core.specs.Marks.{IsMarkedOn};
+ghost use Rattle.compact_db.specs.Batches.{IsUnmerkleizedOf, IsPoolOf, IsSealedBy, HasMarks, bounds_of, link_marks};
+ghost use Rattle.compact_db.specs.Sealing.{IsEnded, IsSealedIn, WhyNotSealed};
 
 use crate::{CompactOperation, MerkleizedBatch, UnmerkleizedBatch};
 use chain_core::{Bounds, Commitment, Error, Place, Pool};
@@ -91,7 +92,8 @@ fn hashed<F: Family, O: Logged, H: Hasher>(
         IsUnsealedOf F.shape H.hash (leaves_from F.shape H.hash O.meaning 0 list) tree →
         floor ≡ floor_of O.meaning (list ++ operations.now) →
         t.1 ≡ root_of F.shape H.hash O.meaning (list ++ operations.now)) }
-    ensures segments { IfOk result (λ t. KeepsSegments tree reached t.0) }
+    ensures segments { IfOk result (λ t.
+        IsSealedFrom (with_digests tree (leaves_from F.shape H.hash O.meaning tree.base operations.now)) reached t.0) }
     ensures memory { IsOkUnless result Error.Memory }
 {
     let hasher = Standard::<H>::new(Bagging::ForwardFold);
@@ -114,7 +116,7 @@ where
 {
     /// The batch, sealed by a commit at the state `current` of a log whose floor is `below`. Refuses, in this order:
     /// `StaleBatch`, `Merkle(LocationOverflow)`, `FloorRegressed`, `FloorBeyondSize`; or with `Memory`.
-    pub fn seal(
+    pub(crate) fn seal(
         self,
         pool: &Pool<MerkleizedBatch<F, O, H::Digest>>,
         current: &Commitment<F, H::Digest>,
@@ -130,8 +132,12 @@ where
             IsPoolOf F.shape H.hash O.meaning pool.now self.parent list →
             IsSealedBy F.shape H.hash O.meaning list self.pending metadata floor b) }
         // Its tree keeps a segment for each ancestor whose tip is kept, as far as there are as many, and its own.
-        ensures segments { IfOk result (λ b. KeepsSegments self.tree
+        ensures segments { IfOk result (λ b.
+            IsSealedFrom (with_digests self.tree (leaves_from F.shape H.hash O.meaning self.base.size b.operations))
             (min (length b.bounds.ancestors) (length self.tree.links)) b.tree) }
+        // Of a list, where its segments are those of the parent's chain, there is one behind each state of its own.
+        ensures marks { IfOk result (λ b. (list : List O) → IsUnmerkleizedOf F.shape H.hash O.meaning list self →
+            IsMarkedOn bounds_of pool.now self.parent self.base (link_marks self.tree.links) → HasMarks b) }
         ensures own { IfOk result (λ b. IsEnded O.meaning self.pending metadata floor b.operations) }
     {
         let Ok(place) = Place::of(pool, self.parent, &self.base, below) else {

@@ -7,15 +7,15 @@ ghost use Rattle.journal_base.specs.Items.{IsCorrupt};
 ghost use Rattle.journal_base.specs.View.{IsHeld, IsWithin};
 ghost use Rattle.volume_base.specs.Volume.{Reads};
 ghost use Rattle.volume_base.specs.declared.error.JournalError.TheVariants as journal_error;
+ghost use Rattle.chain_core.specs.Answers.{IsOutside};
 ghost use Rattle.chain_core.specs.declared.error.Error.TheVariants as error;
-ghost use Rattle.log_model.specs.Good.{EndsWithCommit};
 ghost use Rattle.target_codec.specs.Request.{size_of, start_of};
 ghost use Rattle.witness_store.specs.Searched.{IsWitnessAt, LooksFew};
 ghost use Rattle.witness_store.specs.Witnesses.{witnesses_of, Keeps, IsKept};
 ghost use Rattle.compact_db.specs.DbView.{IsOfList, seen_log, waits};
 ghost use Rattle.compact_db.specs.Held.{IsHeldFor};
 ghost use Rattle.compact_db.specs.Rebuild.{rebuild_answer};
-ghost use Rattle.compact_db.specs.Serving.{IsKeptAt, has_size, is_kept, kept_answer, serve_answer, response_to, AnswersAs, IsDamaged, IsLogFault, IsOutside};
+ghost use Rattle.compact_db.specs.Serving.{IsKeptAt, has_size, is_kept, kept_answer, serve_answer, response_to, AnswersAs, IsDamaged, IsLogFault};
 ghost use Rattle.compact_db.specs.StateOf.{IsStateOf, verified_of};
 ghost use Rattle.compact_db.specs.WitnessOf.{witness_of};
 
@@ -111,7 +111,7 @@ impl<F: Family, O: CompactOperation, H: Hasher> CompactDb<F, O, H> {
         ensures list { IfOk result (λ r. V.tells → (ops : List O) (sizes : List ℕ) →
             IsHeldFor F.shape H.hash O.meaning H.Digest.spelling (H.Digest.admits tt) ops sizes self.now
             (V.state vol.old) →
-            AllByRecursion (O.admits self.now.codec) ops → EndsWithCommit O.meaning (take size ops) →
+            AllByRecursion (O.admits self.now.codec) ops →
             IsStateOf F.shape H.hash O.meaning (take size ops) r.tip r.merkle r.commit) }
         ensures errors { let view = seen_log self.now.log in
             let within = IsWithin view (V.state vol.old) in
@@ -181,7 +181,7 @@ impl<F: Family, O: CompactOperation, H: Hasher> CompactDb<F, O, H> {
         ensures list { IfOk result (λ r. V.tells → (ops : List O) (sizes : List ℕ) →
             IsHeldFor F.shape H.hash O.meaning H.Digest.spelling (H.Digest.admits tt) ops sizes self.now
             (V.state vol.old) →
-            AllByRecursion (O.admits self.now.codec) ops → EndsWithCommit O.meaning (take (size_of request) ops) →
+            AllByRecursion (O.admits self.now.codec) ops →
             (commit : O) → slice_get ops (size_of request - 1) ≡ Some commit →
             r ≡ response_to request (verified_of F.shape H.hash O.meaning (take (size_of request) ops)) commit) }
         ensures errors { let view = seen_log self.now.log in

@@ -1,8 +1,9 @@
 //! How a compact database makes its witnesses durable.
-ghost use Rattle.std.specs.Prelude.{◌≡◌, ℕ, List, true, false, IsOk, IfOk, OnOk, IsErrOf};
+ghost use Rattle.std.specs.Prelude.{◌≡◌, ◌<◌, ◌-◌, ◌^◌, ℕ, List, true, false, IsOk, IfOk, OnOk, IsErrOf};
 ghost use Rattle.codec_base.specs.Causes.{Rose};
 ghost use Rattle.journal_base.specs.Tickets.{is_failed};
 ghost use Rattle.journal_base.specs.View.{log_of, after_sync, SameButBounds, IsDurable};
+ghost use Rattle.volume_base.specs.Log.{end_of};
 ghost use Rattle.compact_db.specs.DbView.{IsOfList, seen_log, waits, is_uncommitted};
 ghost use Rattle.compact_db.specs.Held.{IsHeldFor, SameState};
 ghost use Rattle.compact_db.specs.Writing.{written_log, outcome, IsSettledLog, SyncsLog};
@@ -34,6 +35,7 @@ impl<F: Family, O: CompactOperation, H: Hasher> CompactDb<F, O, H> {
             × IsHeldFor F.shape H.hash O.meaning H.Digest.spelling (H.Digest.admits tt) ops sizes made (V.state vol.new)) }
         ensures written { waits self.log ≡ true → OnOk result (V.tells → log_of (seen_log self.log) (V.state vol.new)
             ≡ written_log H.Digest.spelling self.log self.tip.witness (V.state vol.old)) }
+        ensures fits { waits self.log ≡ true → OnOk result (V.tells → end_of (log_of (seen_log self.log) (V.state vol.old)) < 2 ^ 64 - 1) }
         ensures durable { OnOk result (V.tells → IsSettledLog self.log (V.state vol.old) →
             IsDurable (seen_log self.log) (V.state vol.new)) }
         ensures syncs { (seen_log self.log).failed ≡ false →
@@ -77,6 +79,7 @@ impl<F: Family, O: CompactOperation, H: Hasher> CompactDb<F, O, H> {
             × IsHeldFor F.shape H.hash O.meaning H.Digest.spelling (H.Digest.admits tt) ops sizes made (V.state vol.new)) }
         ensures written { waits self.log ≡ true → OnOk result (V.tells → log_of (seen_log self.log) (V.state vol.new)
             ≡ written_log H.Digest.spelling self.log self.tip.witness (V.state vol.old)) }
+        ensures fits { waits self.log ≡ true → OnOk result (V.tells → end_of (log_of (seen_log self.log) (V.state vol.old)) < 2 ^ 64 - 1) }
         ensures durable { OnOk result (V.tells → IsDurable (seen_log self.log) (V.state vol.new)) }
         ensures syncs { (seen_log self.log).failed ≡ false →
             SyncsLog V.tells H.Digest.spelling self.log self.tip.witness (V.state vol.old) (V.state vol.new) result }
@@ -120,6 +123,7 @@ impl<F: Family, O: CompactOperation, H: Hasher> CompactDb<F, O, H> {
             × IsHeldFor F.shape H.hash O.meaning H.Digest.spelling (H.Digest.admits tt) ops sizes made.0 (V.state vol.new)) }
         ensures written { waits self.log ≡ true → OnOk result (V.tells → log_of (seen_log self.log) (V.state vol.new)
             ≡ written_log H.Digest.spelling self.log self.tip.witness (V.state vol.old)) }
+        ensures fits { waits self.log ≡ true → OnOk result (V.tells → end_of (log_of (seen_log self.log) (V.state vol.old)) < 2 ^ 64 - 1) }
         ensures durable { IfOk result (λ made. made.1 ≡ SyncTicket.Done → V.tells → IsDurable (seen_log self.log) (V.state vol.new)) }
         ensures failed { IfOk result (λ made. made.1 ≡ SyncTicket.Failed → Rose (V.state vol.old).faults (V.state vol.new).faults) }
         ensures syncs { (seen_log self.log).failed ≡ false →

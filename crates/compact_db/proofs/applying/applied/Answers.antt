@@ -3,6 +3,8 @@ use Rattle.std.specs.Option.{unwrap_or}
 use Rattle.std.proofs.Math.Seq.{drop-append_seam}
 use Rattle.tree_core.specs.Tree.{IsOf}
 use Rattle.compact_db.specs.Verified.{verified_leaves}
+use Rattle.compact_db.proofs.ApplyLemmas.{stale_memory}
+use Rattle.compact_db.proofs.MarkLemmas.{refused_misfit}
 use Rattle.compact_db.proofs.applying.applied.Goals as goal
 
 pub returns-clause-list : goal.returns-clause-list
@@ -19,3 +21,10 @@ returns-clause-list g c all more of sealed =
           (c.new-floor.ensures ∙ c.unwrap_or.ensures ∙ ap (λ o. unwrap_or o 0) c.commit_floor.ensures),
       c.prune_to_frontier.ensures.tree h (all ++ more) grown,
     )
+
+pub returns-in-Err-clause-misfit : goal.returns-in-Err-clause-misfit
+returns-in-Err-clause-misfit g c is all of i fits =
+    let s = g.F.Family.shape in
+    let h = g.H.Hasher.hash in
+    refused_misfit s h all c.args.merkle.leaves c.args.batch.now c.in-Err.error (c.in-Err.ensures.refused h all of)
+    (λ memory. stale_memory c.as_stale.result is (c.as_stale.ensures.memory memory)) i fits

@@ -1,4 +1,4 @@
-use Rattle.std.proofs.Common.{◌++◌, refl, ◌∙◌, ap, subst}
+use Rattle.std.proofs.Common.{◌≡◌, ◌++◌, length, refl, ◌∙◌, ap, subst, arith}
 use Rattle.tree_shape.specs.Root.{root}
 use Rattle.tree_core.specs.Batches.{Unsealed, IsSealedOf, IsSealedFrom, with_digests}
 use Rattle.log_model.specs.Operations.{leaves_from}
@@ -50,7 +50,14 @@ returns-clause-root g c list base of floor =
 
 pub returns-clause-segments : goal.returns-clause-segments
 returns-clause-segments g c =
+    let s = g.F.Family.shape in
+    let h = g.H.Hasher.hash in
+    let m = g.O.Logged.meaning in
     let sealed = c.in_ok-sealed.sealed in
     let from : IsSealedFrom (with_digests c.args.tree c.deref.result.now) c.args.reached sealed =
     subst (λ (u : Unsealed _). IsSealedFrom u c.args.reached sealed) c.in-Ok-add_leaf_digests.ensures.ok c.in_ok-sealed.ensures.sealed in
-    record { own = _; links = from.links; first = from.first }
+    let none : length c.args.tree.digests ≡ 0 = ap length c.requires.none in
+    let first : c.as_u64-first.result ≡ c.args.tree.base = c.as_u64-first.ensures ∙ c.leaves.ensures.leaves ∙ omega (arith, none) in
+    let leaves : c.deref.result.now ≡ leaves_from s h m c.args.tree.base c.args.operations.now =
+    c.deref.ensures.value ∙ c.in-Ok.ensures.leaves ∙ ap (λ n. leaves_from s h m n c.args.operations.now) first in
+    subst (λ ds. IsSealedFrom (with_digests c.args.tree ds) c.args.reached sealed) leaves from

@@ -27,6 +27,7 @@ returns-in-Ok-insert-clause-inserted g c =
           (subst (λ n. IsSealedIn g.H.Digest.Digest.bytes c.args.pool.now c.args.self c.commitment.result n c.args.inactivity_floor c.in-Ok.batch.bounds)
           c.inactivity_floor_loc-below.ensures c.in-Ok.ensures.sealed),
       c.in-Ok.ensures.list,
+      c.in-Ok.ensures.marks,
       c.in-Ok.ensures.segments,
       c.in-Ok.ensures.own,
     )

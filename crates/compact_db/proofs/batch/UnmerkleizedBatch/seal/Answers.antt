@@ -1,9 +1,11 @@
 use Rattle.std.proofs.Common.{◌≡◌, ◌+◌, refl, List, ◌++◌, length, sym, ◌∙◌, ap, subst}
-use Rattle.tree_core.specs.Batches.{IsSealedOf, IsUnsealedOf}
+use Rattle.std.specs.Prelude.{min}
+use Rattle.tree_core.specs.Batches.{IsSealedOf, IsSealedFrom, IsUnsealedOf, with_digests}
 use Rattle.log_model.specs.Operations.{floor_of, leaves_from, root_of}
 use Rattle.chain_core.specs.declared.commitment.Commitment.{Commitment}
 use Rattle.compact_db.specs.Batches.{UnmerkleizedView}
 use Rattle.compact_db.specs.Sealing.{IsEnded, HasPlace}
+use Rattle.compact_db.proofs.MarkLemmas.{sealed_marks}
 use Rattle.compact_db.proofs.PlaceLemmas.{told_by, may_here, sealed_with}
 use Rattle.compact_db.proofs.batch.UnmerkleizedBatch.seal.Goals as goal
 
@@ -65,3 +67,31 @@ returns-clause-list g c list of chain =
     (c.new-below_tip.ensures ∙ c.as_u64-3.ensures ∙ last ∙ ap (λ (os : List g.row.O.Denot). floor_of m (list ++ os)) (sym c.deref.ensures.value))
     ∙ ap (λ (os : List g.row.O.Denot). root_of s h m (list ++ os)) c.deref.ensures.value)
     c.self.inside.base c.from_vec.result base c.from_vec.ensures
+
+pub returns-clause-segments : goal.returns-clause-segments
+returns-clause-segments g c =
+    let s = g.F.Family.shape in
+    let h = g.H.Hasher.hash in
+    let m = g.O.Logged.meaning in
+    let links : c.segments.result ≡ length c.args.self.tree.links = c.segments.ensures ∙ ap (λ (b : UnmerkleizedView g.row.F.Denot g.row.H-Digest.Denot g.row.O.Denot). length b.tree.links) c.self.view_is in
+    let reached : c.min-reached.result ≡ min (length c.in-Ok.place.ancestors) (length c.args.self.tree.links) =
+    c.min-reached.ensures ∙ ap (λ n. min n c.segments.result) c.len.ensures.count ∙ ap (min (length c.in-Ok.place.ancestors)) links in
+    let base : c.self.inside.tree.base ≡ c.args.self.base.size = c.self.invariant.base_is ∙ ap (λ (b : UnmerkleizedView g.row.F.Denot g.row.H-Digest.Denot g.row.O.Denot). b.base.size) c.self.view_is in
+    let ops : c.deref.result.now ≡ c.from_vec.result = c.deref.ensures.value ∙ sym c.from_vec.ensures in
+    let own = c.self.inside.tree in
+    subst (λ (b : UnmerkleizedView g.row.F.Denot g.row.H-Digest.Denot g.row.O.Denot). IsSealedFrom (with_digests b.tree (leaves_from s h m c.args.self.base.size c.from_vec.result)) (min (length c.in-Ok.place.ancestors) (length c.args.self.tree.links)) c.in_ok-tree.tree) c.self.view_is
+    (subst (λ n. IsSealedFrom (with_digests own (leaves_from s h m n c.from_vec.result)) (min (length c.in-Ok.place.ancestors) (length c.args.self.tree.links)) c.in_ok-tree.tree) base
+    (subst (λ (os : List g.row.O.Denot). IsSealedFrom (with_digests own (leaves_from s h m own.base os)) (min (length c.in-Ok.place.ancestors) (length c.args.self.tree.links)) c.in_ok-tree.tree) ops
+    (subst (λ n. IsSealedFrom (with_digests own (leaves_from s h m own.base c.deref.result.now)) n c.in_ok-tree.tree) reached c.in_ok-tree.ensures.segments)))
+
+pub returns-clause-marks : goal.returns-clause-marks
+returns-clause-marks g c list of on =
+    let s = g.F.Family.shape in
+    let h = g.H.Hasher.hash in
+    let m = g.O.Logged.meaning in
+    let at : HasPlace c.args.pool.now c.args.self c.args.below c.in-Ok.place =
+    subst (λ (b : UnmerkleizedView g.row.F.Denot g.row.H-Digest.Denot g.row.O.Denot). HasPlace c.args.pool.now b c.args.below c.in-Ok.place)
+    c.self.view_is c.in-Ok.ensures.place in
+    let base : c.args.self.tree.base ≡ c.args.self.base.size =
+    sym (ap (λ (b : UnmerkleizedView g.row.F.Denot g.row.H-Digest.Denot g.row.O.Denot). b.tree.base) c.self.view_is) ∙ c.self.invariant.base_is ∙ ap (λ (b : UnmerkleizedView g.row.F.Denot g.row.H-Digest.Denot g.row.O.Denot). b.base.size) c.self.view_is in
+    sealed_marks s h m list c.args.pool.now c.args.self c.args.below c.in-Ok.place _ c.in_ok-tree.tree at c.requires of on (returns-clause-segments g c) base

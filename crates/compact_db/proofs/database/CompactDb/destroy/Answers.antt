@@ -1,9 +1,9 @@
-use Rattle.std.proofs.Common.{◌≡◌, List, Ok, Err, subst}
+use Rattle.std.proofs.Common.{◌≡◌, Ok, Err, subst}
 use Rattle.journal_base.specs.View.{log_of, left_of}
 use Rattle.volume_base.specs.Log.{no_log, Vanishes}
 use Rattle.volume_base.specs.Volume.{OnlyLeft, LogCall}
 use Rattle.compact_db.specs.DbView.{DbView, seen_log}
-use Rattle.compact_db.specs.Writing.{IsOutside}
+use Rattle.chain_core.specs.Answers.{IsOutside}
 use Rattle.compact_db.proofs.SettleLemmas.{err_each, outside_is, passed_err, writes_passed}
 use Rattle.compact_db.proofs.database.CompactDb.destroy.Goals as goal
 

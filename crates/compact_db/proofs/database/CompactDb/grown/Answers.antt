@@ -1,20 +1,27 @@
-use Rattle.std.proofs.Common.{◌≡◌, ℕ, true, ◌+◌, List, [], ◌∷◌, ◌++◌, length, map, refl, sym, ◌∙◌, ap, subst, arith}
+use Rattle.std.proofs.Common.{◌≡◌, ◌⊎◌, inl, inr, ℕ, true, ◌+◌, ◌-◌, ◌^◌, List, [], ◌∷◌, ◌++◌, length, map, Err, refl, sym, ◌∙◌, ap, subst, arith}
+use Rattle.volume_base.specs.Log.{end_of}
+use Rattle.volume_base.specs.Names.{log_alone, NamesCall}
+use Rattle.volume_base.proofs.CallLemmas.{names_call_none, names_call_log}
+use Rattle.volume_base.specs.declared.error.JournalError.TheVariants.{SizeOverflow}
+use Rattle.chain_core.specs.declared.error.Error.TheVariants.{StaleBatch, Journal}
 use Rattle.log_model.specs.Operations.{floor_of, leaves_from}
 use Rattle.log_model.proofs.OperationLemmas.{leaves_from-append}
+use Rattle.tree_core.specs.Applied.{Fits}
 use Rattle.tree_core.specs.Batches.{IsSealedOf}
-use Rattle.journal_base.specs.View.{View}
+use Rattle.journal_base.specs.View.{View, log_of, SameButBounds}
 use Rattle.volume_base.specs.Log.{Log}
 use Rattle.witness_store.specs.Witnesses.{witnesses_of}
 use Rattle.tree_core.specs.Tree.{Tree, IsOf}
-use Rattle.compact_db.specs.DbView.{DbView, IsOfList, seen_log, waits}
+use Rattle.compact_db.specs.DbView.{DbView, seen_log, waits}
 use Rattle.compact_db.specs.Held.{IsHeldFor}
 use Rattle.compact_db.specs.StateOf.{IsRestored}
 use Rattle.compact_db.specs.WitnessOf.{witness_of}
-use Rattle.compact_db.specs.Writing.{place_in}
+use Rattle.compact_db.specs.Writing.{place_in, written_log, IsOutsideOrFull}
 use Rattle.compact_db.proofs.DbLemmas.{size_of_list}
 use Rattle.compact_db.specs.declared.database.WitnessLog.TheVariants.{Open}
 use Rattle.compact_db.proofs.StateLemmas.{ones}
 use Rattle.compact_db.proofs.HeldLemmas.{grown_state, grown_held, begun_held, allowed_tip, last_below, states_of, grown_start, begun_start}
+use Rattle.compact_db.proofs.SettleLemmas.{never_stale, full_cause, same_err, passed_each, refused_not_full, refused_as, err_each, size_is}
 use Rattle.compact_db.proofs.database.CompactDb.grown.Goals as goal
 
 pub returns-clause-list : goal.returns-clause-list
@@ -69,3 +76,70 @@ returns-clause-imported g c waiting told ops is =
           (ap (λ (l : Log). l.start) (c.in_ok-store.ensures.written told) ∙ begun_start sp c.self.inside.log c.in_ok-tip.tip.witness (g.V.Volume.state c.args.vol.now) w)
           (λ ws count. c.in_ok-store.ensures.begins w told ws count allowed),
     )
+
+-- ---- the tree takes the batch at no mark, or there is no memory
+
+pub returns-in_err-tip-clause-full : goal.returns-in_err-tip-clause-full
+returns-in_err-tip-clause-full g c told is =
+    absurd (refused_not_full c.in_err-tip.field-0.0 c.in_err-tip.ensures.errors (same_err c.in_err-tip.field-0.0 (Journal SizeOverflow) c.from_residual.result c.from_residual.ensures.1 is))
+
+pub returns-in_err-tip-clause-names : goal.returns-in_err-tip-clause-names
+returns-in_err-tip-clause-names g c told = names_call_none _ (g.V.Volume.state c.args.vol.now)
+
+pub returns-in_err-tip-clause-misfit : goal.returns-in_err-tip-clause-misfit
+returns-in_err-tip-clause-misfit g c is ops of i fits =
+    let s = g.F.Family.shape in
+    let h = g.H.Hasher.hash in
+    let m = g.O.Logged.meaning in
+    let stale = same_err c.in_err-tip.field-0.0 StaleBatch c.from_residual.result c.from_residual.ensures.1 is in
+    let tree_is = ap (λ (d : DbView g.row.F.Denot g.row.H-Digest.Denot g.row.O.Denot g.row.O-Cfg.Denot). d.tree) c.self.view_is in
+    let tree : IsOf s h (leaves_from s h m 0 ops) c.self.inside.merkle = subst (λ (t : Tree g.row.H-Digest.Denot). IsOf s h (leaves_from s h m 0 ops) t) (sym tree_is) of.tree_of in
+    c.in_err-tip.ensures.misfit (ap Err stale) (leaves_from s h m 0 ops) tree i
+    (subst (λ (t : Tree g.row.H-Digest.Denot). Fits s h (leaves_from s h m 0 ops) t.leaves c.args.batch.now i) (sym tree_is) fits)
+
+pub returns-in_err-tip-clause-errors : goal.returns-in_err-tip-clause-errors
+returns-in_err-tip-clause-errors g c =
+    passed_each c.in_err-tip.field-0.0 (λ e. (e ≡ StaleBatch) ⊎ IsOutsideOrFull e) c.from_residual.result c.from_residual.ensures.1 (refused_as c.in_err-tip.field-0.0 c.in_err-tip.ensures.errors)
+
+-- ---- the witness isn't written
+
+pub returns-in_err-store-clause-full : goal.returns-in_err-store-clause-full
+returns-in_err-store-clause-full g c told is =
+    let cause = full_cause c.in_err-store.field-0.0 c.from_residual-in_err-store.result c.from_residual-in_err-store.ensures.1 is in (
+      subst (λ (d : DbView g.row.F.Denot g.row.H-Digest.Denot g.row.O.Denot g.row.O-Cfg.Denot). end_of (log_of (seen_log d.log) (g.V.Volume.state c.args.vol.now)) ≡ 2 ^ 64 - 1) c.self.view_is (c.in_err-store.ensures.overflow told (ap Err cause)),
+      c.in_err-store.ensures.refused told _ (ap Err cause) refl,
+    )
+
+pub returns-in_err-store-clause-names : goal.returns-in_err-store-clause-names
+returns-in_err-store-clause-names g c told =
+    subst (λ (d : DbView g.row.F.Denot g.row.H-Digest.Denot g.row.O.Denot g.row.O-Cfg.Denot). NamesCall (log_alone (seen_log d.log).name) (g.V.Volume.state c.args.vol.now) (g.V.Volume.state c.extended.new.vol)) c.self.view_is
+    (names_call_log (log_alone (seen_log c.self.inside.log).name) (seen_log c.self.inside.log).name _ (g.V.Volume.state c.args.vol.now) (g.V.Volume.state c.extended.new.vol) (inl refl) (c.extended.ensures.log told))
+
+pub returns-in_err-store-clause-unwritten : goal.returns-in_err-store-clause-unwritten
+returns-in_err-store-clause-unwritten g c is =
+    absurd (never_stale c.in_err-store.field-0.0 c.from_residual-in_err-store.result c.from_residual-in_err-store.ensures.1 is)
+
+pub returns-in_err-store-clause-misfit : goal.returns-in_err-store-clause-misfit
+returns-in_err-store-clause-misfit g c is =
+    absurd (never_stale c.in_err-store.field-0.0 c.from_residual-in_err-store.result c.from_residual-in_err-store.ensures.1 is)
+
+pub returns-in_err-store-clause-errors : goal.returns-in_err-store-clause-errors
+returns-in_err-store-clause-errors g c =
+    err_each c.from_residual-in_err-store.result c.in_err-store.field-0.0 (λ e. (e ≡ StaleBatch) ⊎ IsOutsideOrFull e) c.from_residual-in_err-store.ensures.1
+    (inr (size_is c.in_err-store.field-0.0 c.in_err-store.ensures.errors))
+
+-- ---- it is
+
+pub returns-clause-log : goal.returns-clause-log
+returns-clause-log g c =
+    subst (λ (d : DbView g.row.F.Denot g.row.H-Digest.Denot g.row.O.Denot g.row.O-Cfg.Denot). SameButBounds (seen_log d.log) c.in_ok-store.store.log) c.self.view_is c.in_ok-store.ensures.same.0
+
+pub returns-clause-written : goal.returns-clause-written
+returns-clause-written g c told =
+    subst (λ (d : DbView g.row.F.Denot g.row.H-Digest.Denot g.row.O.Denot g.row.O-Cfg.Denot). log_of (seen_log d.log) (g.V.Volume.state c.extended.new.vol) ≡ written_log g.H.Digest.Spelled.spelling d.log c.in_ok-tip.tip.witness (g.V.Volume.state c.args.vol.now)) c.self.view_is
+    (c.in_ok-store.ensures.written told)
+
+pub returns-clause-names : goal.returns-clause-names
+returns-clause-names g c told =
+    subst (λ (d : DbView g.row.F.Denot g.row.H-Digest.Denot g.row.O.Denot g.row.O-Cfg.Denot). NamesCall (log_alone (seen_log d.log).name) (g.V.Volume.state c.args.vol.now) (g.V.Volume.state c.extended.new.vol)) c.self.view_is
+    (names_call_log (log_alone (seen_log c.self.inside.log).name) (seen_log c.self.inside.log).name _ (g.V.Volume.state c.args.vol.now) (g.V.Volume.state c.extended.new.vol) (inl refl) (c.extended.ensures.log told))

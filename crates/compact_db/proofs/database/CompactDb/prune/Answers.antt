@@ -1,21 +1,21 @@
-use Rattle.std.proofs.Common.{◌≡◌, ℕ, List, map, length, max, true, false, Ok, Err, refl, sym, ◌∙◌, ap, subst, arith}
-use Rattle.std.specs.Prelude.{IsErrOf, IfErr}
+use Rattle.std.proofs.Common.{◌≡◌, map, max, true, false, Ok, Err, refl, sym, ◌∙◌, ap, subst, arith}
+use Rattle.std.specs.Prelude.{IfErr}
 use Rattle.journal_base.specs.Blobs.{blob_start}
-use Rattle.journal_base.specs.View.{View, log_of, SameButBounds, IsDurable}
+use Rattle.journal_base.specs.View.{View, log_of, SameButBounds, IsDurable, IsHeld}
 use Rattle.volume_base.specs.Log.{Log, pruned_to}
-use Rattle.volume_base.specs.Moments.{LogHas, LogLeft, Steps}
+use Rattle.volume_base.specs.Moments.{LogHas}
 use Rattle.volume_base.specs.Names.{log_alone, NamesCall}
-use Rattle.volume_base.specs.Volume.{Changes}
 use Rattle.volume_base.specs.declared.error.JournalError.TheVariants as journal_error
 use Rattle.volume_base.proofs.CallLemmas.{names_call_none}
-use Rattle.chain_core.specs.declared.error.Error.TheVariants.{Volume, DataCorrupted}
+use Rattle.chain_core.specs.Answers.{IsOutside}
 use Rattle.chain_core.specs.declared.error.DataFault.TheVariants.{ImportNotApplied}
 use Rattle.witness_store.specs.StoreView.{StoreView, HasWitnesses}
 use Rattle.witness_store.specs.Witnesses.{witnesses_of, kept_from}
 use Rattle.compact_db.specs.DbView.{DbView, seen_log, waits}
 use Rattle.compact_db.specs.Held.{IsHeldFor}
+use Rattle.compact_db.specs.Serving.{IsLogFault}
 use Rattle.compact_db.specs.WitnessOf.{witness_of}
-use Rattle.compact_db.specs.Writing.{IsOutside, IsSettledLog}
+use Rattle.compact_db.specs.Writing.{IsSettledLog}
 use Rattle.compact_db.specs.declared.database.WitnessLog.{WitnessLog}
 use Rattle.compact_db.specs.declared.database.WitnessLog.TheVariants.{Open}
 use Rattle.compact_db.proofs.HeldLemmas.{behind_held, states_of}
@@ -174,3 +174,24 @@ returns-clause-outside g c open_is told ops sizes was =
 pub returns-clause-changes : goal.returns-clause-changes
 returns-clause-changes g c failed =
     changes_none g.V.Volume.tells (g.V.Volume.state c.args.vol.now) _ (λ is. cc)
+
+pub returns-in_err-store-in-Open-clause-fault : goal.returns-in_err-store-in-Open-clause-fault
+returns-in_err-store-in-Open-clause-fault g c open_is =
+    let at : c.args.self.log ≡ Open c.in-Open.store = sym (ap (λ (d : DbView g.row.F.Denot g.row.H-Digest.Denot g.row.O.Denot g.row.O-Cfg.Denot). d.log) c.self.view_is) ∙ c.in-Open.is in
+    let e = c.in_err-store-in-Open.field-0.0 in
+    subst (λ (l : WitnessLog g.row.F.Denot g.row.H-Digest.Denot). IfErr c.from_residual.result (IsLogFault g.V.Volume.tells (IsHeld (seen_log l) (g.V.Volume.state c.args.vol.now)) (witnesses_of {F = g.row.F.Denot} g.H.Digest.Spelled.spelling (g.H.Digest.Read.admits tt) (seen_log l) (g.V.Volume.state c.args.vol.now)))) (sym at)
+    (err_each c.from_residual.result e (λ x. let l : WitnessLog g.row.F.Denot g.row.H-Digest.Denot = Open c.in-Open.store in IsLogFault g.V.Volume.tells (IsHeld (seen_log l) (g.V.Volume.state c.args.vol.now)) (witnesses_of {F = g.row.F.Denot} g.H.Digest.Spelled.spelling (g.H.Digest.Read.admits tt) (seen_log l) (g.V.Volume.state c.args.vol.now)) x) c.from_residual.ensures.1
+    (record {
+      cause = e;
+      is = refl;
+      of_read = c.in_err-store-in-Open.ensures.errors;
+      corrupt = λ p is told. c.in_err-store-in-Open.ensures.corrupt p (ap Err is) told;
+      not_pruned = λ told held p is. c.in_err-store-in-Open.ensures.not_pruned told held p (ap Err is);
+      not_out_of_range = λ told held p is. c.in_err-store-in-Open.ensures.not_out_of_range told held p (ap Err is);
+    }))
+
+pub returns-clause-fault : goal.returns-clause-fault
+returns-clause-fault g c open_is =
+    let at = sym (ap (λ (d : DbView g.row.F.Denot g.row.H-Digest.Denot g.row.O.Denot g.row.O-Cfg.Denot). d.log) c.self.view_is) ∙ c.in-Import.is in
+    let shut : true ≡ false = sym (ap (λ (l : WitnessLog g.row.F.Denot g.row.H-Digest.Denot). waits l) at) ∙ open_is in
+    absurd cc

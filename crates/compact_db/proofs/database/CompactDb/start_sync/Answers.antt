@@ -1,18 +1,19 @@
-use Rattle.std.proofs.Common.{◌≡◌, ℕ, List, length, true, false, Ok, Err, refl, sym, ◌∙◌, ap, subst}
-use Rattle.std.specs.Prelude.{IsOk, IsErrOf}
+use Rattle.std.proofs.Common.{◌<◌, ◌^◌, ◌-◌, ◌≡◌, ℕ, List, length, true, false, Err, refl, sym, ◌∙◌, ap, subst}
+use Rattle.std.specs.Prelude.{IsErrOf}
 use Rattle.codec_base.specs.Causes.{Rose}
 use Rattle.journal_base.specs.View.{View, SameLog, SameButBounds, after_sync, log_of, IsDurable}
 use Rattle.journal_base.specs.declared.ticket.SyncTicket.{SyncTicket}
 use Rattle.journal_base.specs.Tickets.{is_failed, sync_of as journal_sync_of}
+use Rattle.volume_base.specs.Log.{end_of}
 use Rattle.volume_base.specs.declared.error.JournalError.TheVariants as journal_error
 use Rattle.chain_core.specs.declared.error.Error.TheVariants.{Volume}
 use Rattle.witness_store.specs.StoreView.{StoreView}
-use Rattle.compact_db.specs.DbView.{DbView, IsOfList, seen_log, waits, is_uncommitted}
+use Rattle.compact_db.specs.DbView.{DbView, IsOfList, seen_log, waits}
 use Rattle.compact_db.specs.Held.{IsHeldFor}
-use Rattle.compact_db.specs.Writing.{SyncsLog, sync_of, outcome, written_log}
+use Rattle.compact_db.specs.Writing.{SyncsLog, outcome, written_log}
 use Rattle.compact_db.specs.declared.database.WitnessLog.TheVariants.{Open}
 use Rattle.compact_db.proofs.HeldLemmas.{still_held, imported_held, allowed_tip}
-use Rattle.compact_db.proofs.SettleLemmas.{syncs_at, failed_open, committed_open, passed_err, kept_err, syncs_not, syncs_then, log_later, durable_as, passed_volume, outcome_err, ticket_passed, ticket_of}
+use Rattle.compact_db.proofs.SettleLemmas.{syncs_at, failed_open, passed_err, kept_err, syncs_not, syncs_then, log_later, durable_as, passed_volume, outcome_err, ticket_passed, ticket_of}
 use Rattle.compact_db.proofs.database.CompactDb.start_sync.Goals as goal
 
 pub returns-in_err-store-clause-kept : goal.returns-in_err-store-clause-kept
@@ -119,3 +120,8 @@ returns-clause-syncs g c =
     c.in_ok-store.store c.in_ok-store.store.log (g.V.Volume.state c.start_sync.new.vol) (journal_sync_of c.in_ok-store-2.ticket) _ (ticket_passed _ c.in_ok-store-2.ticket) c.in_ok-store.ensures.same fresh c.in_ok-store.ensures.writes
     (λ open_is. ap (λ (v : g.row.V.Denot). g.V.Volume.state v) (c.in_ok-store.ensures.idle open_is).1)
     c.in_ok-store-2.ensures.log c.in_ok-store-2.ensures.contents (ticket_of c.in_ok-store-2.ticket) c.in_ok-store-2.ensures.writes)
+
+pub returns-clause-fits : goal.returns-clause-fits
+returns-clause-fits g c =
+    subst (λ (d : DbView g.row.F.Denot g.row.H-Digest.Denot g.row.O.Denot g.row.O-Cfg.Denot). waits d.log ≡ true → g.V.Volume.tells → end_of (log_of (seen_log d.log) (g.V.Volume.state c.args.vol.now)) < 2 ^ 64 - 1) c.self.view_is
+    c.in_ok-store.ensures.fits

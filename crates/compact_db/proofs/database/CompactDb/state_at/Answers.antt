@@ -1,4 +1,4 @@
-use Rattle.std.proofs.Common.{rules, ◌≡◌, ◌⊎◌, ◌-◌, inl, inr, false, ℕ, List, length, map, drop, take, Option, Some, None, Err, sym, ◌∙◌, subst, arith}
+use Rattle.std.proofs.Common.{rules, ◌≡◌, ◌⊎◌, ◌-◌, inl, inr, false, ℕ, List, map, drop, take, Option, Some, None, Err, sym, ◌∙◌, subst, arith}
 use Rattle.std.specs.Prelude.{IfSome, IfErr}
 use Rattle.std.specs.List.{AllByRecursion}
 use Rattle.std.proofs.lemmas.List.{length-take}
@@ -6,6 +6,7 @@ use Rattle.codec_base.specs.Parts.{whole}
 use Rattle.journal_base.specs.View.{IsWithin}
 use Rattle.volume_base.proofs.ReadLemmas.{only_read_none, only_read_joins, reads_of}
 use Rattle.volume_base.specs.declared.error.JournalError.TheVariants.{ItemPruned}
+use Rattle.chain_core.specs.Answers.{IsOutside}
 use Rattle.chain_core.specs.declared.error.Error.{Error}
 use Rattle.chain_core.specs.declared.error.Error.TheVariants.{Journal, Volume}
 use Rattle.witness_store.specs.Searched.{IsWitnessAt}
@@ -14,7 +15,7 @@ use Rattle.witness_store.specs.declared.witness.Witness.{Witness}
 use Rattle.compact_db.specs.DbView.{DbView, seen_log}
 use Rattle.compact_db.specs.Held.{IsHeldFor, IsSizeOf}
 use Rattle.compact_db.specs.Rebuild.{RefusedOnlyAs, rebuild_answer}
-use Rattle.compact_db.specs.Serving.{has_size, kept_answer, AnswersAs, IsDamaged, IsLogFault, IsOutside}
+use Rattle.compact_db.specs.Serving.{has_size, kept_answer, AnswersAs, IsDamaged, IsLogFault}
 use Rattle.compact_db.specs.WitnessOf.{witness_of}
 use Rattle.compact_db.proofs.ServingLemmas.{all_taken, size_ended, size_none, size_here, witness_here, front_witness, kept_true, kept_false, none_kept, rebuilt_as, damaged_as, fault_outside, never_volume, not_volume, if_ok}
 use Rattle.compact_db.proofs.database.CompactDb.state_at.Goals as goal
@@ -67,7 +68,7 @@ returns-in-Err-clause-kept g c told ops sizes held =
     inr (inl (fault_outside s h m g.H.Digest.Spelled.spelling (g.H.Digest.Read.admits tt) g.V.Volume.tells _ (g.V.Volume.state c.args.vol.now) c.in-Err.error c.in-Err.ensures.fault told ops sizes was))
 
 pub returns-in-Ok-Some-clause-list : goal.returns-in-Ok-Some-clause-list
-returns-in-Ok-Some-clause-list g c = if_ok c.rebuild.result _ _ c.rebuild.ensures.list (λ r list told ops sizes held all ends.
+returns-in-Ok-Some-clause-list g c = if_ok c.rebuild.result _ _ c.rebuild.ensures.list (λ r list told ops sizes held all.
     let s = g.F.Family.shape in
     let h = g.H.Hasher.hash in
     let m = g.O.Logged.meaning in
@@ -85,7 +86,7 @@ returns-in-Ok-Some-clause-list g c = if_ok c.rebuild.result _ _ c.rebuild.ensure
     let ended = size_ended m ops sizes first c.in-Ok-Some.field-0-0-0 c.args.size kept_sizes here in
     let within = ended.0 in
     let allowed = subst (λ (d : DbView g.row.F.Denot g.row.H-Digest.Denot g.row.O.Denot g.row.O-Cfg.Denot). AllByRecursion (g.O.Read.admits d.codec) ops) (sym c.self.view_is) all in
-    list (take c.args.size ops) ends (omega (arith, few, length-take c.args.size ops)) (all_taken (g.O.Read.admits c.self.inside.codec) c.args.size ops allowed)
+    list (take c.args.size ops) ended.1 (omega (arith, few, length-take c.args.size ops)) (all_taken (g.O.Read.admits c.self.inside.codec) c.args.size ops allowed)
     (same ∙ front_witness s h m ops sizes first c.args.size c.requires within))
 
 pub returns-in-Ok-Some-clause-errors : goal.returns-in-Ok-Some-clause-errors

@@ -1,8 +1,10 @@
-use Rattle.std.proofs.Common.{◌≡◌, refl, ap, sym, subst}
+use Rattle.std.proofs.Common.{◌≡◌, refl, ◌∙◌, ap, sym, subst}
 use Rattle.log_model.specs.Operations.{leaves_from}
 use Rattle.tree_core.specs.Tree.{Tree, IsOf}
 use Rattle.compact_db.specs.DbView.{DbView, snapshot_of}
+use Rattle.chain_core.specs.declared.bounds.Bounds.{Bounds}
 use Rattle.compact_db.proofs.DbLemmas.{snapshot_is, bounds_by}
+use Rattle.compact_db.proofs.MarkLemmas.{snapshot_marks}
 use Rattle.compact_db.proofs.database.CompactDb.to_batch.Goals as goal
 
 pub returns-in-Ok-clause-inserted : goal.returns-in-Ok-clause-inserted
@@ -13,6 +15,9 @@ returns-in-Ok-clause-inserted g c =
       c.in-Ok.ensures.ok,
       c.new.ensures,
       bounds,
+      snapshot_marks g.F.Family.shape c.self.inside.merkle c.in_ok-tree.tree c.in_ok-bounds.bounds c.in_ok-tree.ensures.stands c.in_ok-tree.ensures.marked.1
+          (c.self.invariant.size ∙ ap (λ (d : DbView g.row.F.Denot g.row.H-Digest.Denot g.row.O.Denot g.row.O-Cfg.Denot). d.tip.witness.size) c.self.view_is ∙ sym (ap (λ (b : Bounds g.row.F.Denot g.row.H-Digest.Denot). b.db.size) bounds))
+          (ap (λ (b : Bounds g.row.F.Denot g.row.H-Digest.Denot). b.ancestors) bounds),
       λ list told.
           let tree : IsOf g.F.Family.shape g.H.Hasher.hash (leaves_from g.F.Family.shape g.H.Hasher.hash g.O.Logged.meaning 0 list) c.self.inside.merkle =
           subst (λ (t : Tree g.row.H-Digest.Denot). IsOf g.F.Family.shape g.H.Hasher.hash (leaves_from g.F.Family.shape g.H.Hasher.hash g.O.Logged.meaning 0 list) t)
