@@ -11,9 +11,11 @@ use Rattle.std.proofs.lemmas.Option.{none-some, same_Some, cond_some}
 use Rattle.chain_core.specs.Slots as slots
 use Rattle.chain_core.specs.Slots.{holds_of, IsAlive, link_held, link_released}
 use Rattle.chain_core.specs.Reached.{item_at}
+use Rattle.chain_core.specs.Answers.{IsOutside}
 use Rattle.chain_core.specs.States.{sizes}
 use Rattle.chain_core.specs.declared.bounds.Bounds.{Bounds}
 use Rattle.chain_core.specs.declared.commitment.Commitment.{Commitment}
+use Rattle.chain_core.specs.declared.error.Error.{Error}
 use Rattle.chain_core.specs.declared.pool.HeldBatch.{HeldBatch}
 use Rattle.tree_shape.specs.declared.mmr.Mmr.{Mmr}
 use Rattle.tree_shape.specs.declared.sha256.Sha256Digest.{Sha256Digest}
@@ -30,9 +32,10 @@ use Rattle.log_model.specs.declared.refusal.Refusal.TheVariants.{NoBatch, ValueT
 use Rattle.twin_run.specs.Operation.{Operation, meaning, one_list, same_operation, operation_decide}
 use Rattle.twin_run.specs.Commitments.{same_state, AreBounds}
 use Rattle.twin_run.specs.Told.{IsTold}
-use Rattle.twin_run.specs.Kind.{Kind, size_of, snapshot_of}
+use Rattle.volume_base.specs.Moments.{Image}
+use Rattle.twin_run.specs.Kind.{Kind, Kept, kept_of, with_list, IsKnown, size_of, snapshot_of}
 use Rattle.twin_run.specs.Step.{Outcome, refused, metadata_length, sealed_or_lost, seal_refusal, begin, begin_on, append_to, seal, apply, hold, release, snapshot, size, metadata}
-use Rattle.twin_run.specs.StateOf.{Likeness, LinkIs, IsUnsealedOf, IsItemOf, IsSealedOf, IsEntryOf, AreBatchesOf, AreFew, HasRoom, if_held, held_in, IsSealedAs, IsUnsealedAs, same_lists, any_lists, IsShaped, IsStateOf, Meets, Follows, FollowsTold}
+use Rattle.twin_run.specs.StateOf.{Likeness, LinkIs, IsUnsealedOf, IsItemOf, IsSealedOf, IsEntryOf, AreBatchesOf, AreFew, HasRoom, if_held, held_in, IsSealedAs, IsUnsealedAs, same_lists, any_lists, IsShaped, IsStateOf, Meets, AnyState, IsToldBy, Follows, Answers}
 use Rattle.twin_run.specs.declared.numbers.Batch.{Batch}
 use Rattle.twin_run.specs.declared.numbers.Batch.TheVariants.{Unsealed, Sealed, Gone}
 use Rattle.twin_run.specs.declared.numbers.Holding.{Holding}
@@ -250,15 +253,15 @@ module _ {Db S U : Type 0} (k : Kind Db S U) where
     few = subst (λ (p : List (Option (HeldBatch S))). AreFew n.taken p) (sym f) (subst (λ (t : ℕ). AreFew t pool) (sym g) few);
   }
 
-  pub state_from : (db : Db) (n : Numbers S U) (s : State Operation) (bs : List (Batch U)) (pool : List (Option (HeldBatch S))) → n.batches.items ≡ bs → n.pool ≡ pool → k.is_of s.ops s.start db
-      → AreBatchesOf (same_lists k) bs pool s.batches → IsStateOf k db n s
-  state_from db n s bs pool e f log is = record {
+  pub state_from : (image : Image) (db : Db) (n : Numbers S U) (s : State Operation) (bs : List (Batch U)) (pool : List (Option (HeldBatch S))) → n.batches.items ≡ bs → n.pool ≡ pool → k.is_of (kept_of s) image db
+      → AreBatchesOf (same_lists k) bs pool s.batches → IsStateOf k image db n s
+  state_from image db n s bs pool e f log is = record {
     log = log;
     batches = subst (λ (xs : List (Batch U)). AreBatchesOf (same_lists k) xs n.pool s.batches) (sym e) (subst (λ (p : List (Option (HeldBatch S))). AreBatchesOf (same_lists k) bs p s.batches) (sym f) is);
   }
 
-  pub meets : (db : Db) (new : Numbers S U) (o p : Outcome) (a : Answer) → o ≡ p → a ≡ p.0 → IsStateOf k db new p.1 → Meets k o db new a
-  meets db new o p a e same is = subst (λ (q : Outcome). Meets k q db new a) (sym e) (same, is)
+  pub meets : (image : Image) (db : Db) (new : Numbers S U) (o p : Outcome) (a : Answer) → o ≡ p → a ≡ p.0 → IsStateOf k image db new p.1 → Meets k o image db new a
+  meets image db new o p a e same is = subst (λ (q : Outcome). Meets k q image db new a) (sym e) (same, is)
 
   pub size_is : (u : U) (w : batches.UnsealedBatch Operation) → IsUnsealedAs k u w → size_of k u ≡ batches.size_of w
   size_is u w is =
@@ -267,12 +270,18 @@ module _ {Db S U : Type 0} (k : Kind Db S U) where
       let own = ap length is.pending in
       omega (arith, base, same, own)
 
-  pub size_answer : (db : Db) (n : Numbers S U) (s : State Operation) → IsStateOf k db n s → (length s.ops ≡ (k.state db).size) × (floor_of meaning s.ops ≡ k.floor db)
-  size_answer db n s is = (sym (ap (λ (d : Commitment Mmr Sha256Digest). d.size) (k.state_is s.ops s.start db is.log)), sym (k.floor_is s.ops s.start db is.log))
+  pub size_answer : (image : Image) (db : Db) (n : Numbers S U) (s : State Operation) → IsStateOf k image db n s → (length s.ops ≡ (k.state db).size) × (floor_of meaning s.ops ≡ k.floor db)
+  size_answer image db n s is = (sym (ap (λ (d : Commitment Mmr Sha256Digest). d.size) (k.state_is (kept_of s) image db is.log)), sym (k.floor_is (kept_of s) image db is.log))
 
-  -- what follows each state follows those of which size and root tell the lists
-  pub follows_told : (step : State Operation → Outcome) (db made : Db) (old new : Numbers S U) (a : Answer) → Follows k step db made old new a → FollowsTold k step db made old new a
-  follows_told step db made old new a f = record { shaped = f.shaped; follows = λ s told is. f.follows s is }
+  -- what answers over any contents goes on over these, as a step that is the same
+  pub answers_here : (of : State Operation → Type 0) (f step : State Operation → Outcome) (db made : Db) (old new : Numbers S U) (a : Answer) → Answers k of f db old new a → ((s : State Operation) → IsTold s → of s)
+      → ((s : State Operation) → step s ≡ f s) → made ≡ db → (image : Image) → Follows k IsTold step image image db made old new a
+  answers_here of f step db made old new a answers told same kept image = record {
+    shaped = (answers image).shaped;
+    follows = λ s by is.
+        subst (λ (o : Outcome). Meets k o image made new a) (sym (same s))
+        (subst (λ (d : Db). Meets k (f s) image d new a) (sym kept) ((answers image).follows s (told s by) is));
+  }
 
   module _ (db : Db) (old : Numbers S U) (sh : IsShaped k old) (new : Numbers S U) (taken : new.taken ≡ old.taken) where
     abbrev Old : List (Batch U)
@@ -284,14 +293,11 @@ module _ {Db S U : Type 0} (k : Kind Db S U) where
       still : IsShaped k new
       still = shape_from new Old old.pool old.taken sh.all items pool taken sh.batches sh.few
 
-      still_state : (s : State Operation) → IsStateOf k db old s → IsStateOf k db new s
-      still_state s is = state_from db new s Old old.pool items pool is.log is.batches
+      still_state : (image : Image) (s : State Operation) → IsStateOf k image db old s → IsStateOf k image db new s
+      still_state image s is = state_from image db new s Old old.pool items pool is.log is.batches
 
-      pub stays : (step : State Operation → Outcome) (a : Answer) → ((s : State Operation) → IsStateOf k db old s → step s ≡ (a, s)) → Follows k step db db old new a
-      stays step a e = record { shaped = still; follows = λ s is. meets db new (step s) (a, s) a (e s is) refl (still_state s is) }
-
-      pub stays_told : (step : State Operation → Outcome) (a : Answer) → ((s : State Operation) → IsTold s → IsStateOf k db old s → step s ≡ (a, s)) → FollowsTold k step db db old new a
-      stays_told step a e = record { shaped = still; follows = λ s told is. meets db new (step s) (a, s) a (e s told is) refl (still_state s is) }
+      pub stays : (of : State Operation → Type 0) (step : State Operation → Outcome) (a : Answer) → ((image : Image) (s : State Operation) → of s → IsStateOf k image db old s → step s ≡ (a, s)) → Answers k of step db old new a
+      stays of step a e = λ image. record { shaped = still; follows = λ s in_these is. meets image db new (step s) (a, s) a (e image s in_these is) refl (still_state image s is) }
 
     -- ---- a new batch
 
@@ -300,7 +306,7 @@ module _ {Db S U : Type 0} (k : Kind Db S U) where
       begun_few link held = few_held old.taken old.pool sh.few room.holds link held
 
       -- on the present list
-      module _ (parent : k.parent u ≡ None) (pool : new.pool ≡ old.pool) (list : (ops : List Operation) (start : ℕ) → k.is_of ops start db → k.is_unsealed ops u) where
+      module _ (parent : k.parent u ≡ None) (pool : new.pool ≡ old.pool) (list : (kept : Kept) (image : Image) → k.is_of kept image db → k.is_unsealed kept.ops u) where
         none_held : ForSome (k.parent u) (λ id. 0 < holds_of old.pool id)
         none_held = λ id e. absurd (none-some id (sym parent ∙ e))
 
@@ -310,16 +316,16 @@ module _ {Db S U : Type 0} (k : Kind Db S U) where
         none_link : LinkIs Old (length Old) (k.parent u) None
         none_link = subst (λ (l : Option ℕ). LinkIs Old (length Old) l None) (sym parent) tt
 
-        pub begun_here : Follows k (λ s. begin s None) db db old new (answer.Batch (length Old))
-        begun_here = record {
+        pub begun_here : Answers k AnyState (λ s. begin s None) db old new (answer.Batch (length Old))
+        begun_here = λ image. record {
           shaped =
               let made = batches_begun (any_lists k) Old old.pool sh.all sh.batches u (begun_on None []) tt none_link none_held in
               shape_from new (Old ++ (Unsealed u ∷ [])) (link_held old.pool (k.parent u)) old.taken _ items (pool ∙ sym none_pool) taken made (begun_few (k.parent u) none_held);
-          follows = λ s is.
+          follows = λ s any is.
               let w : batches.UnsealedBatch Operation = begun_on None s.ops in
-              let made = batches_begun (same_lists k) Old old.pool s.batches is.batches u w (record { list = list s.ops s.start is.log; base = refl; pending = sym pending }) none_link none_held in (
+              let made = batches_begun (same_lists k) Old old.pool s.batches is.batches u w (record { list = list (kept_of s) image is.log; base = refl; pending = sym pending }) none_link none_held in (
                 ap answer.Batch (sym is.batches.count),
-                state_from db new (begun s None s.ops) (Old ++ (Unsealed u ∷ [])) (link_held old.pool (k.parent u)) items (pool ∙ sym none_pool) is.log made,
+                state_from image db new (begun s None s.ops) (Old ++ (Unsealed u ∷ [])) (link_held old.pool (k.parent u)) items (pool ∙ sym none_pool) is.log made,
               );
         }
 
@@ -336,23 +342,23 @@ module _ {Db S U : Type 0} (k : Kind Db S U) where
         some_parent : 0 < holds_of old.pool j.id → ForSome (k.parent u) (λ id. 0 < holds_of old.pool id)
         some_parent held = λ id e. subst (λ i. 0 < holds_of old.pool i) (same_Some j.id id (sym parent ∙ e)) held
 
-        pub begun_on_batch : Follows k (λ s. begin s (Some p)) db db old new (answer.Batch (length Old))
-        begun_on_batch = record {
+        pub begun_on_batch : Answers k AnyState (λ s. begin s (Some p)) db old new (answer.Batch (length Old))
+        begun_on_batch = λ image. record {
           shaped =
               let t = held_there (any_lists k) Old old.pool sh.all sh.batches p j at in
               let held = some_parent t.pool_held in
               let made = batches_begun (any_lists k) Old old.pool sh.all sh.batches u (begun_on (Some p) []) tt some_link held in
               shape_from new (Old ++ (Unsealed u ∷ [])) (link_held old.pool (k.parent u)) old.taken _ items some_pool taken made (begun_few (k.parent u) held);
-          follows = λ s is.
+          follows = λ s any is.
               let t = held_there (same_lists k) Old old.pool s.batches is.batches p j at in
               let e = held_item (same_lists k) Old old.pool s.batches is.batches p j t in
               let w : batches.UnsealedBatch Operation = begun_on (Some p) t.batch.list in
               let same : IsUnsealedAs k u w = record { list = list e.0.item (item_is (same_lists k) Old old.pool s.batches is.batches p j t e.0 e.1) t.batch.list e.2.is.list; base = refl; pending = sym pending } in
               let made = batches_begun (same_lists k) Old old.pool s.batches is.batches u w same some_link (some_parent t.pool_held) in
-              meets db new (begin s (Some p)) (answer.Batch (length s.batches), begun s (Some p) t.batch.list) (answer.Batch (length Old))
+              meets image db new (begin s (Some p)) (answer.Batch (length s.batches), begun s (Some p) t.batch.list) (answer.Batch (length Old))
               (ap (begin_on s p) t.machine ∙ begin_held s p t.batch t.held)
               (ap answer.Batch (sym is.batches.count))
-              (state_from db new (begun s (Some p) t.batch.list) (Old ++ (Unsealed u ∷ [])) (link_held old.pool (k.parent u)) items some_pool is.log made);
+              (state_from image db new (begun s (Some p) t.batch.list) (Old ++ (Unsealed u ∷ [])) (link_held old.pool (k.parent u)) items some_pool is.log made);
         }
 
     -- ---- an append
@@ -361,35 +367,35 @@ module _ {Db S U : Type 0} (k : Kind Db S U) where
       abbrev Step : State Operation → Outcome
       Step s = append_to limit s b value (batch_at s b)
 
-      unsealed_here : (s : State Operation) → IsStateOf k db old s → (w : batches.UnsealedBatch Operation) × (batch_at s b ≡ batches.Unsealed w) × IsUnsealedOf (same_lists k) Old b u w
-      unsealed_here s is = unsealed_there (same_lists k) Old old.pool s.batches is.batches b u at
+      unsealed_here : (image : Image) (s : State Operation) → IsStateOf k image db old s → (w : batches.UnsealedBatch Operation) × (batch_at s b ≡ batches.Unsealed w) × IsUnsealedOf (same_lists k) Old b u w
+      unsealed_here image s is = unsealed_there (same_lists k) Old old.pool s.batches is.batches b u at
 
       module _ (items : new.batches.items ≡ Old) (pool : new.pool ≡ old.pool) where
-        pub append_too_long : limit < length value → Follows k (λ s. append_to limit s b value (batch_at s b)) db db old new (answer.Refused (ValueTooLong (length value)))
-        append_too_long long = stays items pool Step (answer.Refused (ValueTooLong (length value))) (λ s is. let w = unsealed_here s is in ap (append_to limit s b value) w.1 ∙ append_long s b w.0 limit value long)
+        pub append_too_long : limit < length value → Answers k AnyState (λ s. append_to limit s b value (batch_at s b)) db old new (answer.Refused (ValueTooLong (length value)))
+        append_too_long long = stays items pool AnyState Step (answer.Refused (ValueTooLong (length value))) (λ image s any is. let w = unsealed_here image s is in ap (append_to limit s b value) w.1 ∙ append_long s b w.0 limit value long)
 
-        pub append_no_room : (size : ℕ) → length value ≤ limit → size ≡ size_of k u → max_leaves ≤ size → Follows k (λ s. append_to limit s b value (batch_at s b)) db db old new (answer.Refused (LocationOverflow (size + 1)))
-        append_no_room size short here full = stays items pool Step (answer.Refused (LocationOverflow (size + 1))) (λ s is.
-            let w = unsealed_here s is in
+        pub append_no_room : (size : ℕ) → length value ≤ limit → size ≡ size_of k u → max_leaves ≤ size → Answers k AnyState (λ s. append_to limit s b value (batch_at s b)) db old new (answer.Refused (LocationOverflow (size + 1)))
+        append_no_room size short here full = stays items pool AnyState Step (answer.Refused (LocationOverflow (size + 1))) (λ image s any is.
+            let w = unsealed_here image s is in
             let same : size ≡ batches.size_of w.0 = here ∙ size_is u w.0 w.2.is in
             ap (append_to limit s b value) w.1 ∙ append_full s b w.0 limit value short (omega (arith, same, full)) ∙ ap (λ n. refused s (LocationOverflow (n + 1))) (sym same))
 
       module _ (v : U) (items : new.batches.items ≡ set Old b (Unsealed v)) (pool : new.pool ≡ old.pool) (parent : k.parent v ≡ k.parent u) (pending : k.pending v ≡ k.pending u ++ (Append value ∷ []))
           (list : (l : List Operation) → k.is_unsealed l u → k.is_unsealed l v) where
-        pub append_follows : length value ≤ limit → size_of k u < max_leaves → Follows k (λ s. append_to limit s b value (batch_at s b)) db db old new answer.Done
-        append_follows short few = record {
+        pub append_follows : length value ≤ limit → size_of k u < max_leaves → Answers k AnyState (λ s. append_to limit s b value (batch_at s b)) db old new answer.Done
+        append_follows short few = λ image. record {
           shaped =
               let w = unsealed_there (any_lists k) Old old.pool sh.all sh.batches b u at in
               shape_from new (set Old b (Unsealed v)) old.pool old.taken _ items pool taken
               (batches_appended (any_lists k) Old old.pool sh.all sh.batches b u at w.0 w.1 w.2 v (Append value) parent tt) sh.few;
-          follows = λ s is.
-              let w = unsealed_here s is in
+          follows = λ s any is.
+              let w = unsealed_here image s is in
               let same = size_is u w.0 w.2.is in
               let is_as : IsUnsealedAs k v (batches.appended w.0 (Append value)) = record { list = list w.0.list w.2.is.list; base = w.2.is.base; pending = ap (λ (ops : List Operation). ops ++ (Append value ∷ [])) w.2.is.pending ∙ sym pending } in
-              meets db new (append_to limit s b value (batch_at s b)) (answer.Done, with_batch s b (batches.Unsealed (batches.appended w.0 (Append value)))) answer.Done
+              meets image db new (append_to limit s b value (batch_at s b)) (answer.Done, with_batch s b (batches.Unsealed (batches.appended w.0 (Append value)))) answer.Done
               (ap (append_to limit s b value) w.1 ∙ append_done s b w.0 limit value short (omega (arith, same, few)))
               refl
-              (state_from db new (with_batch s b (batches.Unsealed (batches.appended w.0 (Append value)))) (set Old b (Unsealed v)) old.pool items pool is.log
+              (state_from image db new (with_batch s b (batches.Unsealed (batches.appended w.0 (Append value)))) (set Old b (Unsealed v)) old.pool items pool is.log
               (batches_appended (same_lists k) Old old.pool s.batches is.batches b u at w.0 w.1 w.2 v (Append value) parent is_as));
         }
 
@@ -399,8 +405,8 @@ module _ {Db S U : Type 0} (k : Kind Db S U) where
       at_shape : Held (any_lists k) Old old.pool sh.all b j
       at_shape = held_at (any_lists k) Old old.pool sh.all sh.batches b j at some
 
-      at_state : (s : State Operation) → IsStateOf k db old s → Held (same_lists k) Old old.pool s.batches b j
-      at_state s is = held_at (same_lists k) Old old.pool s.batches is.batches b j at some
+      at_state : (image : Image) (s : State Operation) → IsStateOf k image db old s → Held (same_lists k) Old old.pool s.batches b j
+      at_state image s is = held_at (same_lists k) Old old.pool s.batches is.batches b j at some
 
       link_is_held : ForSome (Some j.id) (λ id. 0 < holds_of old.pool id)
       link_is_held id e = let h = at_shape in subst (λ i. 0 < holds_of old.pool i) (same_Some j.id id e) h.pool_held
@@ -412,32 +418,32 @@ module _ {Db S U : Type 0} (k : Kind Db S U) where
       keeps_let_go c x is = record { list = is.list; base = is.base; boundary = is.boundary; tips = is.tips; floor = is.floor }
 
       module _ (room : HasRoom old) (items : new.batches.items ≡ set Old b (Sealed (record { id = j.id; holds = j.holds + 1 }))) (pool : new.pool ≡ link_held old.pool (Some j.id)) where
-        pub hold_follows : Follows k (λ s. hold s b (batch_at s b)) db db old new answer.Done
-        hold_follows = record {
+        pub hold_follows : Answers k AnyState (λ s. hold s b (batch_at s b)) db old new answer.Done
+        hold_follows = λ image. record {
           shaped =
               let t = at_shape in
               shape_from new _ _ old.taken _ items pool taken
               (batches_held (any_lists k) Old old.pool sh.all sh.batches b j t.sealed t.batch t.machine t.is t.some (record { id = j.id; holds = j.holds + 1 }) refl (batches.with_hold t.batch) (λ x h. h) refl refl refl)
               (few_held old.taken old.pool sh.few room.holds (Some j.id) link_is_held);
-          follows = λ s is.
-              let t = at_state s is in
-              meets db new (hold s b (batch_at s b)) (answer.Done, with_batch s b (batches.Sealed (batches.with_hold t.batch))) answer.Done (ap (hold s b) t.machine ∙ hold_done s b t.batch t.held) refl
-              (state_from db new (with_batch s b (batches.Sealed (batches.with_hold t.batch))) _ _ items pool is.log
+          follows = λ s any is.
+              let t = at_state image s is in
+              meets image db new (hold s b (batch_at s b)) (answer.Done, with_batch s b (batches.Sealed (batches.with_hold t.batch))) answer.Done (ap (hold s b) t.machine ∙ hold_done s b t.batch t.held) refl
+              (state_from image db new (with_batch s b (batches.Sealed (batches.with_hold t.batch))) _ _ items pool is.log
               (batches_held (same_lists k) Old old.pool s.batches is.batches b j t.sealed t.batch t.machine t.is t.some (record { id = j.id; holds = j.holds + 1 }) refl (batches.with_hold t.batch) (keeps_held t.batch) refl refl refl));
         }
 
       module _ (items : new.batches.items ≡ set Old b (Sealed (record { id = j.id; holds = j.holds - 1 }))) (pool : new.pool ≡ link_released old.pool (Some j.id)) where
-        pub let_go_follows : Follows k (λ s. release s b (batch_at s b)) db db old new answer.Done
-        let_go_follows = record {
+        pub let_go_follows : Answers k AnyState (λ s. release s b (batch_at s b)) db old new answer.Done
+        let_go_follows = λ image. record {
           shaped =
               let t = at_shape in
               shape_from new _ _ old.taken _ items pool taken
               (batches_released (any_lists k) Old old.pool sh.all sh.batches b j t.sealed t.batch t.machine t.is t.some (record { id = j.id; holds = j.holds - 1 }) refl (batches.without_hold t.batch) (λ x h. h) refl refl refl)
               (few_released old.taken old.pool sh.few (Some j.id) link_is_held);
-          follows = λ s is.
-              let t = at_state s is in
-              meets db new (release s b (batch_at s b)) (answer.Done, with_batch s b (batches.Sealed (batches.without_hold t.batch))) answer.Done (ap (release s b) t.machine ∙ release_done s b t.batch t.held) refl
-              (state_from db new (with_batch s b (batches.Sealed (batches.without_hold t.batch))) _ _ items pool is.log
+          follows = λ s any is.
+              let t = at_state image s is in
+              meets image db new (release s b (batch_at s b)) (answer.Done, with_batch s b (batches.Sealed (batches.without_hold t.batch))) answer.Done (ap (release s b) t.machine ∙ release_done s b t.batch t.held) refl
+              (state_from image db new (with_batch s b (batches.Sealed (batches.without_hold t.batch))) _ _ items pool is.log
               (batches_released (same_lists k) Old old.pool s.batches is.batches b j t.sealed t.batch t.machine t.is t.some (record { id = j.id; holds = j.holds - 1 }) refl (batches.without_hold t.batch) (keeps_let_go t.batch) refl refl refl));
         }
 
@@ -450,34 +456,34 @@ module _ {Db S U : Type 0} (k : Kind Db S U) where
           shape_from new _ _ old.taken _ items pool taken (batches_lost (any_lists k) Old old.pool sh.all sh.batches b u at w.0 w.1 w.2)
           (few_released old.taken old.pool sh.few (k.parent u) (parent_held (any_lists k) Old old.pool sh.all sh.batches b u at))
 
-      pub lost_state : (s : State Operation) → IsStateOf k db old s → IsStateOf k db new (with_batch s b batches.Gone)
-      lost_state s is =
+      pub lost_state : (image : Image) (s : State Operation) → IsStateOf k image db old s → IsStateOf k image db new (with_batch s b batches.Gone)
+      lost_state image s is =
           let w = unsealed_there (same_lists k) Old old.pool s.batches is.batches b u at in
-          state_from db new (with_batch s b batches.Gone) _ _ items pool is.log (batches_lost (same_lists k) Old old.pool s.batches is.batches b u at w.0 w.1 w.2)
+          state_from image db new (with_batch s b batches.Gone) _ _ items pool is.log (batches_lost (same_lists k) Old old.pool s.batches is.batches b u at w.0 w.1 w.2)
 
     -- ---- a snapshot
 
     module _ (room : HasRoom old) (x : S) (j : Holding) (number : j.id ≡ length old.pool) (once : j.holds ≡ 1) (items : new.batches.items ≡ Old ++ (Sealed j ∷ [])) (pool : new.pool ≡ old.pool ++ (Some (record { item = x; parent = None; holds = 1 }) ∷ []))
-        (bounds : k.bounds x ≡ snapshot_of k db) (list : (ops : List Operation) (start : ℕ) → k.is_of ops start db → k.is_sealed ops x) where
+        (bounds : k.bounds x ≡ snapshot_of k db) (list : (kept : Kept) (image : Image) → k.is_of kept image db → k.is_sealed kept.ops x) where
       abbrev Taken : HeldBatch S
       Taken = record { item = x; parent = None; holds = 1 }
 
       new_there : slots.slot_at (old.pool ++ (Some Taken ∷ [])) j.id ≡ Some Taken
       new_there = subst (λ i. slots.slot_at (old.pool ++ (Some Taken ∷ [])) i ≡ Some Taken) (sym number) (put_new old.pool (Some Taken))
 
-      taken_as : (s : State Operation) → k.is_of s.ops s.start db → IsSealedAs k x (batches.snapshot_of s.ops (floor_of meaning s.ops))
-      taken_as s log =
-          let size : length s.ops ≡ (k.state db).size = sym (ap (λ (d : Commitment Mmr Sha256Digest). d.size) (k.state_is s.ops s.start db log)) in
+      taken_as : (image : Image) (s : State Operation) → k.is_of (kept_of s) image db → IsSealedAs k x (batches.snapshot_of s.ops (floor_of meaning s.ops))
+      taken_as image s log =
+          let size : length s.ops ≡ (k.state db).size = sym (ap (λ (d : Commitment Mmr Sha256Digest). d.size) (k.state_is (kept_of s) image db log)) in
           record {
-            list = list s.ops s.start log;
+            list = list (kept_of s) image log;
             base = size ∙ sym (ap (λ (d : Bounds Mmr Sha256Digest). d.base.size) bounds);
             boundary = size ∙ sym (ap (λ (d : Bounds Mmr Sha256Digest). d.db.size) bounds);
             tips = sym (ap (λ (d : Bounds Mmr Sha256Digest). sizes d.ancestors) bounds);
-            floor = sym (ap (λ (d : Bounds Mmr Sha256Digest). d.inactivity_floor) bounds ∙ k.floor_is s.ops s.start db log);
+            floor = sym (ap (λ (d : Bounds Mmr Sha256Digest). d.inactivity_floor) bounds ∙ k.floor_is (kept_of s) image db log);
           }
 
-      pub snapshot_follows : Follows k snapshot db db old new (answer.Batch (length Old))
-      snapshot_follows = record {
+      pub snapshot_follows : Answers k AnyState snapshot db old new (answer.Batch (length Old))
+      snapshot_follows = λ image. record {
         shaped =
             let put = batches_put (any_lists k) Old old.pool sh.all sh.batches Taken (omega arith) in
             shape_from new _ _ old.taken _ items pool taken
@@ -485,62 +491,84 @@ module _ {Db S U : Type 0} (k : Kind Db S U) where
             (λ q i sealed same. let d = (sealed_there (any_lists k) Old old.pool sh.all sh.batches q i sealed).2.drawn in omega (arith, d, same, number))
             (record { is = tt; link = tt }))
             (few_put old.taken old.pool sh.few Taken room.drawn refl);
-        follows = λ s is.
+        follows = λ s any is.
             let put = batches_put (same_lists k) Old old.pool s.batches is.batches Taken (omega arith) in
             let c : batches.SealedBatch Operation = batches.snapshot_of s.ops (floor_of meaning s.ops) in (
               ap answer.Batch (sym is.batches.count),
-              state_from db new (snapshot s).1 _ _ items pool is.log
+              state_from image db new (snapshot s).1 _ _ items pool is.log
                   (batches_added (same_lists k) Old (old.pool ++ (Some Taken ∷ [])) s.batches put j c Taken new_there refl once refl
                   (λ q i sealed same. let d = (sealed_there (same_lists k) Old old.pool s.batches is.batches q i sealed).2.drawn in omega (arith, d, same, number))
-                  (record { is = taken_as s is.log; link = tt })),
+                  (record { is = taken_as image s is.log; link = tt })),
             );
       }
 
   -- ---- an apply
 
-  module _ (db : Db) (old : Numbers S U) (sh : IsShaped k old) (b : ℕ) (j : Holding) (at : held_in old.batches.items b ≡ Some j) {A E : Type 0} (r : Result A E)
+  module _ (image : Image) (db : Db) (old : Numbers S U) (sh : IsShaped k old) (b : ℕ) (j : Holding) (at : held_in old.batches.items b ≡ Some j) {A E : Type 0} (r : Result A E)
       (stands : (x : S) → item_at old.pool j.id ≡ Some x → Decides (is_ok r) (Contains ((k.bounds x).db ∷ (k.bounds x).ancestors) (k.state db))) where
-    there_in : (s : State Operation) → IsStateOf k db old s → Held (same_lists k) old.batches.items old.pool s.batches b j
+    there_in : (s : State Operation) → IsStateOf k image db old s → Held (same_lists k) old.batches.items old.pool s.batches b j
     there_in s is = held_there (same_lists k) old.batches.items old.pool s.batches is.batches b j at
 
+    -- what the pool keeps of it
+    item_in : (s : State Operation) (is : IsStateOf k image db old s) → (e : HeldBatch S) × (item_at old.pool j.id ≡ Some e.item) × IsSealedAs k e.item (there_in s is).batch
+    item_in s is =
+        let t = there_in s is in
+        let e = held_item (same_lists k) old.batches.items old.pool s.batches is.batches b j t in
+        (e.0, item_is (same_lists k) old.batches.items old.pool s.batches is.batches b j t e.0 e.1, e.2.is)
+
     -- where size and root tell the lists of the state, it may be applied where they say so
-    applies : (s : State Operation) → IsTold s → (is : IsStateOf k db old s) → may_apply one_list s (there_in s is).batch ≡ is_ok r
+    applies : (s : State Operation) → IsTold s → (is : IsStateOf k image db old s) → may_apply one_list s (there_in s is).batch ≡ is_ok r
     applies s told is =
         let t = there_in s is in
         let c : batches.SealedBatch Operation = t.batch in
-        let e = held_item (same_lists k) old.batches.items old.pool s.batches is.batches b j t in
+        let e = item_in s is in
         let x : S = e.0.item in
-        let fits = e.2.is in
+        let fits = e.2 in
         let bounds : AreBounds c.list (k.bounds x) = k.bounded c.list x fits.list in
-        let here = stands x (item_is (same_lists k) old.batches.items old.pool s.batches is.batches b j t e.0 e.1) in
-        let now = subst (λ (d : Commitment Mmr Sha256Digest). Decides (is_ok r) (Contains ((k.bounds x).db ∷ (k.bounds x).ancestors) d)) (k.state_is s.ops s.start db is.log) here in
+        let here = stands x e.1 in
+        let now = subst (λ (d : Commitment Mmr Sha256Digest). Decides (is_ok r) (Contains ((k.bounds x).db ∷ (k.bounds x).ancestors) d)) (k.state_is (kept_of s) image db is.log) here in
         let test = one_answer (is_ok r) (stands_on same_state s c.list (k.bounds x).db.size (sizes (k.bounds x).ancestors)) now (stands_decides s c.list (k.bounds x).db (k.bounds x).ancestors bounds.db bounds.ancestors) in
         sym (test ∙ stands_same same_state s c.list c.list (k.bounds x).db.size c.boundary (sizes (k.bounds x).ancestors) c.tips refl (sym fits.boundary) (sym fits.tips) ∙ told.applies b c t.machine)
 
-    pub apply_refused : is_ok r ≡ false → FollowsTold k (λ s. apply s b (batch_at s b)) db db old old (answer.Refused StaleBatch)
-    apply_refused unlike = record {
+    pub apply_refused : (tells : Type 0) → is_ok r ≡ false → Follows k (IsToldBy k tells) (λ s. apply s b (batch_at s b)) image image db db old old (answer.Refused StaleBatch)
+    apply_refused tells unlike = record {
       shaped = sh;
       follows = λ s told is.
           let t = there_in s is in
-          meets db old (apply s b (batch_at s b)) (refused s StaleBatch) (answer.Refused StaleBatch) (ap (apply s b) t.machine ∙ apply_stale s b t.batch t.held (applies s told is ∙ unlike)) refl is;
+          meets image db old (apply s b (batch_at s b)) (refused s StaleBatch) (answer.Refused StaleBatch) (ap (apply s b) t.machine ∙ apply_stale s b t.batch t.held (applies s told.1 is ∙ unlike)) refl is;
     }
 
-    pub apply_follows : is_ok r ≡ true → (made : Db)
-        → ((x : S) → item_at old.pool j.id ≡ Some x → (ops more : List Operation) (start : ℕ) → k.is_of ops start db → k.is_sealed (ops ++ more) x → k.is_of (ops ++ more) start made)
-        → FollowsTold k (λ s. apply s b (batch_at s b)) db made old old answer.Applied
-    apply_follows alike made goes = record {
-      shaped = sh;
-      follows = λ s told is.
-          let t = there_in s is in
-          let c : batches.SealedBatch Operation = t.batch in
-          let e = held_item (same_lists k) old.batches.items old.pool s.batches is.batches b j t in
-          let may : may_apply one_list s c ≡ true = applies s told is ∙ alike in
-          let more = begins_where s c.list c.boundary c.tips may in
-          let sealed : k.is_sealed (s.ops ++ more.0) e.0.item = subst (λ (l : List Operation). k.is_sealed l e.0.item) more.1 e.2.is.list in
-          let log : k.is_of (s.ops ++ more.0) s.start made = goes e.0.item (item_is (same_lists k) old.batches.items old.pool s.batches is.batches b j t e.0 e.1) s.ops more.0 s.start is.log sealed in
-          meets made old (apply s b (batch_at s b)) (answer.Applied, applied s c) answer.Applied (ap (apply s b) t.machine ∙ apply_done s b c t.held may) refl
-          (record { log = subst (λ (l : List Operation). k.is_of l s.start made) (sym more.1) log; batches = is.batches });
-    }
+    module _ (alike : is_ok r ≡ true) where
+      -- its list begins with the present one
+      begins_here : (s : State Operation) → IsTold s → (is : IsStateOf k image db old s) → (more : List Operation) × ((there_in s is).batch.list ≡ s.ops ++ more)
+      begins_here s told is = let c = (there_in s is).batch in begins_where s c.list c.boundary c.tips (applies s told is ∙ alike)
+
+      sealed_here : (s : State Operation) (told : IsTold s) (is : IsStateOf k image db old s) → k.is_sealed (s.ops ++ (begins_here s told is).0) (item_in s is).0.item
+      sealed_here s told is = subst (λ (l : List Operation). k.is_sealed l (item_in s is).0.item) (begins_here s told is).1 (item_in s is).2.list
+
+      pub apply_follows : (tells : Type 0) (after : Image) (made : Db)
+          → (IsKnown k tells → (x : S) → item_at old.pool j.id ≡ Some x → (kept : Kept) (more : List Operation) → k.is_of kept image db → k.is_sealed (kept.ops ++ more) x → k.is_of (with_list kept (kept.ops ++ more)) after made)
+          → Follows k (IsToldBy k tells) (λ s. apply s b (batch_at s b)) image after db made old old answer.Applied
+      apply_follows tells after made goes = record {
+        shaped = sh;
+        follows = λ s told is.
+            let t = there_in s is in
+            let c : batches.SealedBatch Operation = t.batch in
+            let e = item_in s is in
+            let more = begins_here s told.1 is in
+            let log : k.is_of (with_list (kept_of s) (s.ops ++ more.0)) after made = goes told.0 e.0.item e.1 (kept_of s) more.0 is.log (sealed_here s told.1 is) in
+            meets after made old (apply s b (batch_at s b)) (answer.Applied, applied s c) answer.Applied (ap (apply s b) t.machine ∙ apply_done s b c t.held (applies s told.1 is ∙ alike)) refl
+            (record { log = subst (λ (l : List Operation). k.is_of (with_list (kept_of s) l) after made) (sym more.1) log; batches = is.batches });
+      }
+
+      pub apply_fails : (tells : Type 0) (e : Error Mmr)
+          → (IsKnown k tells → (x : S) → item_at old.pool j.id ≡ Some x → (kept : Kept) (more : List Operation) → k.is_of kept image db → k.is_sealed (kept.ops ++ more) x
+          → Contains ((k.bounds x).db ∷ (k.bounds x).ancestors) (k.state db) → IsOutside e)
+          → (s : State Operation) → IsToldBy k tells s → IsStateOf k image db old s → IsOutside e
+      apply_fails tells e fails = λ s told is.
+          let x = item_in s is in
+          let more = begins_here s told.1 is in
+          fails told.0 x.0.item x.1 (kept_of s) more.0 is.log (sealed_here s told.1 is) ((stands x.0.item x.1).0 alike)
 
   -- ---- a side of no batches
 
@@ -550,8 +578,8 @@ module _ {Db S U : Type 0} (k : Kind Db S U) where
   pub opened_shape : (n : Numbers S U) → n.batches.items ≡ [] → n.pool ≡ [] → n.taken ≡ 0 → IsShaped k n
   opened_shape n items pool taken = shape_from n [] [] 0 [] items pool taken (none_of (any_lists k)) (record { drawn = omega arith; holds = λ id. omega arith })
 
-  pub opened_state : (db : Db) (n : Numbers S U) (s : State Operation) → s.batches ≡ [] → n.batches.items ≡ [] → n.pool ≡ [] → k.is_of s.ops s.start db → IsStateOf k db n s
-  opened_state db n s none items pool log = state_from db n s [] [] items pool log (rw none (none_of (same_lists k)))
+  pub opened_state : (image : Image) (db : Db) (n : Numbers S U) (s : State Operation) → s.batches ≡ [] → n.batches.items ≡ [] → n.pool ≡ [] → k.is_of (kept_of s) image db → IsStateOf k image db n s
+  opened_state image db n s none items pool log = state_from image db n s [] [] items pool log (rw none (none_of (same_lists k)))
 
   -- ---- a step is counted
 
@@ -569,5 +597,5 @@ module _ {Db S U : Type 0} (k : Kind Db S U) where
       holds = λ id. let few = sh.few.holds id in let n : holds_of new.pool id ≡ holds_of old.pool id = ap (λ (p : List (Option (HeldBatch S))). holds_of p id) pool in omega (arith, few, n, taken);
     }
 
-    pub counted_state : (db : Db) (s : State Operation) → IsStateOf k db old s → IsStateOf k db new s
-    counted_state db s is = state_from db new s old.batches.items old.pool (ap (λ v. v.items) items) pool is.log is.batches
+    pub counted_state : (image : Image) (db : Db) (s : State Operation) → IsStateOf k image db old s → IsStateOf k image db new s
+    counted_state image db s is = state_from image db new s old.batches.items old.pool (ap (λ v. v.items) items) pool is.log is.batches

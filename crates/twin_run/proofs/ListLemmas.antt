@@ -1,40 +1,35 @@
 -- Lists of the log, and what a seal makes of one.
-use Rattle.std.proofs.Common.{◌≡◌, ℕ, suc, ◌+◌, ◌-◌, ◌^◌, ◌<◌, ◌≤◌, Bool, true, false, cond, List, [], ◌∷◌, ◌++◌, length, get_or, map, Option, Some, None, refl, sym, ◌∙◌, ap, subst, append-nil, take, arith, inr}
-use Rattle.std.specs.Prelude.{nat_lt, IsSome, IfSome}
-use Rattle.std.specs.List.{AllByRecursion}
-use Rattle.std.specs.Option.{option_map_or}
-use Rattle.std.proofs.lemmas.Bool.Decides.{nat_tests}
-use Rattle.std.proofs.lemmas.List.{take_more, take_all}
+use Rattle.std.proofs.Common.{◌≡◌, ℕ, suc, ◌+◌, ◌-◌, ◌<◌, ◌≤◌, List, [], ◌∷◌, ◌++◌, length, get_or, Option, Some, refl, sym, ◌∙◌, ap, append-nil, take, arith}
+use Rattle.std.specs.Prelude.{IsSome}
+use Rattle.std.proofs.lemmas.List.{length-append, take_more, take_all}
 use Rattle.std.proofs.lemmas.List.Concat.{flat_map-append}
 use Rattle.std.proofs.lemmas.List.Folds.{length-flat_map-take}
-use Rattle.std.proofs.lemmas.Option.{none-some}
 use Rattle.tree_shape.specs.Mmr.{mmr}
-use Rattle.tree_shape.specs.Sha256Codec.{bytes_of}
 use Rattle.tree_shape.specs.declared.mmr.Mmr.{Mmr}
 use Rattle.tree_shape.specs.declared.sha256.Sha256Digest.{Sha256Digest}
+use Rattle.volume_base.specs.Moments.{Image}
 use Rattle.log_model.specs.Good.{EndsWithCommit}
-use Rattle.log_model.specs.Machine.{max_leaves}
+use Rattle.log_model.specs.Machine.{State}
 use Rattle.log_model.specs.Operations.{floor_of, last_value, leaves_from}
-use Rattle.log_model.specs.Refusals.{commit_refusal}
-use Rattle.log_model.specs.declared.refusal.Refusal.{Refusal}
 use Rattle.log_model.proofs.OperationLemmas.{floor_of_append, length-leaves_from, leaves_from-append}
-use Rattle.chain_core.specs.Reached.{items_at, linked_item, oldest_in, inherited_state}
-use Rattle.chain_core.specs.Sealing.{place_refusal, refusal_of}
+use Rattle.chain_core.specs.Chains.{IsPoolOf}
+use Rattle.chain_core.specs.Reached.{IsPlaceOf}
 use Rattle.chain_core.specs.declared.commitment.Commitment.{Commitment}
-use Rattle.chain_core.specs.declared.error.Error.{Error}
 use Rattle.chain_core.specs.declared.place.Place.{Place}
 use Rattle.chain_core.specs.declared.pool.HeldBatch.{HeldBatch}
-use Rattle.chain_core.proofs.StateLemmas.{whole, state_of_front, state_longer, states_longer, later_in}
+use Rattle.chain_core.proofs.ChainLemmas.{floor_last, sealed_bounds}
+use Rattle.chain_core.proofs.StateLemmas.{whole, state_of_front}
 use Rattle.twin_run.specs.Operation.{Operation, meaning, sha}
 use Rattle.twin_run.specs.Commitments as run
-use Rattle.twin_run.specs.Commitments.{IsStateIn, AreStatesIn, AreBounds}
+use Rattle.twin_run.specs.Commitments.{IsStateIn, AreBounds}
 use Rattle.twin_run.specs.Step.{root_of_list}
 use Rattle.twin_run.specs.Lists.{Part, joined}
-use Rattle.twin_run.specs.Kind.{StandsIn, IsPoolOf, HasPlace, WhyNotSealed, size_of}
 use Rattle.twin_run.specs.ListKind.{list_kind, bounds_of}
+use Rattle.twin_run.specs.StateOf.{IsStateOf}
 use Rattle.twin_run.specs.declared.batch.SealedBatch.{SealedBatch}
 use Rattle.twin_run.specs.declared.batch.UnsealedBatch.{UnsealedBatch}
 use Rattle.twin_run.specs.declared.list_db.ListDb.{ListDb}
+use Rattle.twin_run.specs.declared.numbers.Numbers.{Numbers}
 
 -- ---- what ends with a commit
 
@@ -126,69 +121,23 @@ leaves_few parts i n p own leaves lt is same are few =
 pub made_state : (c : Commitment Mmr Sha256Digest) (ops : List Operation) → c.size ≡ length ops → c.root ≡ root_of_list ops → c ≡ run.commitment_of ops
 made_state c ops p q i = record { size = p i; root = q i }
 
--- ---- why there is room
+-- ---- a batch that is sealed in its place
 
-room-if : (a b : Bool) (x z : Refusal) (y : Option Refusal) → cond a (cond b (Some x) y) (Some z) ≡ None → b ≡ false
-room-if true true x z y e = absurd (none-some x (sym e))
-room-if true false x z y e = refl
-room-if false b x z y e = absurd (none-some z (sym e))
+-- its states are those of its list with what is behind it, which a commit ends
+pub bounds_in : (pool : List (Option (HeldBatch SealedBatch))) (list own : List Operation) (parent : Option ℕ) (below floor fl : ℕ) (op : Operation) (base tip : Commitment Mmr Sha256Digest) (place : Place Mmr Sha256Digest)
+    → IsPlaceOf bounds_of pool parent base below place → IsPoolOf bounds_of mmr sha meaning pool parent list → base ≡ run.commitment_of list → tip ≡ run.commitment_of (list ++ (own ++ (op ∷ []))) → meaning.floor op ≡ Some floor → fl ≡ floor
+    → AreBounds (list ++ (own ++ (op ∷ []))) (record { base = base; db = place.boundary; tip = tip; ancestors = place.ancestors; inactivity_floor = fl })
+bounds_in pool list own parent below floor fl op base tip place at chain base_is tip_is floored same =
+    let ended = own ++ (op ∷ []) in
+    let in_list : IsStateIn list base = rw base_is (state_of_front mmr sha meaning list list (whole list)) in
+    let last : floor_of meaning (list ++ ended) ≡ floor = floor_of_append meaning list ended (omega (arith, length-append own (op ∷ []))) ∙ floor_last meaning own op floor floored in
+    (sealed_bounds bounds_of mmr sha meaning list pool parent base below place at in_list chain ended tip fl
+    (ap (λ (c : Commitment Mmr Sha256Digest). c.size) base_is)
+    (ap (λ (c : Commitment Mmr Sha256Digest). c.size) tip_is)
+    (ap (λ (c : Commitment Mmr Sha256Digest). c.root) tip_is) (same ∙ sym last)).bounds
 
-not_above : (m n : ℕ) → nat_lt m n ≡ false → n ≤ m
-not_above m n e = grind (arith, nat_tests)
+-- ---- a list in memory
 
--- a seal that nothing refuses leaves room for its commit
-pub room : (stands : Bool) (size below floor : ℕ) → commit_refusal stands size below floor ≡ None → size + 1 ≤ 2 ^ 62
-room stands size below floor e = not_above max_leaves (size + 1) (room-if stands (nat_lt max_leaves (size + 1)) _ _ _ e)
-
--- ---- the states of a batch that is sealed in its place
-
--- the refusal of a place is the error's
-pub told_by : (pool : List (Option (HeldBatch SealedBatch))) (u : UnsealedBatch) (db : ListDb) (size fl floor : ℕ) (current : Commitment Mmr Sha256Digest) (place : Place Mmr Sha256Digest) (e : Error Mmr) → HasPlace list_kind pool u db place
-    → current ≡ run.commitment_of db.list → size ≡ size_of list_kind u → fl ≡ floor
-    → IsSome (place_refusal bytes_of place current size fl) × (refusal_of e ≡ place_refusal bytes_of place current size fl) → WhyNotSealed list_kind pool u db floor e
-told_by pool u db size fl floor current place e at current_is size_is floor_is why =
-    let here : place_refusal bytes_of place (run.commitment_of db.list) (size_of list_kind u) floor ≡ refusal_of e =
-    subst (λ (c : Commitment Mmr Sha256Digest). place_refusal bytes_of place c (size_of list_kind u) floor ≡ refusal_of e) current_is
-    (subst (λ n. place_refusal bytes_of place current n floor ≡ refusal_of e) size_is (subst (λ n. place_refusal bytes_of place current size n ≡ refusal_of e) floor_is (sym why.1))) in
-    inr (subst (λ o. IsSome o) (sym why.1) why.0, record { place = place; place_of = at; why_is = here })
-
-module _ (list : List Operation) where
-  inherited_in : (o : Option SealedBatch) (base : Commitment Mmr Sha256Digest) → ((x : SealedBatch) → o ≡ Some x → IsStateIn list x.bounds.db) → IsStateIn list base → IsStateIn list (option_map_or (λ (x : SealedBatch). x.bounds.db) o base)
-  inherited_in None base told k = k
-  inherited_in (Some x) base told k = told x refl
-
-  oldest_in_list : (items : List SealedBatch) → AllByRecursion (StandsIn list_kind list) items → IfSome (oldest_in bounds_of items) (IsStateIn list)
-  oldest_in_list [] all = tt
-  oldest_in_list (x ∷ []) all = all.0.0
-  oldest_in_list (x ∷ next ∷ items) all = oldest_in_list (next ∷ items) all.1
-
-  tips_in_list : (items : List SealedBatch) → AllByRecursion (StandsIn list_kind list) items → AreStatesIn list (map (λ (x : SealedBatch). x.bounds.tip) items)
-  tips_in_list [] all = tt
-  tips_in_list (x ∷ items) all = (all.0.1, tips_in_list items all.1)
-
-  module _ (pool : List (Option (HeldBatch SealedBatch))) (u : UnsealedBatch) (db : ListDb) (place : Place Mmr Sha256Digest) (at : HasPlace list_kind pool u db place) (on : u.list ≡ list) (chain : IsPoolOf list_kind pool u.parent list) where
-    base_in : IsStateIn list (run.commitment_of u.list)
-    base_in = subst (λ (xs : List Operation). IsStateIn list (run.commitment_of xs)) (sym on) (state_of_front mmr sha meaning list list (whole list))
-
-    reached : AllByRecursion (StandsIn list_kind list) (items_at pool at.reach.ids)
-    reached = chain.reached at.reach.ids at.reach.reach
-
-    boundary_in : IsStateIn list place.boundary
-    boundary_in =
-        let oldest : IfSome at.oldest (IsStateIn list) = subst (λ o. IfSome o (IsStateIn list)) (sym at.reach.oldest_is) (oldest_in_list _ reached) in
-        subst (IsStateIn list) (sym at.boundary)
-        (later_in mmr sha meaning list (inherited_state bounds_of pool u.parent (run.commitment_of u.list)) at.oldest
-        (inherited_in (linked_item pool u.parent) (run.commitment_of u.list) chain.boundary base_in) oldest)
-
-    tips_in : AreStatesIn list place.ancestors
-    tips_in = subst (AreStatesIn list) (sym at.reach.tips_are) (tips_in_list _ reached)
-
-    -- they are states of the list with what is behind it
-    pub bounds_in : (own whole : List Operation) (base tip : Commitment Mmr Sha256Digest) (floor : ℕ) → whole ≡ list ++ own → base ≡ run.commitment_of u.list → tip ≡ run.commitment_of whole
-        → AreBounds whole (record { base = base; db = place.boundary; tip = tip; ancestors = place.ancestors; inactivity_floor = floor })
-    bounds_in own whole base tip floor is base_is tip_is = rw is (record {
-      base = rw base_is (state_longer mmr sha meaning list own (run.commitment_of u.list) base_in);
-      db = state_longer mmr sha meaning list own place.boundary boundary_in;
-      ancestors = states_longer mmr sha meaning list own place.ancestors tips_in;
-      tip = rw is at tip_is;
-    })
+-- what a volume holds tells nothing of it
+pub any_contents : (image other : Image) (db : ListDb) (n : Numbers SealedBatch UnsealedBatch) (s : State Operation) → IsStateOf list_kind image db n s → IsStateOf list_kind other db n s
+any_contents image other db n s is = record { log = is.log; batches = is.batches }

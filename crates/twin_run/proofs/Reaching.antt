@@ -21,9 +21,11 @@ use Rattle.log_model.proofs.ReachLemmas.{LinksFall, reach_end, reach_more, Begin
 use Rattle.tree_shape.specs.Mmr.{mmr}
 use Rattle.twin_run.specs.Operation.{Operation, meaning, sha}
 use Rattle.chain_core.specs.Reached.{one_or_none, item_at, linked_item, items_at, oldest_in, inherited_state, parent_floor, Reaches}
+use Rattle.chain_core.specs.Chains.{StandsIn, IsPoolOf}
 use Rattle.chain_core.specs.States.{sizes}
 use Rattle.twin_run.specs.Commitments.{IsStateIn, AreStatesIn, AreBounds}
-use Rattle.twin_run.specs.Kind.{Kind, StandsIn, IsPoolOf}
+use Rattle.volume_base.specs.Moments.{Image}
+use Rattle.twin_run.specs.Kind.{Kind, kept_of}
 use Rattle.twin_run.specs.StateOf.{Stands, LinkIs, IsUnsealedOf, IsItemOf, IsEntryOf, AreBatchesOf, same_lists}
 use Rattle.twin_run.specs.declared.numbers.Batch.{Batch}
 use Rattle.twin_run.specs.declared.numbers.Batch.TheVariants.{Gone}
@@ -69,7 +71,7 @@ module _ {Db S U : Type 0} (k : Kind Db S U) where
     mirrored_tips_in (d ∷ ds) [] m = absurd m
     mirrored_tips_in (d ∷ ds) (c ∷ cs) m = (m.0.tip_in, mirrored_tips_in ds cs m.1)
 
-    pub mirrored_stand : (ds : List S) (cs : List (batches.SealedBatch Operation)) → AllMirror list ds cs → AllByRecursion (StandsIn k list) ds
+    pub mirrored_stand : (ds : List S) (cs : List (batches.SealedBatch Operation)) → AllMirror list ds cs → AllByRecursion (StandsIn k.bounds mmr sha meaning list) ds
     mirrored_stand [] [] m = tt
     mirrored_stand [] (c ∷ cs) m = absurd m
     mirrored_stand (d ∷ ds) [] m = absurd m
@@ -200,7 +202,7 @@ module _ {Db S U : Type 0} (k : Kind Db S U) where
         mirror ids r = reached w.list ids b (k.parent u) w.parent was.link r front
 
         -- the pool is that of its list
-        pub pool_of : IsPoolOf k pool (k.parent u) w.list
+        pub pool_of : IsPoolOf k.bounds mmr sha meaning pool (k.parent u) w.list
         pool_of = record {
           boundary = boundary_in (k.parent u) w.parent was.link front;
           reached = λ ids r. mirrored_stand w.list (items_at pool ids) (reach s w) (mirror ids r);
@@ -236,17 +238,17 @@ module _ {Db S U : Type 0} (k : Kind Db S U) where
           inherits_in None (Some p) l f a = absurd l
           inherits_in (Some id) None l f a = absurd l
 
-          pub place_floor : (db : Db) → k.is_of s.ops s.start db → (link p : Option ℕ) → LinkIs bs b link p → ForSome link (IsAlive pool)
+          pub place_floor : (image : Image) (db : Db) → k.is_of (kept_of s) image db → (link p : Option ℕ) → LinkIs bs b link p → ForSome link (IsAlive pool)
               → parent_floor k.bounds pool link (k.floor db) ≡ option_map_or (λ (c : batches.SealedBatch Operation). c.floor) (linked s p) (floor_of meaning s.ops)
-          place_floor db of None None l a = k.floor_is s.ops s.start db of
-          place_floor db of (Some id) (Some p) l a =
+          place_floor image db of None None l a = k.floor_is (kept_of s) image db of
+          place_floor image db of (Some id) (Some p) l a =
               let e = alive_held (slots.slot_at pool id) (a id refl) in
               let c = linked_there p id e.0 l.1 e.1 in
               ap (λ (o : Option (HeldBatch S)). option_map_or (λ (x : S). (k.bounds x).inactivity_floor) (option_map (λ (b : HeldBatch S). b.item) o) (k.floor db)) e.1
               ∙ sym c.2.is.floor
               ∙ sym (ap (λ o. option_map_or (λ (x : batches.SealedBatch Operation). x.floor) o (floor_of meaning s.ops)) c.1)
-          place_floor db of None (Some p) l a = absurd l
-          place_floor db of (Some id) None l a = absurd l
+          place_floor image db of None (Some p) l a = absurd l
+          place_floor image db of (Some id) None l a = absurd l
 
           module _ (tips : List (Commitment Mmr Sha256Digest)) (oldest : Option (Commitment Mmr Sha256Digest)) (found : Reaches k.bounds pool (k.parent u) tips oldest) where
             here : AllMirror w.list (items_at pool found.ids) (reach s w)

@@ -1,9 +1,10 @@
 -- What a seal answers, and what it puts into the pool.
-use Rattle.std.proofs.Common.{◌≡◌, inl, inr, ℕ, List, [], ◌∷◌, ◌++◌, length, get_or, set, Option, Some, None, refl, sym, ◌∙◌, ap, ap₂, subst, arith}
+use Rattle.std.proofs.Common.{◌≡◌, inl, inr, ℕ, List, [], ◌∷◌, ◌++◌, ◌≤◌, length, get_or, set, Option, Some, None, refl, sym, ◌∙◌, ap, ap₂, subst, arith}
 use Rattle.std.specs.Prelude.{IsSome}
 use Rattle.std.specs.Option.{ForSome, option_map}
 use Rattle.std.proofs.lemmas.Option.{none-some, same_Some}
-use Rattle.chain_core.specs.Reached.{item_at}
+use Rattle.chain_core.specs.Chains.{IsPoolOf, IsRefusedBy, WhyUnsealed, IsSealedAt}
+use Rattle.chain_core.specs.Reached.{item_at, IsPlaceOf}
 use Rattle.chain_core.specs.Slots as slots
 use Rattle.chain_core.specs.Slots.{IsAlive, link_released}
 use Rattle.chain_core.specs.Sealing.{refusal_of, is_at, place_refusal}
@@ -24,12 +25,14 @@ use Rattle.log_model.specs.Machine.{State, batch_at, with_batch}
 use Rattle.log_model.specs.Reach.{may_seal, floor_below, sealed_here, effective_boundary, reach, tips_of}
 use Rattle.log_model.specs.declared.refusal.Refusal.{Refusal}
 use Rattle.op_codec.specs.declared.keyless.Operation.TheVariants.{Commit}
+use Rattle.command_text.specs.declared.command.Answer.{Answer}
 use Rattle.command_text.specs.declared.command.Answer.TheVariants as answer
 use Rattle.twin_run.specs.Operation.{Operation, meaning, sha}
 use Rattle.twin_run.specs.Commitments.{same_state, IsStateIn, AreBounds}
 use Rattle.twin_run.specs.Told.{IsTold}
-use Rattle.twin_run.specs.Kind.{Kind, size_of, IsPoolOf, HasPlace, IsRefused, WhyNotSealed, IsSealedIn}
-use Rattle.twin_run.specs.Step.{lost, done_sealing, sealed_or_lost, seal_refusal}
+use Rattle.volume_base.specs.Moments.{Image}
+use Rattle.twin_run.specs.Kind.{Kind, kept_of, size_of, sealing_of}
+use Rattle.twin_run.specs.Step.{lost, done_sealing, metadata_length, seal, sealed_or_lost, seal_refusal}
 use Rattle.twin_run.specs.StateOf.{IsUnsealedOf, HasRoom, IsSealedAs, same_lists, any_lists, IsShaped, IsStateOf, Meets}
 use Rattle.twin_run.specs.declared.numbers.Batch.{Batch}
 use Rattle.twin_run.specs.declared.numbers.Batch.TheVariants.{Unsealed, Sealed, Gone}
@@ -38,7 +41,7 @@ use Rattle.twin_run.specs.declared.numbers.Numbers.{Numbers}
 use Rattle.twin_run.proofs.Matching.{unsealed_there, parent_held, alive_where}
 use Rattle.twin_run.proofs.Changes.{batches_sealed, few_put, few_released}
 use Rattle.twin_run.proofs.Reaching.{pool_of, place_floor, place_tips, place_tips_in, place_boundary, place_boundary_in}
-use Rattle.twin_run.proofs.Handlers.{same_machine, stands_same, shape_from, state_from, meets, size_is}
+use Rattle.twin_run.proofs.Handlers.{same_machine, stands_same, shape_from, state_from, meets, size_is, seal_short}
 
 -- ---- what was put into the pool
 
@@ -57,17 +60,32 @@ module _ {S : Type 0} (pool new : List (Option (HeldBatch S))) (link : Option �
 -- ---- why a batch isn't sealed
 
 module _ {Db S U : Type 0} (k : Kind Db S U) (pool : List (Option (HeldBatch S))) (u : U) (db : Db) (floor : ℕ) where
-  pub why_refused : (e : Error Mmr) (r : Refusal) → WhyNotSealed k pool u db floor e → refusal_of e ≡ Some r → IsRefused k pool u db floor (Some r)
-  why_refused e r (inl memory) is = absurd (none-some r (sym (ap refusal_of memory) ∙ is))
-  why_refused e r (inr why) is = subst (IsRefused k pool u db floor) is why.1
+  -- an error is of a batch that isn't sealed
+  abbrev pub WhyHere : Error Mmr → Type 0
+  WhyHere e = WhyUnsealed k.bounds bytes_of pool (sealing_of k u) (k.state db) (k.floor db) floor e
 
-  pub why_memory : (e : Error Mmr) → WhyNotSealed k pool u db floor e → refusal_of e ≡ None → e ≡ Memory
+  -- its place refuses it
+  abbrev pub IsRefusedHere : Option Refusal → Type 0
+  IsRefusedHere why = IsRefusedBy k.bounds bytes_of pool (sealing_of k u) (k.state db) (k.floor db) floor why
+
+  pub why_refused : (e : Error Mmr) (r : Refusal) → WhyHere e → refusal_of e ≡ Some r → IsRefusedHere (Some r)
+  why_refused e r (inl memory) is = absurd (none-some r (sym (ap refusal_of memory) ∙ is))
+  why_refused e r (inr why) is = subst IsRefusedHere is why.1
+
+  pub why_memory : (e : Error Mmr) → WhyHere e → refusal_of e ≡ None → e ≡ Memory
   why_memory e (inl memory) is = memory
   why_memory e (inr why) is = absurd (none_is (refusal_of e) is why.0)
     where
       none_is : (o : Option Refusal) → o ≡ None → IsSome o → ⊥
       none_is None e h = cc
       none_is (Some x) e h = cc
+
+-- what ends an unsealed batch is what a seal does whose metadata isn't too long
+pub ended_meets : {Db S U : Type 0} (k : Kind Db S U) (limit b floor : ℕ) (metadata : Option (List ℕ)) (s : State Operation) (w : batches.UnsealedBatch Operation) → batch_at s b ≡ batches.Unsealed w → metadata_length metadata ≤ limit
+    → (image : Image) (db : Db) (new : Numbers S U) (a : Answer) → Meets k (sealed_or_lost s b w metadata floor (seal_refusal s w floor)) image db new a
+    → Meets k (seal limit s b metadata floor (batch_at s b)) image db new a
+ended_meets k limit b floor metadata s w machine short image db new a is =
+    subst (λ o. Meets k o image db new a) (sym (ap (seal limit s b metadata floor) machine ∙ seal_short s b w limit metadata floor short)) is
 
 module _ {Db S U : Type 0} (k : Kind Db S U) (old : Numbers S U) (b : ℕ) (u : U) (at : get_or old.batches.items b Gone ≡ Unsealed u) where
   abbrev Old : List (Batch U)
@@ -93,7 +111,7 @@ module _ {Db S U : Type 0} (k : Kind Db S U) (old : Numbers S U) (b : ℕ) (u : 
 
   -- ---- a state
 
-  module _ (db : Db) (s : State Operation) (told : IsTold s) (is : IsStateOf k db old s) (w : batches.UnsealedBatch Operation) (machine : batch_at s b ≡ batches.Unsealed w) where
+  module _ (image : Image) (db : Db) (s : State Operation) (told : IsTold s) (is : IsStateOf k image db old s) (w : batches.UnsealedBatch Operation) (machine : batch_at s b ≡ batches.Unsealed w) where
     was : IsUnsealedOf (same_lists k) Old b u w
     was = let t = unsealed_there (same_lists k) Old old.pool s.batches is.batches b u at in
         subst (IsUnsealedOf (same_lists k) Old b u) (same_machine t.0 w (sym t.1 ∙ machine)) t.2
@@ -101,10 +119,10 @@ module _ {Db S U : Type 0} (k : Kind Db S U) (old : Numbers S U) (b : ℕ) (u : 
     alive : ForSome (k.parent u) (IsAlive old.pool)
     alive = alive_where old.pool (k.parent u) (parent_held (same_lists k) Old old.pool s.batches is.batches b u at)
 
-    pub pool_here : IsPoolOf k old.pool (k.parent u) w.list
+    pub pool_here : IsPoolOf k.bounds mmr sha meaning old.pool (k.parent u) w.list
     pool_here = pool_of k Old old.pool s is.batches told.parents b u w machine was
 
-    module _ (place : Place Mmr Sha256Digest) (found : HasPlace k old.pool u db place) where
+    module _ (place : Place Mmr Sha256Digest) (found : IsPlaceOf k.bounds old.pool (k.parent u) (k.base u) (k.floor db) place) where
       boundary_size : place.boundary.size ≡ effective_boundary s w
       boundary_size = ap (λ (d : Commitment Mmr Sha256Digest). d.size) found.boundary ∙ place_boundary k Old old.pool s is.batches told.parents b u w machine was alive place.ancestors found.oldest found.reach
 
@@ -113,31 +131,31 @@ module _ {Db S U : Type 0} (k : Kind Db S U) (old : Numbers S U) (b : ℕ) (u : 
 
       stands_here : is_at bytes_of (k.state db) (place.boundary ∷ place.ancestors) ≡ may_seal same_state s w
       stands_here =
-          ap (λ (c : Commitment Mmr Sha256Digest). is_at bytes_of c (place.boundary ∷ place.ancestors)) (k.state_is s.ops s.start db is.log)
+          ap (λ (c : Commitment Mmr Sha256Digest). is_at bytes_of c (place.boundary ∷ place.ancestors)) (k.state_is (kept_of s) image db is.log)
           ∙ stands_there mmr sha meaning s w.list place.boundary place.ancestors
           (subst (IsStateIn w.list) (sym found.boundary) (place_boundary_in k Old old.pool s is.batches told.parents b u w machine was alive place.ancestors found.oldest found.reach))
           (place_tips_in k Old old.pool s is.batches told.parents b u w machine was alive place.ancestors found.oldest found.reach)
           ∙ stands_same same_state s w.list w.list place.boundary.size (effective_boundary s w) (sizes place.ancestors) (tips_of (reach s w)) refl boundary_size tips_are
 
       floor_is : place.floor ≡ floor_below meaning s w
-      floor_is = found.floor_is ∙ place_floor k Old old.pool s is.batches told.parents b u w machine was alive db is.log (k.parent u) w.parent was.link alive
+      floor_is = found.floor_is ∙ place_floor k Old old.pool s is.batches told.parents b u w machine was alive image db is.log (k.parent u) w.parent was.link alive
 
       -- its place refuses a seal exactly where the state does
       pub place_refuses : (floor : ℕ) → place_refusal bytes_of place (k.state db) (size_of k u) floor ≡ seal_refusal s w floor
       place_refuses floor = rw (stands_here ∙ told.seals b w machine, size_is k u w was.is, floor_is) refl
 
-    pub refused_here : (floor : ℕ) (why : Option Refusal) → IsRefused k old.pool u db floor why → seal_refusal s w floor ≡ why
+    pub refused_here : (floor : ℕ) (why : Option Refusal) → IsRefusedHere k old.pool u db floor why → seal_refusal s w floor ≡ why
     refused_here floor why r = sym (place_refuses r.place r.place_of floor) ∙ r.why_is
 
     module _ (metadata : Option (List ℕ)) (floor : ℕ) where
       -- a refusal loses it
-      pub lost_meets : (new : Numbers S U) (refusal : Refusal) → IsRefused k old.pool u db floor (Some refusal) → IsStateOf k db new (with_batch s b batches.Gone)
-          → Meets k (sealed_or_lost s b w metadata floor (seal_refusal s w floor)) db new (answer.Refused refusal)
+      pub lost_meets : (new : Numbers S U) (refusal : Refusal) → IsRefusedHere k old.pool u db floor (Some refusal) → IsStateOf k image db new (with_batch s b batches.Gone)
+          → Meets k (sealed_or_lost s b w metadata floor (seal_refusal s w floor)) image db new (answer.Refused refusal)
       lost_meets new refusal r gone =
-          meets k db new _ (lost s b refusal) (answer.Refused refusal) (ap (sealed_or_lost s b w metadata floor) (refused_here floor (Some refusal) r)) refl gone
+          meets k image db new _ (lost s b refusal) (answer.Refused refusal) (ap (sealed_or_lost s b w metadata floor) (refused_here floor (Some refusal) r)) refl gone
 
-      module _ (x : S) (in_place : IsSealedIn k old.pool u db floor (k.bounds x))
-          (sealed : (list : List Operation) → k.is_unsealed list u → IsPoolOf k old.pool (k.parent u) list → k.is_sealed (list ++ (k.pending u ++ (Commit metadata floor ∷ []))) x) where
+      module _ (x : S) (in_place : IsSealedAt k.bounds bytes_of old.pool (sealing_of k u) (k.state db) (k.floor db) floor (k.bounds x))
+          (sealed : (list : List Operation) → k.is_unsealed list u → IsPoolOf k.bounds mmr sha meaning old.pool (k.parent u) list → k.is_sealed (list ++ (k.pending u ++ (Commit metadata floor ∷ []))) x) where
         abbrev Made : batches.SealedBatch Operation
         Made = sealed_here s w (Commit metadata floor) floor
 
@@ -145,21 +163,21 @@ module _ {Db S U : Type 0} (k : Kind Db S U) (old : Numbers S U) (b : ℕ) (u : 
         made_as = record {
           list = subst (λ (ops : List Operation). k.is_sealed (w.list ++ (ops ++ (Commit metadata floor ∷ []))) x) (sym was.is.pending) (sealed w.list was.is.list pool_here);
           base = was.is.base ∙ sym (ap (λ (d : Commitment Mmr Sha256Digest). d.size) (in_place.base ∙ k.base_is w.list u was.is.list));
-          boundary = sym (ap (λ (d : Commitment Mmr Sha256Digest). d.size) in_place.db_is ∙ boundary_size in_place.place in_place.place_of);
+          boundary = sym (ap (λ (d : Commitment Mmr Sha256Digest). d.size) in_place.db ∙ boundary_size in_place.place in_place.place_of);
           tips = sym (ap sizes in_place.ancestors ∙ tips_are in_place.place in_place.place_of);
-          floor = sym in_place.floored;
+          floor = sym in_place.floor_is;
         }
 
         -- otherwise it is sealed
         pub sealed_meets : (new : Numbers S U) (j : Holding) (size : ℕ) (root : Sha256Digest) → j.id ≡ length old.pool → j.holds ≡ 1 → new.batches.items ≡ set Old b (Sealed j)
             → new.pool ≡ link_released old.pool (k.parent u) ++ (Some (record { item = x; parent = k.parent u; holds = 1 }) ∷ [])
             → size ≡ (k.bounds x).tip.size → root ≡ (k.bounds x).tip.root
-            → Meets k (sealed_or_lost s b w metadata floor (seal_refusal s w floor)) db new (answer.Sealed size root)
+            → Meets k (sealed_or_lost s b w metadata floor (seal_refusal s w floor)) image db new (answer.Sealed size root)
         sealed_meets new j size root number once items pool size_at root_at =
             let fits = made_as in
             let bounds : AreBounds Made.list (k.bounds x) = k.bounded Made.list x fits.list in
-            meets k db new _ (done_sealing s b Made) (answer.Sealed size root)
+            meets k image db new _ (done_sealing s b Made) (answer.Sealed size root)
             (ap (sealed_or_lost s b w metadata floor) (sym (place_refuses in_place.place in_place.place_of floor) ∙ in_place.may))
             (ap₂ answer.Sealed (size_at ∙ ap (λ (d : Commitment Mmr Sha256Digest). d.size) bounds.tip) (root_at ∙ ap (λ (d : Commitment Mmr Sha256Digest). d.root) bounds.tip))
-            (state_from k db new (with_batch s b (batches.Sealed Made)) _ _ items pool is.log
+            (state_from k image db new (with_batch s b (batches.Sealed Made)) _ _ items pool is.log
             (batches_sealed (same_lists k) Old old.pool s.batches is.batches b u at w machine was x Made fits refl refl j number once))

@@ -1,5 +1,5 @@
 -- What the database that is a list in memory and its batches stand for.
-use Rattle.std.specs.Prelude.{◌≡◌}
+use Rattle.std.specs.Prelude.{◌≡◌, []}
 use Rattle.std.proofs.Common.{ap}
 use Rattle.log_model.specs.Operations.{floor_of}
 use Rattle.chain_core.specs.declared.bounds.Bounds.{Bounds}
@@ -19,7 +19,7 @@ bounds_of x = x.bounds
 -- Each is its list, of which nothing is given up, and all are in memory.
 abbrev pub list_kind : Kind ListDb SealedBatch UnsealedBatch
 list_kind = record {
-  is_of = λ ops start db. (db.list ≡ ops) × (start ≡ 0);
+  is_of = λ kept image db. (db.list ≡ kept.ops) × (kept.start ≡ 0);
   is_sealed = λ list x. (x.list ≡ list) × AreBounds list x.bounds;
   is_unsealed = λ list u. u.list ≡ list;
   state = λ db. commitment_of db.list;
@@ -28,9 +28,11 @@ list_kind = record {
   base = λ u. commitment_of u.list;
   pending = λ u. u.own.items;
   parent = λ u. u.parent;
+  names = λ db. record { logs = []; maps = [] };
   in_memory = Unit {0};
-  state_is = λ ops start db is. ap commitment_of is.0;
-  floor_is = λ ops start db is. ap (floor_of meaning) is.0;
+  state_is = λ kept image db is. ap commitment_of is.0;
+  floor_is = λ kept image db is. ap (floor_of meaning) is.0;
   bounded = λ list x is. is.1;
   base_is = λ list u is. ap commitment_of is;
+  framed = λ kept image other db logs maps is. is;
 }

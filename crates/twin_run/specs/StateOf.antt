@@ -1,8 +1,9 @@
 -- What a side of the run keeps in memory, and what it means.
 use Rattle.std.specs.Prelude.{◌≡◌, ℕ, ◌+◌, ◌^◌, ◌<◌, ◌≤◌, nat_lt, List, length, slice_index_or, Option, Some, None, if◌then◌else◌}
 use Rattle.std.specs.List.{count_by}
+use Rattle.volume_base.specs.Moments.{Image}
 use Rattle.log_model.specs.StateBatches as batches
-use Rattle.log_model.specs.Machine.{State, batch_at}
+use Rattle.log_model.specs.Machine.{State}
 use Rattle.log_model.specs.Reach.{is_child, link_bound}
 use Rattle.twin_run.specs.Operation.{Operation}
 use Rattle.chain_core.specs.Slots.{slot_at, holds_of}
@@ -10,8 +11,8 @@ use Rattle.chain_core.specs.States.{sizes}
 use Rattle.chain_core.specs.declared.pool.HeldBatch.{HeldBatch}
 use Rattle.command_text.specs.declared.command.Answer.{Answer}
 use Rattle.command_text.specs.declared.command.Reply.{Reply}
-use Rattle.twin_run.specs.Kind.{Kind}
-use Rattle.twin_run.specs.Step.{Outcome, reply, sealed_or_lost, seal_refusal}
+use Rattle.twin_run.specs.Kind.{Kind, kept_of, IsKnown}
+use Rattle.twin_run.specs.Step.{Outcome, reply}
 use Rattle.twin_run.specs.Told.{IsTold}
 use Rattle.twin_run.specs.declared.numbers.Batch.{Batch}
 use Rattle.twin_run.specs.declared.numbers.Holding.{Holding}
@@ -107,6 +108,10 @@ pub record AreFew {S : Type 0} (n : ℕ) (pool : List (Option (HeldBatch S))) : 
 
 -- ---- a side
 
+-- any state
+abbrev pub AnyState : State Operation → Type 0
+AnyState s = Unit {0}
+
 -- A step has begun: it was counted, and it has drawn no number and held no batch yet.
 pub record HasRoom {S U : Type 0} (n : Numbers S U) : Type 0 where
   pub within : n.taken < 2 ^ 64
@@ -139,35 +144,32 @@ module _ {Db S U : Type 0} (k : Kind Db S U) where
     pub batches : AreBatchesOf any_lists n.batches.items n.pool all
     pub few : AreFew n.taken n.pool
 
-  -- A side stands for a state of the list machine: its database is the list's, and its batches are the state's.
-  pub record IsStateOf (db : Db) (n : Numbers S U) (s : State Operation) : Type 0 where
-    pub log : k.is_of s.ops s.start db
+  -- With these contents of a volume a side stands for a state of the list machine: its database is what is kept of the state, and its batches are
+  -- the state's.
+  pub record IsStateOf (image : Image) (db : Db) (n : Numbers S U) (s : State Operation) : Type 0 where
+    pub log : k.is_of (kept_of s) image db
     pub batches : AreBatchesOf same_lists n.batches.items n.pool s.batches
 
   -- An answer, and the side after it, are an outcome.
-  abbrev pub Meets : Outcome → Db → Numbers S U → Answer → Type 0
-  Meets o db n a = (a ≡ o.0) × IsStateOf db n o.1
+  abbrev pub Meets : Outcome → Image → Db → Numbers S U → Answer → Type 0
+  Meets o image db n a = (a ≡ o.0) × IsStateOf image db n o.1
 
   -- A reply tells an outcome, and the side after it stands for the state that the outcome leaves.
-  abbrev pub RepliesAs : Outcome → Db → Numbers S U → Reply → Type 0
-  RepliesAs o db n r = (r ≡ reply o) × IsStateOf db n o.1
+  abbrev pub RepliesAs : Outcome → Image → Db → Numbers S U → Reply → Type 0
+  RepliesAs o image db n r = (r ≡ reply o) × IsStateOf image db n o.1
 
-  -- A step keeps the shape; and for whatever state the side stood, its answer and what it left are what the list machine makes of that state.
-  pub record Follows (step : State Operation → Outcome) (db made : Db) (old new : Numbers S U)
-      (a : Answer) : Type 0 where
+  -- A step keeps the shape; and for whatever state of these the side stood, its answer and what it left are what the list machine makes of that
+  -- state.
+  pub record Follows (of : State Operation → Type 0) (step : State Operation → Outcome) (was is : Image) (db made : Db)
+      (old new : Numbers S U) (a : Answer) : Type 0 where
     pub shaped : IsShaped new
-    pub follows : (s : State Operation) → IsStateOf db old s → Meets (step s) made new a
+    pub follows : (s : State Operation) → of s → IsStateOf was db old s → Meets (step s) is made new a
 
-  -- So for each state of which size and root tell the lists.
-  pub record FollowsTold (step : State Operation → Outcome) (db made : Db) (old new : Numbers S U)
-      (a : Answer) : Type 0 where
-    pub shaped : IsShaped new
-    pub follows : (s : State Operation) → IsTold s → IsStateOf db old s → Meets (step s) made new a
+  -- So over any contents, where neither these nor the database are touched.
+  abbrev pub Answers : (State Operation → Type 0) → (State Operation → Outcome) → Db → Numbers S U → Numbers S U → Answer
+      → Type 0
+  Answers of step db old new a = (image : Image) → Follows of step image image db db old new a
 
-  -- A commit has ended batch b, which was unsealed, or it is lost.
-  pub record Ends (b : ℕ) (metadata : Option (List ℕ)) (floor : ℕ) (db made : Db) (old new : Numbers S U)
-      (a : Answer) : Type 0 where
-    pub shaped : IsShaped new
-    pub ends : (s : State Operation) (w : batches.UnsealedBatch Operation) → IsTold s → IsStateOf db old s
-        → batch_at s b ≡ batches.Unsealed w
-        → Meets (sealed_or_lost s b w metadata floor (seal_refusal s w floor)) made new a
+  -- Size and root tell the lists of a state, and what is said of contents is known.
+  abbrev pub IsToldBy : Type 0 → State Operation → Type 0
+  IsToldBy tells s = IsKnown k tells × IsTold s

@@ -1,13 +1,19 @@
 //! A database of the run: what a side asks of it.
-ghost use Rattle.std.specs.Prelude.{◌≡◌, ◌↔◌, ℕ, ◌<◌, ◌+◌, ◌-◌, ◌^◌, ◌++◌, ◌∷◌, [], List, length, Some, None, IsOk, IfOk, IfErr, OnOk, OnErr, IsOkUnless, Contains};
+ghost use Rattle.std.specs.Prelude.{◌≡◌, ◌↔◌, ◌<◌, ◌+◌, ◌-◌, ◌^◌, ◌++◌, ◌∷◌, [], List, length, Some, None, IsOk, IfOk, IfErr, OnOk, OnErr, IsOkUnless, Contains};
 ghost use Rattle.std.specs.Option.{ForSome};
 ghost use Rattle.log_model.specs.Operations.{last_value};
+ghost use Rattle.chain_core.specs.Answers.{IsOutside};
+ghost use Rattle.chain_core.specs.Chains.{IsPoolOf, IsSealedAt, WhyUnsealed};
 ghost use Rattle.chain_core.specs.Reached.{item_at};
 ghost use Rattle.chain_core.specs.Slots.{IsAlive, holds_of, link_held, link_released};
 ghost use Rattle.op_codec.specs.declared.keyless.Operation.TheVariants.{Append, Commit};
+ghost use Rattle.tree_shape.specs.Mmr.{mmr};
+ghost use Rattle.tree_shape.specs.Sha256Codec.{bytes_of};
+ghost use Rattle.volume_base.specs.Moments.{Image, present};
+ghost use Rattle.volume_base.specs.Names.{NamesCall};
 ghost use Rattle.volume_base.specs.Volume.{Writes};
-ghost use Rattle.twin_run.specs.Operation.{Operation, meaning};
-ghost use Rattle.twin_run.specs.Kind.{Kind, size_of, IsPoolOf, IsSealedIn, WhyNotSealed, snapshot_of};
+ghost use Rattle.twin_run.specs.Operation.{Operation, meaning, sha};
+ghost use Rattle.twin_run.specs.Kind.{Kind, Kept, with_list, IsKnown, size_of, sealing_of, snapshot_of};
 
 use chain_core::{BatchId, Bounds, Commitment, Error, Pool};
 use codec_base::Bytes;
@@ -32,18 +38,19 @@ pub trait Database: Drop + Sized {
     fn floor(&self) -> u64
         ensures { result ≡ kind.floor self.now };
 
-    /// A copy of the last commit's metadata.
-    fn metadata(&self) -> Result<Option<Bytes>, Error<Mmr>>
-        ensures value { IfOk result (λ value. (ops : List Operation) (start : ℕ) → kind.is_of ops start self.now →
-            value ≡ last_value meaning ops) }
+    /// A copy of the last commit's metadata. The volume isn't touched.
+    fn metadata<V: Volume>(&self, volume: &mut V) -> Result<Option<Bytes>, Error<Mmr>>
+        ensures value { IfOk result (λ value. (kept : Kept) (image : Image) → kind.is_of kept image self.now →
+            value ≡ last_value meaning kept.ops) }
+        ensures still { volume.new ≡ volume.old }
         ensures memory { IsOkUnless result Error.Memory };
 
     /// A batch on the log.
     fn new_batch(&self) -> Result<Self::Unsealed, Error<Mmr>>
         ensures pending { IfOk result (λ u. kind.pending u ≡ []) }
         ensures parent { IfOk result (λ u. kind.parent u ≡ None) }
-        ensures list { IfOk result (λ u. (ops : List Operation) (start : ℕ) → kind.is_of ops start self.now →
-            kind.is_unsealed ops u) }
+        ensures list { IfOk result (λ u. (kept : Kept) (image : Image) → kind.is_of kept image self.now →
+            kind.is_unsealed kept.ops u) }
         ensures memory { IsOkUnless result Error.Memory };
 
     /// A batch on a sealed one, which it holds.
@@ -51,6 +58,7 @@ pub trait Database: Drop + Sized {
         requires alive { IsAlive pool.old id }
         requires room { holds_of pool.old id < 2 ^ 64 - 1 }
         ensures held { OnOk result (pool.new ≡ link_held pool.old (Some id)) }
+        ensures err { OnErr result (pool.new ≡ pool.old) }
         ensures pending { IfOk result (λ u. kind.pending u ≡ []) }
         ensures parent { IfOk result (λ u. kind.parent u ≡ Some id) }
         ensures list { IfOk result (λ u. (x : Self.Sealed) → item_at pool.old id ≡ Some x →
@@ -91,11 +99,14 @@ pub trait Database: Drop + Sized {
         ensures inserted { OnOk result ((x : Self.Sealed)
             × (pool.new ≡ link_released pool.old (kind.parent batch) ++
             Some (record { item = x; parent = kind.parent batch; holds = 1 }) ∷ [])
-            × IsSealedIn kind pool.old batch self.now floor (kind.bounds x)
-            × ((list : List Operation) → kind.is_unsealed list batch → IsPoolOf kind pool.old (kind.parent batch) list →
+            × IsSealedAt kind.bounds bytes_of pool.old (sealing_of kind batch) (kind.state self.now) (kind.floor self.now) floor
+            (kind.bounds x)
+            × ((list : List Operation) → kind.is_unsealed list batch →
+            IsPoolOf kind.bounds mmr sha meaning pool.old (kind.parent batch) list →
             kind.is_sealed (list ++ (kind.pending batch ++ Commit metadata floor ∷ [])) x)) }
         ensures released { OnErr result (pool.new ≡ link_released pool.old (kind.parent batch)) }
-        ensures refused { IfErr result (WhyNotSealed kind pool.old batch self.now floor) };
+        ensures refused { IfErr result (WhyUnsealed kind.bounds bytes_of pool.old (sealing_of kind batch)
+            (kind.state self.now) (kind.floor self.now) floor) };
 
     /// The states of a sealed batch.
     fn bounds(batch: &Self::Sealed) -> &Bounds<Mmr, Sha256Digest>
@@ -108,7 +119,8 @@ pub trait Database: Drop + Sized {
         ensures inserted { OnOk result ((x : Self.Sealed)
             × (pool.new ≡ pool.old ++ Some (record { item = x; parent = None; holds = 1 }) ∷ [])
             × (kind.bounds x ≡ snapshot_of kind self.now)
-            × ((ops : List Operation) (start : ℕ) → kind.is_of ops start self.now → kind.is_sealed ops x)) }
+            × ((kept : Kept) (image : Image) → kind.is_of kept image self.now → kind.is_sealed kept.ops x)) }
+        ensures err { OnErr result (pool.new ≡ pool.old) }
         ensures memory { IsOkUnless result Error.Memory };
 
     /// Whether a sealed batch may be applied here: at its boundary, or at the tip of an ancestor. It refuses with `StaleBatch`.
@@ -118,7 +130,7 @@ pub trait Database: Drop + Sized {
             (IsOk result ↔ Contains ((kind.bounds x).db ∷ (kind.bounds x).ancestors) (kind.state self.now)) }
         ensures stale { IsOkUnless result Error.StaleBatch };
 
-    /// The database whose list is that of a sealed batch.
+    /// The database whose list is that of a sealed batch. Of contents it says something where it keeps none, or where the volume tells them.
     fn apply<V: Volume>(
         self,
         volume: &mut V,
@@ -127,9 +139,18 @@ pub trait Database: Drop + Sized {
     ) -> Result<Self, Error<Mmr>>
         requires { IsAlive pool.now id }
         // Of a batch of a list that begins with the database's it makes that list's database, which keeps what it kept.
-        ensures list { IfOk result (λ made. (x : Self.Sealed) → item_at pool.now id ≡ Some x →
-            (ops more : List Operation) (start : ℕ) → kind.is_of ops start self → kind.is_sealed (ops ++ more) x →
-            kind.is_of (ops ++ more) start made) }
+        ensures list { IfOk result (λ made. IsKnown kind V.tells → (x : Self.Sealed) → item_at pool.now id ≡ Some x →
+            (kept : Kept) (more : List Operation) → kind.is_of kept (present (V.state volume.old)) self →
+            kind.is_sealed (kept.ops ++ more) x →
+            kind.is_of (with_list kept (kept.ops ++ more)) (present (V.state volume.new)) made) }
+        // Of such a batch, where it may be applied, it fails by the volume or for want of memory alone.
+        ensures errors { IfErr result (λ e. IsKnown kind V.tells → (x : Self.Sealed) → item_at pool.now id ≡ Some x →
+            (kept : Kept) (more : List Operation) → kind.is_of kept (present (V.state volume.old)) self →
+            kind.is_sealed (kept.ops ++ more) x →
+            Contains ((kind.bounds x).db ∷ (kind.bounds x).ancestors) (kind.state self) → IsOutside e) }
+        // Whatever it answers, it touches its own logs and maps alone.
+        ensures names { V.tells → NamesCall (kind.names self) (V.state volume.old) (V.state volume.new) }
+        ensures same_names { IfOk result (λ made. kind.names made ≡ kind.names self) }
         ensures writes { Writes V.tells Error.Volume (V.state volume.old) (V.state volume.new) result }
         ensures still { kind.in_memory → volume.new ≡ volume.old }
         ensures memory { kind.in_memory → IsOkUnless result Error.Memory };

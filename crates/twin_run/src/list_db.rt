@@ -18,12 +18,15 @@ pub struct ListDb {
 
 ghost use Rattle.std.specs.Prelude.{◌≡◌, ◌≤◌, ◌<◌, ◌+◌, ◌^◌, ◌-◌, ◌++◌, ◌∷◌, [], List, length, None, IfOk, IfErr, IsOkUnless};
 ghost use Rattle.std.specs.Option.{ForSome};
+ghost use Rattle.chain_core.specs.Chains.{IsPoolOf, IsSealedAt, WhyUnsealed};
 ghost use Rattle.chain_core.specs.Slots.{IsAlive};
 ghost use Rattle.op_codec.specs.declared.keyless.Operation.TheVariants.{Commit};
-ghost use Rattle.twin_run.specs.Operation.{Operation};
+ghost use Rattle.tree_shape.specs.Mmr.{mmr};
+ghost use Rattle.tree_shape.specs.Sha256Codec.{bytes_of};
+ghost use Rattle.twin_run.specs.Operation.{Operation, meaning, sha};
 ghost use Rattle.twin_run.specs.Step.{plain_commit};
-ghost use Rattle.twin_run.specs.Kind.{IsPoolOf, IsSealedIn, WhyNotSealed};
-ghost use Rattle.twin_run.specs.ListKind.{list_kind};
+ghost use Rattle.twin_run.specs.Kind.{sealing_of};
+ghost use Rattle.twin_run.specs.ListKind.{list_kind, bounds_of};
 
 /// The list of a batch, ended by a commit.
 fn ended(batch: UnsealedBatch, metadata: Option<Bytes>, floor: u64) -> Result<LogList, CodecError>
@@ -56,10 +59,12 @@ impl ListDb {
         floor: u64,
     ) -> Result<SealedBatch, Error<Mmr>>
         requires { ForSome batch.parent (IsAlive pool.now) }
-        ensures sealed { IfOk result (λ x. IsSealedIn list_kind pool.now batch self.now floor x.bounds) }
-        ensures list { IfOk result (λ x. IsPoolOf list_kind pool.now batch.parent batch.list →
+        ensures sealed { IfOk result (λ x. IsSealedAt bounds_of bytes_of pool.now (sealing_of list_kind batch)
+            (list_kind.state self.now) (list_kind.floor self.now) floor x.bounds) }
+        ensures list { IfOk result (λ x. IsPoolOf bounds_of mmr sha meaning pool.now batch.parent batch.list →
             list_kind.is_sealed (batch.list ++ (batch.own.items ++ Commit metadata floor ∷ [])) x) }
-        ensures refused { IfErr result (WhyNotSealed list_kind pool.now batch self.now floor) }
+        ensures refused { IfErr result (WhyUnsealed bounds_of bytes_of pool.now (sealing_of list_kind batch)
+            (list_kind.state self.now) (list_kind.floor self.now) floor) }
     {
         let base = batch.list.state();
         let below = Location::new(self.list.floor());
@@ -100,7 +105,7 @@ impl Database for ListDb {
         self.list.floor()
     }
 
-    fn metadata(&self) -> Result<Option<Bytes>, Error<Mmr>> {
+    fn metadata<V: Volume>(&self, _volume: &mut V) -> Result<Option<Bytes>, Error<Mmr>> {
         match self.list.last_value() {
             Ok(value) => Ok(value),
             Err(_) => Err(Error::Memory),

@@ -6,7 +6,8 @@ ghost use Rattle.twin_run.specs.Step.{step, reply};
 ghost use Rattle.twin_run.specs.Told.{IsTold};
 ghost use Rattle.twin_run.specs.Trace.{fresh_state};
 ghost use Rattle.twin_run.specs.ListKind.{list_kind};
-ghost use Rattle.twin_run.specs.StateOf.{IsShaped, HasRoom, IsStateOf, RepliesAs, FollowsTold};
+ghost use Rattle.volume_base.specs.Moments.{Image, present};
+ghost use Rattle.twin_run.specs.StateOf.{IsShaped, HasRoom, IsStateOf, RepliesAs, Follows};
 
 use crate::database::Database;
 use crate::list_db::ListDb;
@@ -23,7 +24,7 @@ impl Side<ListDb> {
     /// The list on a fresh volume: one commit.
     pub fn new(alloc: Global, limit: u64) -> Result<Self, CodecError>
         ensures shaped { IfOk result (λ m. IsShaped list_kind m.numbers) }
-        ensures opened { IfOk result (λ m. IsStateOf list_kind m.db m.numbers fresh_state) }
+        ensures opened { IfOk result (λ m. (image : Image) → IsStateOf list_kind image m.db m.numbers fresh_state) }
         ensures limit { IfOk result (λ m. m.limit ≡ limit) }
         ensures taken { IfOk result (λ m. m.numbers.taken ≡ 0) }
         ensures memory { IsOkUnless result CodecError.Memory }
@@ -44,8 +45,8 @@ impl Side<ListDb> {
     ) -> Result<(Self, Answer), Error<Mmr>>
         requires shaped { IsShaped list_kind self.numbers }
         requires room { HasRoom self.numbers }
-        ensures ok { IfOk result (λ r. FollowsTold list_kind (λ s. step self.limit s command.now) self.db r.0.db
-            self.numbers r.0.numbers r.1) }
+        ensures ok { IfOk result (λ r. Follows list_kind IsTold (λ s. step self.limit s command.now)
+            (present (V.state volume.old)) (present (V.state volume.new)) self.db r.0.db self.numbers r.0.numbers r.1) }
         ensures limit { IfOk result (λ r. r.0.limit ≡ self.limit) }
         ensures taken { IfOk result (λ r. r.0.numbers.taken ≡ self.numbers.taken) }
         ensures still { volume.new ≡ volume.old }
@@ -82,7 +83,7 @@ impl Side<ListDb> {
                 Ok((self, size))
             }
             Command::Metadata => {
-                let metadata = self.metadata()?;
+                let metadata = self.metadata(volume)?;
                 Ok((self, metadata))
             }
         }
@@ -90,7 +91,7 @@ impl Side<ListDb> {
 
     /// An answer, with the size and the root of the list.
     pub fn reply(&self, answer: Answer) -> Reply
-        ensures { (s : State Operation) → IsStateOf list_kind self.now.db self.now.numbers s →
+        ensures { (image : Image) (s : State Operation) → IsStateOf list_kind image self.now.db self.now.numbers s →
             result ≡ reply (answer, s) }
     {
         let state = self.db.commitment();
@@ -111,8 +112,9 @@ impl Side<ListDb> {
         requires shaped { IsShaped list_kind self.numbers }
         requires taken { self.numbers.taken < 2 ^ 64 - 1 }
         ensures shaped { IfOk result (λ r. IsShaped list_kind r.0.numbers) }
-        ensures ok { IfOk result (λ r. (s : State Operation) → IsTold s → IsStateOf list_kind self.db self.numbers s →
-            RepliesAs list_kind (step self.limit s command.now) r.0.db r.0.numbers r.1) }
+        ensures ok { IfOk result (λ r. (s : State Operation) → IsTold s →
+            IsStateOf list_kind (present (V.state volume.old)) self.db self.numbers s →
+            RepliesAs list_kind (step self.limit s command.now) (present (V.state volume.new)) r.0.db r.0.numbers r.1) }
         ensures limit { IfOk result (λ r. r.0.limit ≡ self.limit) }
         ensures taken { IfOk result (λ r. r.0.numbers.taken ≡ self.numbers.taken + 1) }
         ensures still { volume.new ≡ volume.old }

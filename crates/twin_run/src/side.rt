@@ -1,11 +1,17 @@
 //! One side of the run: a database, and the batches of the run's numbers.
-ghost use Rattle.std.specs.Prelude.{◌≡◌, ◌<◌, ℕ, length, slice_index_or, IfOk, IsOkUnless};
+ghost use Rattle.std.specs.Prelude.{◌≡◌, ◌<◌, ◌≤◌, length, slice_index_or, IfOk, IfErr, IsOkUnless};
 ghost use Rattle.log_model.specs.StateBatches as batches;
 ghost use Rattle.log_model.specs.Machine.{State, batch_at, with_batch};
+ghost use Rattle.chain_core.specs.Answers.{IsOutside};
+ghost use Rattle.command_text.specs.declared.command.Answer.TheVariants as answer;
+ghost use Rattle.log_model.specs.declared.refusal.Refusal.{Refusal};
+ghost use Rattle.volume_base.specs.Moments.{Image, present};
+ghost use Rattle.volume_base.specs.Names.{NamesCall};
 ghost use Rattle.volume_base.specs.Volume.{Writes};
 ghost use Rattle.twin_run.specs.Operation.{Operation};
 ghost use Rattle.twin_run.specs.Step.{begin, append_to, metadata_length, seal, apply, hold, release, snapshot, size, metadata};
-ghost use Rattle.twin_run.specs.StateOf.{IsShaped, HasRoom, IsStateOf, Follows, FollowsTold, Ends};
+ghost use Rattle.twin_run.specs.Told.{IsTold};
+ghost use Rattle.twin_run.specs.StateOf.{IsShaped, HasRoom, IsStateOf, AnyState, IsToldBy, Follows, Answers};
 ghost use Rattle.twin_run.specs.declared.numbers.Batch.TheVariants.{Unsealed, Gone};
 
 use crate::database::Database;
@@ -41,7 +47,8 @@ impl<D: Database> Side<D> {
         requires shaped { IsShaped D.kind self.old.numbers }
         requires room { HasRoom self.old.numbers }
         ensures ok { IfOk result
-            (λ a. Follows D.kind (λ s. begin s parent) self.old.db self.new.db self.old.numbers self.new.numbers a) }
+            (λ a. Answers D.kind AnyState (λ s. begin s parent) self.old.db self.old.numbers self.new.numbers a) }
+        ensures db { self.new.db ≡ self.old.db }
         ensures limit { self.new.limit ≡ self.old.limit }
         ensures taken { self.new.numbers.taken ≡ self.old.numbers.taken }
         ensures memory { IsOkUnless result Error.Memory }
@@ -64,8 +71,9 @@ impl<D: Database> Side<D> {
     pub fn append(&mut self, b: u64, value: &Bytes) -> Result<Answer, Error<Mmr>>
         requires { IsShaped D.kind self.old.numbers }
         ensures ok { IfOk result
-            (λ a. Follows D.kind (λ s. append_to self.old.limit s b value.now (batch_at s b)) self.old.db self.new.db
+            (λ a. Answers D.kind AnyState (λ s. append_to self.old.limit s b value.now (batch_at s b)) self.old.db
             self.old.numbers self.new.numbers a) }
+        ensures db { self.new.db ≡ self.old.db }
         ensures limit { self.new.limit ≡ self.old.limit }
         ensures taken { self.new.numbers.taken ≡ self.old.numbers.taken }
         ensures memory { IsOkUnless result Error.Memory }
@@ -89,14 +97,17 @@ impl<D: Database> Side<D> {
         }
     }
 
-    /// Ends batch b, which is unsealed, by a commit, or loses it.
+    /// Ends batch b, which is unsealed, by a commit whose metadata isn't too long, or loses it.
     fn end(&mut self, b: u64, metadata: Option<Bytes>, floor: u64) -> Result<Answer, Error<Mmr>>
         requires shaped { IsShaped D.kind self.old.numbers }
         requires room { HasRoom self.old.numbers }
         requires there { b < length self.old.numbers.batches.items }
         requires unsealed { (u : D.Unsealed) × (slice_index_or self.old.numbers.batches.items b Gone ≡ Unsealed u) }
-        ensures ok { IfOk result (λ a. Ends D.kind b metadata floor self.old.db self.new.db self.old.numbers
-            self.new.numbers a) }
+        requires short { metadata_length metadata ≤ self.old.limit }
+        ensures ok { IfOk result
+            (λ a. Answers D.kind IsTold (λ s. seal self.old.limit s b metadata floor (batch_at s b)) self.old.db
+            self.old.numbers self.new.numbers a) }
+        ensures db { self.new.db ≡ self.old.db }
         ensures limit { self.new.limit ≡ self.old.limit }
         ensures taken { self.new.numbers.taken ≡ self.old.numbers.taken }
         ensures memory { IsOkUnless result Error.Memory }
@@ -131,8 +142,9 @@ impl<D: Database> Side<D> {
         requires shaped { IsShaped D.kind self.old.numbers }
         requires room { HasRoom self.old.numbers }
         ensures ok { IfOk result
-            (λ a. FollowsTold D.kind (λ s. seal self.old.limit s b metadata.now floor (batch_at s b)) self.old.db
-            self.new.db self.old.numbers self.new.numbers a) }
+            (λ a. Answers D.kind IsTold (λ s. seal self.old.limit s b metadata.now floor (batch_at s b)) self.old.db
+            self.old.numbers self.new.numbers a) }
+        ensures db { self.new.db ≡ self.old.db }
         ensures limit { self.new.limit ≡ self.old.limit }
         ensures taken { self.new.numbers.taken ≡ self.old.numbers.taken }
         ensures memory { IsOkUnless result Error.Memory }
@@ -156,8 +168,16 @@ impl<D: Database> Side<D> {
     /// Makes the list that of a sealed batch. Where it fails there is no side any more.
     pub fn apply<V: Volume>(self, volume: &mut V, b: u64) -> Result<(Self, Answer), Error<Mmr>>
         requires { IsShaped D.kind self.numbers }
-        ensures ok { IfOk result
-            (λ r. FollowsTold D.kind (λ s. apply s b (batch_at s b)) self.db r.0.db self.numbers r.0.numbers r.1) }
+        ensures ok { IfOk result (λ r. Follows D.kind (IsToldBy D.kind V.tells) (λ s. apply s b (batch_at s b))
+            (present (V.state volume.old)) (present (V.state volume.new)) self.db r.0.db self.numbers r.0.numbers r.1) }
+        // A refusal leaves the side and the volume.
+        ensures refused { IfOk result (λ r. (why : Refusal) → r.1 ≡ answer.Refused why →
+            (r.0 ≡ self) × (volume.new ≡ volume.old)) }
+        // Of a state for which it stands it fails by the volume or for want of memory alone.
+        ensures errors { IfErr result (λ e. (s : State Operation) → IsToldBy D.kind V.tells s →
+            IsStateOf D.kind (present (V.state volume.old)) self.db self.numbers s → IsOutside e) }
+        ensures names { V.tells → NamesCall (D.kind.names self.db) (V.state volume.old) (V.state volume.new) }
+        ensures same_names { IfOk result (λ r. D.kind.names r.0.db ≡ D.kind.names self.db) }
         ensures limit { IfOk result (λ r. r.0.limit ≡ self.limit) }
         ensures taken { IfOk result (λ r. r.0.numbers.taken ≡ self.numbers.taken) }
         ensures writes { Writes V.tells Error.Volume (V.state volume.old) (V.state volume.new) result }
@@ -183,8 +203,9 @@ impl<D: Database> Side<D> {
     pub fn hold(&mut self, b: u64) -> Answer
         requires shaped { IsShaped D.kind self.old.numbers }
         requires room { HasRoom self.old.numbers }
-        ensures ok { Follows D.kind (λ s. hold s b (batch_at s b)) self.old.db self.new.db self.old.numbers
+        ensures ok { Answers D.kind AnyState (λ s. hold s b (batch_at s b)) self.old.db self.old.numbers
             self.new.numbers result }
+        ensures db { self.new.db ≡ self.old.db }
         ensures limit { self.new.limit ≡ self.old.limit }
         ensures taken { self.new.numbers.taken ≡ self.old.numbers.taken }
     {
@@ -201,8 +222,9 @@ impl<D: Database> Side<D> {
         requires there { b < length self.old.numbers.batches.items }
         requires unsealed { (u : D.Unsealed) × (slice_index_or self.old.numbers.batches.items b Gone ≡ Unsealed u) }
         ensures shaped { IsShaped D.kind self.new.numbers }
-        ensures lost { (s : State Operation) → IsStateOf D.kind self.old.db self.old.numbers s →
-            IsStateOf D.kind self.new.db self.new.numbers (with_batch s b batches.Gone) }
+        ensures lost { (image : Image) (s : State Operation) → IsStateOf D.kind image self.old.db self.old.numbers s →
+            IsStateOf D.kind image self.old.db self.new.numbers (with_batch s b batches.Gone) }
+        ensures db { self.new.db ≡ self.old.db }
         ensures limit { self.new.limit ≡ self.old.limit }
         ensures taken { self.new.numbers.taken ≡ self.old.numbers.taken }
     {
@@ -216,8 +238,9 @@ impl<D: Database> Side<D> {
     /// Holds a sealed batch once less, or gives up an unsealed one.
     pub fn release(&mut self, b: u64) -> Answer
         requires { IsShaped D.kind self.old.numbers }
-        ensures ok { Follows D.kind (λ s. release s b (batch_at s b)) self.old.db self.new.db self.old.numbers
+        ensures ok { Answers D.kind AnyState (λ s. release s b (batch_at s b)) self.old.db self.old.numbers
             self.new.numbers result }
+        ensures db { self.new.db ≡ self.old.db }
         ensures limit { self.new.limit ≡ self.old.limit }
         ensures taken { self.new.numbers.taken ≡ self.old.numbers.taken }
     {
@@ -246,7 +269,8 @@ impl<D: Database> Side<D> {
         requires shaped { IsShaped D.kind self.old.numbers }
         requires room { HasRoom self.old.numbers }
         ensures ok { IfOk result
-            (λ a. Follows D.kind snapshot self.old.db self.new.db self.old.numbers self.new.numbers a) }
+            (λ a. Answers D.kind AnyState snapshot self.old.db self.old.numbers self.new.numbers a) }
+        ensures db { self.new.db ≡ self.old.db }
         ensures limit { self.new.limit ≡ self.old.limit }
         ensures taken { self.new.numbers.taken ≡ self.old.numbers.taken }
         ensures memory { IsOkUnless result Error.Memory }
@@ -261,8 +285,8 @@ impl<D: Database> Side<D> {
 
     /// The size and the floor of the list, which is kept from `start` on.
     pub fn size(&self, start: u64) -> Answer
-        ensures { (s : State Operation) → IsStateOf D.kind self.now.db self.now.numbers s → s.start ≡ start →
-            result ≡ (size s).0 }
+        ensures { (image : Image) (s : State Operation) → IsStateOf D.kind image self.now.db self.now.numbers s →
+            s.start ≡ start → result ≡ (size s).0 }
     {
         Answer::Size {
             size: self.db.commitment().size.as_u64(),
@@ -271,12 +295,13 @@ impl<D: Database> Side<D> {
         }
     }
 
-    /// The last commit's metadata.
-    pub fn metadata(&self) -> Result<Answer, Error<Mmr>>
-        ensures ok { IfOk result (λ a. (s : State Operation) → IsStateOf D.kind self.now.db self.now.numbers s →
-            a ≡ (metadata s).0) }
+    /// The last commit's metadata. The volume isn't touched.
+    pub fn metadata<V: Volume>(&self, volume: &mut V) -> Result<Answer, Error<Mmr>>
+        ensures ok { IfOk result (λ a. (image : Image) (s : State Operation) →
+            IsStateOf D.kind image self.now.db self.now.numbers s → a ≡ (metadata s).0) }
+        ensures still { volume.new ≡ volume.old }
         ensures memory { IsOkUnless result Error.Memory }
     {
-        Ok(Answer::Metadata(self.db.metadata()?))
+        Ok(Answer::Metadata(self.db.metadata(volume)?))
     }
 }

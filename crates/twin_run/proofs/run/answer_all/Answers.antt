@@ -1,6 +1,7 @@
 use Rattle.std.proofs.Common.{◌≡◌, ◌+◌, ◌++◌, ◌∷◌, [], List, drop, length, refl, sym, ◌∙◌, ap, subst, arith}
 use Rattle.std.proofs.lemmas.List.{length-append}
 use Rattle.command_text.specs.declared.command.Reply.{Reply}
+use Rattle.volume_base.specs.Moments.{present}
 use Rattle.twin_run.specs.Step.{step}
 use Rattle.twin_run.specs.ListKind.{list_kind}
 use Rattle.twin_run.specs.StateOf.{RepliesAs}
@@ -15,7 +16,7 @@ loop-command-init g c =
     let opened = c.in_ok-machine.ensures.opened in
     let first : c.push.new.self ≡ opening ∷ [] = c.in_ok-push.ensures.ok ∙ ap (λ (rs : List Reply). rs ++ (opening ∷ [])) c.requires in record {
       shaped = c.in_ok-machine.ensures.shaped;
-      told = λ clear. (fresh_state, opened, way_begins c.args.limit c.args.commands.now, told_first c.args.limit fresh_state c.args.commands.now opening c.push.new.self first (c.reply-opening.ensures fresh_state opened));
+      told = λ clear. (fresh_state, opened _, way_begins c.args.limit c.args.commands.now, told_first c.args.limit fresh_state c.args.commands.now opening c.push.new.self first (c.reply-opening.ensures (present (g.V.Volume.state c.args.volume.now)) fresh_state (opened (present (g.V.Volume.state c.args.volume.now)))));
       count = ap length first;
       limit = c.in_ok-machine.ensures.limit;
       taken = c.in_ok-machine.ensures.taken;
@@ -40,7 +41,7 @@ loop-command-preserved g c =
           let t = inv.told clear in
           let s = t.0 in
           let told = way_told limit fresh_state commands s (drop i commands) c.states_are_told.ensures clear t.2 in
-          let one = subst (λ n. RepliesAs list_kind (step n s command) next.db next.numbers r) inv.limit (done.ok s told t.1) in (
+          let one = subst (λ n. RepliesAs list_kind (step n s command) (present (g.V.Volume.state c.step.new.volume)) next.db next.numbers r) inv.limit (done.ok s told t.1) in (
             (step limit s command).1,
             one.1,
             way_next limit fresh_state commands s i command c.loop-command-test.true (sym c.command-item.is) t.2,

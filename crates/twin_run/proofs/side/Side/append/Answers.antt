@@ -2,7 +2,7 @@ use Rattle.std.proofs.Common.{refl, sym, ◌∙◌, ap, arith}
 use Rattle.command_text.specs.declared.command.Answer.TheVariants as answer
 use Rattle.log_model.specs.declared.refusal.Refusal.TheVariants.{NoBatch}
 use Rattle.twin_run.specs.Step.{append_to}
-use Rattle.twin_run.specs.StateOf.{same_lists}
+use Rattle.twin_run.specs.StateOf.{same_lists, AnyState}
 use Rattle.twin_run.proofs.Matching.{read_at}
 use Rattle.twin_run.proofs.Handlers.{set_same, gone_past, entry_sealed, append_sealed, stays, append_too_long, append_no_room, append_follows}
 use Rattle.twin_run.proofs.side.Side.append.Goals as goal
@@ -12,7 +12,7 @@ returns-then-b-len-clause-ok g c =
     let k = g.D.Database.kind in
     let n = c.args.self.now.numbers in
     let b = c.args.b in
-    stays k c.args.self.now.db n c.requires _ refl refl refl _ (answer.Refused (NoBatch b)) (λ s is. ap (append_to c.args.self.now.limit s b c.args.value.now) (gone_past (same_lists k) n.batches.items n.pool s.batches is.batches b (omega arith)))
+    stays k c.args.self.now.db n c.requires _ refl refl refl AnyState _ (answer.Refused (NoBatch b)) (λ image s any is. ap (append_to c.args.self.now.limit s b c.args.value.now) (gone_past (same_lists k) n.batches.items n.pool s.batches is.batches b (omega arith)))
 
 pub returns-then-len-self-clause-ok : goal.returns-then-len-self-clause-ok
 returns-then-len-self-clause-ok g c =
@@ -49,8 +49,9 @@ returns-in_default g c =
     let x = c.index_mut.result.now in
     let e = read_at n.batches.items b x (omega arith) c.index_mut.ensures.value in
     record {
-      ok = stays k c.args.self.now.db n c.requires _ refl (set_same n.batches.items b x e) refl _ (answer.Refused (NoBatch b)) (λ s is.
+      ok = stays k c.args.self.now.db n c.requires _ refl (set_same n.batches.items b x e) refl AnyState _ (answer.Refused (NoBatch b)) (λ image s any is.
           append_sealed s b c.args.self.now.limit c.args.value.now _ (entry_sealed (same_lists k) n.batches.items n.pool s.batches b _ _ (is.batches.each b) (λ u at. c.in_default.not-Unsealed u (sym e ∙ at))));
+      db = refl;
       limit = refl;
       taken = refl;
       memory = tt;

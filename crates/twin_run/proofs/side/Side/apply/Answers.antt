@@ -1,8 +1,9 @@
 use Rattle.std.proofs.Common.{refl, sym}
 use Rattle.command_text.specs.declared.command.Answer.TheVariants as answer
 use Rattle.log_model.specs.declared.refusal.Refusal.TheVariants.{NoBatch}
+use Rattle.volume_base.proofs.CallLemmas.{names_call_none}
 use Rattle.twin_run.specs.StateOf.{same_lists, any_lists}
-use Rattle.twin_run.proofs.Handlers.{not_ok, yes_ok, apply_unheld, held_there, held_alive, unheld_there, stays_told, apply_refused, apply_follows}
+use Rattle.twin_run.proofs.Handlers.{not_ok, yes_ok, apply_unheld, held_there, held_alive, unheld_there, stays, apply_refused, apply_follows, apply_fails}
 use Rattle.twin_run.proofs.Writing.{writes_ok, writes_err, writes_nothing}
 use Rattle.twin_run.proofs.side.Side.apply.Goals as goal
 
@@ -11,7 +12,10 @@ returns-in_default-clause-ok g c =
     let k = g.D.Database.kind in
     let n = c.args.self.numbers in
     let b = c.args.b in
-    stays_told k c.args.self.db n c.requires _ refl refl refl _ (answer.Refused (NoBatch b)) (λ s told is. apply_unheld s b _ (unheld_there (same_lists k) n.batches.items n.pool s.batches is.batches b (sym c.in_default.ensures.held)))
+    stays k c.args.self.db n c.requires _ refl refl refl _ _ (answer.Refused (NoBatch b)) (λ image s told is. apply_unheld s b _ (unheld_there (same_lists k) n.batches.items n.pool s.batches is.batches b (sym c.in_default.ensures.held))) _
+
+pub returns-in_default-clause-names : goal.returns-in_default-clause-names
+returns-in_default-clause-names g c = λ tells. names_call_none _ _
 
 pub returns-in_default-clause-writes : goal.returns-in_default-clause-writes
 returns-in_default-clause-writes g c = writes_nothing _ _ _ _
@@ -34,19 +38,27 @@ apply-requires g c =
 
 pub returns-then-is_err-clause-ok : goal.returns-then-is_err-clause-ok
 returns-then-is_err-clause-ok g c =
-    apply_refused g.D.Database.kind c.args.self.db c.args.self.numbers c.requires c.args.b c.in-Some.held (sym c.in-Some.ensures.held) c.validate.result (λ x at. let e = c.validate.ensures.stands x at in (e.0, e.1))
+    apply_refused g.D.Database.kind _ c.args.self.db c.args.self.numbers c.requires c.args.b c.in-Some.held (sym c.in-Some.ensures.held) c.validate.result (λ x at. let e = c.validate.ensures.stands x at in (e.0, e.1)) _
     (not_ok c.validate.result _ c.is_err.ensures.value c.if-is_err.true)
 
 pub returns-then-is_err-clause-writes : goal.returns-then-is_err-clause-writes
 returns-then-is_err-clause-writes g c = writes_nothing _ _ _ _
+
+pub returns-then-is_err-clause-names : goal.returns-then-is_err-clause-names
+returns-then-is_err-clause-names g c = λ tells. names_call_none _ _
+
+pub returns-in-Err-clause-errors : goal.returns-in-Err-clause-errors
+returns-in-Err-clause-errors g c =
+    apply_fails g.D.Database.kind _ c.args.self.db c.args.self.numbers c.requires c.args.b c.in-Some.held (sym c.in-Some.ensures.held) c.validate.result (λ x at. let e = c.validate.ensures.stands x at in (e.0, e.1))
+    (yes_ok c.validate.result _ c.is_err.ensures.value c.if-is_err.false) _ c.in-Err.error c.in-Err.ensures.errors
 
 pub returns-in-Err-clause-writes : goal.returns-in-Err-clause-writes
 returns-in-Err-clause-writes g c = writes_err _ _ _ _ _ c.in-Err.ensures.writes
 
 pub returns-clause-ok : goal.returns-clause-ok
 returns-clause-ok g c =
-    apply_follows g.D.Database.kind c.args.self.db c.args.self.numbers c.requires c.args.b c.in-Some.held (sym c.in-Some.ensures.held) c.validate.result (λ x at. let e = c.validate.ensures.stands x at in (e.0, e.1))
-    (yes_ok c.validate.result _ c.is_err.ensures.value c.if-is_err.false) c.in-Ok.db c.in-Ok.ensures.list
+    apply_follows g.D.Database.kind _ c.args.self.db c.args.self.numbers c.requires c.args.b c.in-Some.held (sym c.in-Some.ensures.held) c.validate.result (λ x at. let e = c.validate.ensures.stands x at in (e.0, e.1))
+    (yes_ok c.validate.result _ c.is_err.ensures.value c.if-is_err.false) _ _ c.in-Ok.db c.in-Ok.ensures.list
 
 pub returns-clause-writes : goal.returns-clause-writes
 returns-clause-writes g c = writes_ok _ _ _ _ _ _ c.in-Ok.ensures.writes

@@ -2,7 +2,7 @@ use Rattle.std.proofs.Common.{◌≡◌, length, refl, sym, ◌∙◌, ap, arith
 use Rattle.command_text.specs.declared.command.Answer.TheVariants as answer
 use Rattle.log_model.specs.declared.refusal.Refusal.TheVariants.{NoBatch}
 use Rattle.twin_run.specs.Step.{begin}
-use Rattle.twin_run.specs.StateOf.{same_lists, any_lists}
+use Rattle.twin_run.specs.StateOf.{same_lists, any_lists, AnyState}
 use Rattle.twin_run.specs.declared.numbers.Numbers.{Numbers}
 use Rattle.twin_run.proofs.Handlers.{begin_unheld, held_there, held_alive, unheld_there, stays, begun_here, begun_on_batch}
 use Rattle.twin_run.proofs.side.Side.begin.Goals as goal
@@ -21,7 +21,7 @@ returns-in_default-held-clause-ok g c =
     let k = g.D.Database.kind in
     let n = c.args.self.now.numbers in
     let p = c.in-Some.p in
-    stays k c.args.self.now.db n c.requires.shaped _ refl refl refl _ (answer.Refused (NoBatch p)) (λ s is.
+    stays k c.args.self.now.db n c.requires.shaped _ refl refl refl AnyState _ (answer.Refused (NoBatch p)) (λ image s any is.
     ap (begin s) c.in-Some.is ∙ begin_unheld s p _ (unheld_there (same_lists k) n.batches.items n.pool s.batches is.batches p (sym c.in_default-held.ensures.held)))
 
 pub child-requires-clause-alive : goal.child-requires-clause-alive

@@ -7,9 +7,10 @@ use Rattle.std.specs.Vec.{with_item}
 use Rattle.twin_run.specs.declared.numbers.Batch.TheVariants.{Sealed}
 use Rattle.twin_run.specs.declared.numbers.Holding.{Holding}
 use Rattle.twin_run.specs.declared.numbers.Numbers.{Numbers}
-use Rattle.twin_run.proofs.Matching.{read_at}
+use Rattle.twin_run.specs.StateOf.{same_lists}
+use Rattle.twin_run.proofs.Matching.{read_at, unsealed_there}
 use Rattle.twin_run.proofs.Handlers.{lost_shape, lost_state}
-use Rattle.twin_run.proofs.Sealing.{parent_lives, made_alive, made_item, why_refused, why_memory, sealed_shape, sealed_meets, lost_meets}
+use Rattle.twin_run.proofs.Sealing.{parent_lives, made_alive, made_item, why_refused, why_memory, ended_meets, sealed_shape, sealed_meets, lost_meets}
 use Rattle.twin_run.proofs.side.Side.end.Goals as goal
 
 pub seal-requires-clause-parent : goal.seal-requires-clause-parent
@@ -40,12 +41,15 @@ returns-in-Ok-clause-ok g c =
     let item = made_item n.pool c.seal.new.pool (k.parent u) _ made.1 c.in-Ok.id number c.item.result.now c.item.ensures in
     let bounds = c.bounds.ensures ∙ ap k.bounds item in
     let new : Numbers g.row.D-Sealed.Denot g.row.D-Unsealed.Denot = record { batches = with_item (with_item n.batches b c.replace.new.dest) b (Sealed j); pool = c.seal.new.pool; taken = n.taken } in
+    λ image.
     record {
       shaped = sealed_shape k n b u e c.requires.shaped c.requires.room new refl made.0 j number refl (rw set-set refl) made.1;
-      ends = λ s w told is machine.
-          sealed_meets k n b u e c.args.self.now.db s told is w machine c.args.metadata c.args.floor made.0 made.2 made.3 new j _ _ number refl (rw set-set refl) made.1
+      follows = λ s told is.
+          let w = unsealed_there (same_lists k) n.batches.items n.pool s.batches is.batches b u e in
+          ended_meets k c.args.self.now.limit b c.args.floor c.args.metadata s w.0 w.1 c.requires.short image c.args.self.now.db new _
+          (sealed_meets k n b u e image c.args.self.now.db s told is w.0 w.1 c.args.metadata c.args.floor made.0 made.2 made.3 new j _ _ number refl (rw set-set refl) made.1
           (c.as_u64.ensures ∙ ap (λ (d : Bounds Mmr Sha256Digest). d.tip.size) bounds)
-          (ap (λ (d : Bounds Mmr Sha256Digest). d.tip.root) bounds);
+          (ap (λ (d : Bounds Mmr Sha256Digest). d.tip.root) bounds));
     }
 
 pub returns-in-Some-clause-ok : goal.returns-in-Some-clause-ok
@@ -59,10 +63,13 @@ returns-in-Some-clause-ok g c =
     let why = why_refused k n.pool u db c.args.floor c.in-Err.error c.in-Some.refusal c.in-Err.ensures.refused (sym c.in-Some.ensures) in
     let new : Numbers g.row.D-Sealed.Denot g.row.D-Unsealed.Denot = record { batches = with_item n.batches b c.replace.new.dest; pool = c.seal.new.pool; taken = n.taken } in
     let items = ap (set n.batches.items b) c.replace.ensures.after in
+    λ image.
     record {
       shaped = lost_shape k db n c.requires.shaped new refl b u e items c.in-Err.ensures.released;
-      ends = λ s w told is machine.
-          lost_meets k n b u e db s told is w machine c.args.metadata c.args.floor new c.in-Some.refusal why (lost_state k db n c.requires.shaped new refl b u e items c.in-Err.ensures.released s is);
+      follows = λ s told is.
+          let w = unsealed_there (same_lists k) n.batches.items n.pool s.batches is.batches b u e in
+          ended_meets k c.args.self.now.limit b c.args.floor c.args.metadata s w.0 w.1 c.requires.short image db new _
+          (lost_meets k n b u e image db s told is w.0 w.1 c.args.metadata c.args.floor new c.in-Some.refusal why (lost_state k db n c.requires.shaped new refl b u e items c.in-Err.ensures.released image s is));
     }
 
 pub returns-in-None-clause-memory : goal.returns-in-None-clause-memory

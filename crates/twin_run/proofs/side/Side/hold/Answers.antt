@@ -1,7 +1,7 @@
 use Rattle.std.proofs.Common.{refl, sym, arith}
 use Rattle.command_text.specs.declared.command.Answer.TheVariants as answer
 use Rattle.log_model.specs.declared.refusal.Refusal.TheVariants.{NoBatch}
-use Rattle.twin_run.specs.StateOf.{same_lists, any_lists}
+use Rattle.twin_run.specs.StateOf.{same_lists, any_lists, AnyState}
 use Rattle.twin_run.proofs.Handlers.{held_some, hold_unheld, held_there, held_alive, unheld_there, stays, hold_follows}
 use Rattle.twin_run.proofs.side.Side.hold.Goals as goal
 
@@ -10,7 +10,7 @@ returns-in_default-clause-ok g c =
     let k = g.D.Database.kind in
     let n = c.args.self.now.numbers in
     let b = c.args.b in
-    stays k c.args.self.now.db n c.requires.shaped _ refl refl refl _ (answer.Refused (NoBatch b)) (λ s is. hold_unheld s b _ (unheld_there (same_lists k) n.batches.items n.pool s.batches is.batches b (sym c.in_default.ensures.held)))
+    stays k c.args.self.now.db n c.requires.shaped _ refl refl refl AnyState _ (answer.Refused (NoBatch b)) (λ image s any is. hold_unheld s b _ (unheld_there (same_lists k) n.batches.items n.pool s.batches is.batches b (sym c.in_default.ensures.held)))
 
 pub hold-requires-clause-alive : goal.hold-requires-clause-alive
 hold-requires-clause-alive g c =

@@ -10,6 +10,6 @@ same_size : (a b c d e f : ℕ) → a ≡ d → b ≡ e → c ≡ f → answer.S
 same_size a b c d e f p q r = rw (p, q, r) refl
 
 pub returns : goal.returns
-returns g c = λ s is at.
-    let told = size_answer g.D.Database.kind c.args.self.now.db c.args.self.now.numbers s is in
+returns g c = λ image s is at.
+    let told = size_answer g.D.Database.kind image c.args.self.now.db c.args.self.now.numbers s is in
     same_size _ _ _ _ _ _ (c.as_u64.ensures ∙ ap (λ (d : Commitment Mmr Sha256Digest). d.size) c.commitment.ensures ∙ sym told.0) (sym at) (c.floor.ensures ∙ sym told.1)
