@@ -16,3 +16,4 @@ pub mod ServingLemmas
 pub mod AnswerLemmas
 pub mod ProvingLemmas
 pub mod MarkLemmas
+pub mod SetLemmas

@@ -2,6 +2,7 @@ pub mod WitnessOf
 pub mod Verified
 pub mod Derived
 pub mod Keyless
+pub mod Immutable
 pub mod Rebuild
 pub mod StateOf
 pub mod Batches

@@ -6,6 +6,7 @@ mod applying;
 mod batch;
 mod database;
 mod durable;
+pub mod immutable;
 mod keeping;
 pub mod keyless;
 mod laws;
