@@ -10,6 +10,9 @@ pub mod StateLemmas
 pub mod HeldLemmas
 pub mod SettleLemmas
 pub mod OpenLemmas
+pub mod StartLemmas
+pub mod ResumeLemmas
+pub mod BeginLemmas
 pub mod ApplyLemmas
 pub mod DerivedLemmas
 pub mod ServingLemmas

@@ -148,7 +148,7 @@ module _ {F D Op V : Type 0} (s : Shape) (h : Hashing D) (m : Meaning Op V) wher
 -- ---- what is selected of them
 
 -- where the sizes within a cap end
-abbrev end_among : List ℕ → ℕ → Option ℕ → ℕ
+abbrev pub end_among : List ℕ → ℕ → Option ℕ → ℕ
 end_among sizes start None = length sizes
 end_among sizes start (Some c) = start + first_at_least (c + 1) (drop start sizes)
 
@@ -169,7 +169,7 @@ past_cap sizes start end (Some c) rising place some i n le is =
     let low = from_first (c + 1) (drop start sizes) (i - start) n rising (omega (arith, place, some, le)) at in
     omega (arith, low)
 
-end_is : (F : Type 0) {D Op V : Type 0} (s : Shape) (h : Hashing D) (m : Meaning Op V) (ops : List Op) (sizes : List ℕ) (start : ℕ) (cap : Option ℕ)
+pub end_is : (F : Type 0) {D Op V : Type 0} (s : Shape) (h : Hashing D) (m : Meaning Op V) (ops : List Op) (sizes : List ℕ) (start : ℕ) (cap : Option ℕ)
     → end_within (map (witness_of {F = F} s h m ops) sizes) start cap ≡ end_among sizes start cap
 end_is F s h m ops sizes start None = length-map sizes (witness_of s h m ops)
 end_is F s h m ops sizes start (Some c) =

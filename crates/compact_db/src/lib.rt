@@ -1,9 +1,10 @@
 //! Databases that keep of a list of operations the frontier of its tree, and a witness of each applied state. A
-//! database begins by an import; its opening from a log isn't there yet.
+//! database is opened from its log of witnesses, or begins by an import.
 #![tactic(auto)]
 
 mod applying;
 mod batch;
+mod beginning;
 mod database;
 mod durable;
 pub mod immutable;
@@ -16,6 +17,7 @@ mod places;
 mod proving;
 mod pruning;
 mod rebuilding;
+mod resuming;
 mod sealing;
 mod serving;
 mod syncing;

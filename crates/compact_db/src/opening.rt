@@ -1,22 +1,105 @@
-//! How a compact database begins: at an imported state.
-ghost use Rattle.std.specs.Prelude.{◌≡◌, ◌++◌, ◌∷◌, [], ◌+◌, List, length, map, Ok, IfOk};
+//! How a compact database is opened, from its log or at an imported state.
+ghost use Rattle.std.specs.Prelude.{◌≡◌, ◌≢◌, ◌↔◌, ◌++◌, ◌∷◌, [], ◌+◌, List, length, map, false, Some, Ok, IfOk, IsErrOf, IsOkUnless};
+ghost use Rattle.codec_base.specs.Parts.{whole};
+ghost use Rattle.journal_base.specs.View.{seen_of, config_of, IsHeld};
 ghost use Rattle.tree_shape.specs.Shape.{peaks};
 ghost use Rattle.tree_shape.specs.Slow.{node_of};
 ghost use Rattle.log_model.specs.Operations.{leaves_from};
 ghost use Rattle.compact_db.specs.DbView.{IsOfList};
+ghost use Rattle.chain_core.specs.declared.error.Error.TheVariants as error;
 ghost use Rattle.compact_db.specs.Import.{journal_of, import_answer};
+ghost use Rattle.compact_db.specs.Opening.{Opens};
 ghost use Rattle.compact_db.specs.Rebuild.{RefusedOnlyAs};
 
 use crate::rebuilding::restored;
 use crate::{CompactConfig, CompactDb, CompactOperation, WitnessLog};
 use chain_core::{DataFault, Error};
 use codec_base::encode;
-use journal_base::JournalConfig;
+use journal_base::{Backing, BackingRecovery, JournalConfig, Recovery, VariableJournal};
 use std::alloc::Global;
 use tree_core::{Family, Hasher, Location, MAX_LEAVES};
 use volume_base::Volume;
+use witness_store::Witness;
+
+/// Refuses a cap of 0 with `InvalidInitializationBound`.
+fn check_bound<F: Family>(cap: &Option<Location<F>>) -> Result<(), Error<F>>
+    ensures zero { IsErrOf result error.InvalidInitializationBound ↔ (cap.now ≡ Some 0) }
+    ensures only { IsOkUnless result error.InvalidInitializationBound }
+{
+    match cap {
+        Some(cap) if cap.as_u64() == 0 => Err(Error::InvalidInitializationBound),
+        _ => Ok(()),
+    }
+}
 
 impl<F: Family, O: CompactOperation, H: Hasher> CompactDb<F, O, H> {
+    /// The database of a log that is being opened: at the witness that is selected, or at the first commit where the log is
+    /// empty at 0. It refuses with `DataCorrupted(NoTip)` where it is empty past 0.
+    fn opened_from<V: Volume>(
+        alloc: Global,
+        vol: &mut V,
+        recovery: Recovery<Witness<F, H::Digest>>,
+        codec: O::Cfg,
+        cap: Option<Location<F>>,
+    ) -> Result<Self, Error<F>>
+        requires held { V.tells → IsHeld (seen_of recovery) (V.state vol.old) }
+        requires fresh { (seen_of recovery).failed ≡ false }
+        ensures codec { IfOk result (λ db. db.codec ≡ codec) }
+        ensures opens { Opens F.shape H.hash O.meaning H.Digest.spelling (H.Digest.admits tt)
+            (λ bytes. whole (O.reads codec bytes)) (O.admits codec) (seen_of recovery) cap V.tells
+            (V.state vol.old) (V.state vol.new) result }
+    {
+        let (start, end) = recovery.bounds();
+        if start < end {
+            return Self::resumed(alloc, vol, recovery, codec, cap);
+        }
+        if start > 0 {
+            return Err(Error::DataCorrupted(DataFault::NoTip));
+        }
+        Self::begun(alloc, vol, recovery, codec)
+    }
+
+    /// The database of a log under a cap other than 0.
+    fn opened_under<V: Volume>(
+        alloc: Global,
+        vol: &mut V,
+        cfg: CompactConfig<O::Cfg>,
+        cap: Option<Location<F>>,
+    ) -> Result<Self, Error<F>>
+        ensures codec { IfOk result (λ db. db.codec ≡ cfg.commit_codec) }
+        ensures opens { Opens F.shape H.hash O.meaning H.Digest.spelling (H.Digest.admits tt)
+            (λ bytes. whole (O.reads cfg.commit_codec bytes)) (O.admits cfg.commit_codec) (config_of (journal_of cfg)) cap
+            V.tells (V.state vol.old) (V.state vol.new) result }
+    {
+        let journal = JournalConfig {
+            name: cfg.witness,
+            items_per_blob: cfg.items_per_blob,
+            codec: (),
+        };
+        let recovery = VariableJournal::<Witness<F, H::Digest>>::recover(vol, journal, None)?;
+        Self::opened_from(alloc, vol, recovery, cfg.commit_codec, cap)
+    }
+
+    /// The database of a log of witnesses, at the latest one whose size is within a cap, if there is one: it is verified, and
+    /// then newer ones are cut off, and what is left is made durable. An empty log at 0 gets the witness of the first commit.
+    /// Refuses, in this order: `InvalidInitializationBound` of a cap of 0, before the volume is called; `DataCorrupted(NoTip)`
+    /// where the log is empty past 0; `HistoricalFloorPruned` where the first witness is above the cap; or as `rebuild`.
+    pub fn init<V: Volume>(
+        alloc: Global,
+        vol: &mut V,
+        cfg: CompactConfig<O::Cfg>,
+        max_size: Option<Location<F>>,
+    ) -> Result<Self, Error<F>>
+        ensures bound { max_size ≡ Some 0 → IsErrOf result Error.InvalidInitializationBound × (vol.new ≡ vol.old) }
+        ensures codec { IfOk result (λ db. db.codec ≡ cfg.commit_codec) }
+        ensures opens { max_size ≢ Some 0 → Opens F.shape H.hash O.meaning H.Digest.spelling (H.Digest.admits tt)
+            (λ bytes. whole (O.reads cfg.commit_codec bytes)) (O.admits cfg.commit_codec) (config_of (journal_of cfg)) max_size
+            V.tells (V.state vol.old) (V.state vol.new) result }
+    {
+        check_bound(&max_size)?;
+        Self::opened_under(alloc, vol, cfg, max_size)
+    }
+
     /// The database of an imported state: a commit at a location, and the peaks of the tree before it. Nothing is written before its
     /// first write. Refuses, in this order: `UnexpectedData` of an operation that is no commit; `DataCorrupted(Witness)` of one that is earlier than
     /// its floor; `Merkle(LocationOverflow)` at or past `MAX_LEAVES`; `Merkle(InvalidPinnedNodes)` where there are more or fewer pins than peaks.

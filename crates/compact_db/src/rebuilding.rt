@@ -95,6 +95,7 @@ pub fn rebuild<F: Family, O: CompactOperation, H: Hasher>(
         rebuild_answer F.shape O.meaning (λ bytes. whole (O.reads codec.now bytes)) witness in
         RefusedOnlyAs answer result }
     ensures leaves { IfOk result (λ r. r.merkle.leaves ≡ witness.size) }
+    ensures some { IfOk result (λ r. 0 < witness.size) }
     ensures witness { IfOk result (λ r. r.tip.witness ≡ witness) }
     ensures frontier { IfOk result (λ r. IsFrontier F.shape r.merkle) }
     // Of the witness of a list, whose operations are allowed, it makes the list's state.
