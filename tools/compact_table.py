@@ -1,0 +1,160 @@
+"""What compact databases answer, of both kinds of operations, both encodings and both families.
+
+Computed by trees.py and proofs.py and from these rules alone.
+
+A history begins with a commit of floor 0, and has three batches, each of some numbers and a commit behind them. Without keys each
+number is appended. With keys a number gives its key a value; of a key that is set again the later value stays, and the operations
+stand in the order of keys. A variable operation is its tag, its byte lists with their length in front, and of a commit an option
+byte and the floor as varint; a fixed one has numbers of eight bytes and zeros up to one width. Tags: 0 a commit and 1 an append;
+with keys 0 a set and 1 a commit.
+
+A batch's proof is that of its own operations in its tree, with as many inactive peaks as end at or below its floor; its pins are the
+peaks before them. A cap opens the greatest size within it, and 0 none. What is served of a kept size is its commit, with the proof of
+it in the tree of that size and the peaks before it.
+"""
+from proofs import cover
+from trees import Mmb, Mmr, node, number, peaks, root
+
+BATCHES = [(range(0, 1), 0), (range(1, 4), 2), (range(4, 9), 3)]
+CAPS = list(range(15)) + [100]
+LATER = range(9, 11), 3
+
+
+def key_of(n):
+    return n % 64 * 3 % 8
+
+
+def listed(*texts):
+    return bytes([len(texts)]) + bytes(texts)
+
+
+class Variable:
+    """Keys and values are byte lists."""
+
+    @staticmethod
+    def append(n):
+        return b"\1" + listed(ord("a"), n)
+
+    @staticmethod
+    def set(key, n):
+        return b"\0" + listed(ord("k"), key) + listed(ord("a"), n)
+
+    @staticmethod
+    def commit(tag, floor):
+        return bytes([tag, 0, floor])
+
+
+class Fixed:
+    """Keys and values are numbers."""
+
+    @staticmethod
+    def append(n):
+        return b"\1" + number(n) + bytes(9)
+
+    @staticmethod
+    def set(key, n):
+        return (b"\0" + number(key) + number(n)).ljust(18, b"\0")
+
+    @staticmethod
+    def commit(tag, floor):
+        return bytes([tag, 0]) + bytes(8) + number(floor)
+
+
+def keyless(encoding, numbers, floor):
+    return [encoding.append(n) for n in numbers] + [encoding.commit(0, floor)]
+
+
+def sets(encoding, pairs, floor):
+    latest = dict(pairs)
+    return [encoding.set(key, latest[key]) for key in sorted(latest)] + [encoding.commit(1, floor)]
+
+
+def keyed(encoding, numbers, floor):
+    return sets(encoding, [(key_of(n), n) for n in numbers], floor)
+
+
+def inactive(family, leaves, floor):
+    return sum(1 for first, height in peaks(family, leaves) if first + 2**height <= floor)
+
+
+def joined(texts):
+    return "".join(" " + text.hex() for text in texts)
+
+
+class Database:
+    """The operations of a history, and the floor of each of its sizes."""
+
+    def __init__(self, family, operations, floors):
+        self.family, self.operations, self.floors = family, operations, floors
+
+    def state(self, size):
+        floor = self.floors[size]
+        elements = self.operations[:size]
+        return f"size {size} floor {floor} root {root(self.family, elements, inactive(self.family, size, floor), True).hex()}"
+
+    def proof(self, start, size):
+        count = inactive(self.family, size, self.floors[size])
+        names = cover(self.family, size, lambda leaf: start <= leaf < size)
+        digests = [node(self.family, self.operations[:size], *name) for name in names]
+        return f"    proof of {size} leaves, {count} inactive:{joined(digests)}"
+
+    def pins(self, leaves):
+        return f"    pins:{joined(node(self.family, self.operations, *peak) for peak in peaks(self.family, leaves))}"
+
+    def print_batch(self, own, floor):
+        base = len(self.operations)
+        self.operations = self.operations + own
+        size = len(self.operations)
+        self.floors = {**self.floors, size: floor}
+        print(f"  operations from {base}:{joined(own)}")
+        print(self.proof(base, size))
+        print(self.pins(base))
+        print(f"  {self.state(size)}")
+
+    def print_opened(self, cap):
+        kept = [size for size in self.floors if size <= cap]
+        print(f"  cap {cap}: {self.state(max(kept)) if kept else 'invalid bound'}")
+
+    def print_imported(self, made, encoding, size):
+        if size not in self.floors:
+            print(f"  nothing served at {size}\n" * 2, end="")
+            return
+        served = f"  served at {size}:{joined([self.operations[size - 1]])}\n{self.proof(size - 1, size)}\n{self.pins(size - 1)}\n"
+        print(served * 2, end="")
+        print("  a prune is refused: import not applied")
+        other = Database(self.family, self.operations[:size], {size: self.floors[size]})
+        print(f"  imported: {other.state(size)}")
+        print(f"  opened: {other.state(size)}")
+        other.print_batch(made(encoding, *LATER), LATER[1])
+
+
+def print_kind(name, family, made, encoding):
+    print(name)
+    database = Database(family, made(encoding, [], 0), {1: 0})
+    print(f"  {database.state(1)}")
+    for numbers, floor in BATCHES:
+        database.print_batch(made(encoding, numbers, floor), floor)
+    for cap in CAPS:
+        database.print_opened(cap)
+    for size in range(16):
+        database.print_imported(made, encoding, size)
+
+
+def print_keyed(name, family, encoding):
+    print(f"{name}, a repeated key")
+    database = Database(family, keyed(encoding, [], 0), {1: 0})
+    database.print_batch(sets(encoding, [(2, 1), (1, 2), (2, 3)], 0), 0)
+    print_kind(name, family, keyed, encoding)
+
+
+def main():
+    for family in (Mmr, Mmb):
+        print(family.name)
+        print_kind("variable values", family, keyless, Variable)
+        print_kind("fixed values", family, keyless, Fixed)
+        print_keyed("variable keys and values", family, Variable)
+        print_keyed("fixed keys and values", family, Fixed)
+
+
+if __name__ == "__main__":
+    main()
