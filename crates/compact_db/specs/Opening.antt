@@ -24,11 +24,6 @@ use Rattle.witness_store.specs.declared.witness.Witness.{Witness}
 use Rattle.compact_db.specs.DbView.{DbView, seen_log, waits, is_uncommitted}
 use Rattle.compact_db.specs.Held.{HasStates, IsHeldFor}
 use Rattle.compact_db.specs.Rebuild.{rebuild_answer}
-use Rattle.compact_db.specs.declared.database.CompactConfig.{CompactConfig}
-
--- the witnesses that a volume has of a configuration
-abbrev pub stored_in : {F D C : Type 0} → (D → List ℕ) → (D → Type 0) → CompactConfig C → State → Items (Witness F D)
-stored_in spelling admits cfg state = witnesses_of spelling admits (config_of (journal_of cfg)) state
 use Rattle.compact_db.specs.WitnessOf.{witness_of}
 use Rattle.compact_db.specs.declared.database.WitnessLog.{WitnessLog}
 
