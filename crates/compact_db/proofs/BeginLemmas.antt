@@ -1,5 +1,5 @@
 -- How a database begins in an empty log, from call to call.
-use Rattle.std.proofs.Common.{◌≡◌, ◌⊎◌, inl, inr, ℕ, zero, suc, ◌-◌, ◌^◌, ◌<◌, ◌≤◌, max, false, List, [], ◌∷◌, ◌++◌, length, map, take, drop, reverse, Option, Some, None, refl, sym, ◌∙◌, ap, subst, arith}
+use Rattle.std.proofs.Common.{◌≡◌, inl, inr, ℕ, zero, suc, ◌-◌, ◌<◌, ◌≤◌, max, false, List, [], ◌∷◌, ◌++◌, length, map, take, reverse, Option, refl, sym, ◌∙◌, ap, subst, arith}
 use Rattle.std.specs.Prelude.{Result, Ok, Err}
 use Rattle.std.proofs.lemmas.Nat.{pow_pos}
 use Rattle.std.proofs.lemmas.List.{drop_all}
@@ -7,7 +7,7 @@ use Rattle.codec_base.specs.declared.error.CodecError.{CodecError}
 use Rattle.journal_base.specs.Answers.{IsOfVolume}
 use Rattle.journal_base.specs.Items.{Items}
 use Rattle.journal_base.specs.View.{View, SameButBounds, IsHeld, IsDurable, log_of}
-use Rattle.volume_base.specs.Log.{Log, end_of, no_log, appended, pruned_to, cut_to, Grows, Shrinks}
+use Rattle.volume_base.specs.Log.{Log, no_log, appended, pruned_to, cut_to, Grows, Shrinks}
 use Rattle.volume_base.specs.Moments.{LogHas, LogKeeps}
 use Rattle.volume_base.specs.Names.{log_alone, NamesCall}
 use Rattle.volume_base.specs.Volume.{State, LogCall, Writes}

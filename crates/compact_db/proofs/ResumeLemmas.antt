@@ -1,13 +1,13 @@
 -- How a database is opened at a witness of its log, from call to call.
-use Rattle.std.proofs.Common.{◌≡◌, ◌⊎◌, inl, inr, ℕ, ◌-◌, ◌^◌, ◌<◌, ◌≤◌, false, List, [], ◌∷◌, length, map, take, drop, Option, Some, None, refl, sym, ◌∙◌, ap, subst, arith}
-use Rattle.std.specs.Prelude.{min, slice_get, Result, Ok, Err, IsErrOf}
+use Rattle.std.proofs.Common.{◌≡◌, inl, inr, ℕ, ◌^◌, ◌<◌, ◌≤◌, false, List, [], length, map, take, Option, Some, None, refl, sym, ◌∙◌, ap, subst, arith}
+use Rattle.std.specs.Prelude.{Result, Ok, Err}
 use Rattle.std.specs.List.{AllByRecursion}
 use Rattle.std.proofs.lemmas.List.{length-take}
 use Rattle.codec_base.specs.declared.error.CodecError.{CodecError}
 use Rattle.journal_base.specs.Answers.{IsOfStart}
 use Rattle.journal_base.specs.Items.{Items}
 use Rattle.journal_base.specs.View.{View, SameButBounds, IsHeld, IsDurable, log_of}
-use Rattle.volume_base.specs.Log.{Log, end_of, no_log, cut_to, Shrinks}
+use Rattle.volume_base.specs.Log.{Log, cut_to}
 use Rattle.volume_base.specs.Moments.{LogHas, LogKeeps}
 use Rattle.volume_base.specs.Names.{log_alone}
 use Rattle.volume_base.specs.Volume.{State, Reads, Writes, WritesLog, Changes}
@@ -22,7 +22,7 @@ use Rattle.tree_core.specs.Tree.{Tree}
 use Rattle.log_model.specs.Meaning.{Meaning}
 use Rattle.log_model.specs.Good.{EndsWithCommit}
 use Rattle.chain_core.specs.declared.error.Error.{Error}
-use Rattle.chain_core.specs.declared.error.Error.TheVariants.{Volume, Memory}
+use Rattle.chain_core.specs.declared.error.Error.TheVariants.{Volume}
 use Rattle.chain_core.specs.Errors.{from_journal}
 use Rattle.witness_store.specs.StoreView.{StoreView, HasWitnesses}
 use Rattle.witness_store.specs.Witnesses.{Keeps}

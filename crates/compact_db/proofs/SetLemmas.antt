@@ -1,12 +1,12 @@
 -- The sets of a batch with keys, beside the map's entries.
-use Rattle.std.proofs.Common.{◌≡◌, ℕ, suc, ◌+◌, ◌^◌, ◌≤◌, ◌<◌, ◌⊎◌, inl, inr, arith, List, [], ◌∷◌, length, Bool, true, false, cond, Option, Some, None, Ordering, Less, Equal, Greater, refl, ap, ◌∙◌}
+use Rattle.std.proofs.Common.{◌≡◌, ℕ, suc, ◌+◌, ◌^◌, ◌≤◌, ◌<◌, ◌⊎◌, inl, inr, arith, List, [], ◌∷◌, length, true, false, cond, Some, Ordering, Less, Equal, Greater, refl, ap, ◌∙◌}
 use Rattle.std.specs.Prelude.{◌||◌}
 use Rattle.std.specs.Ordering.{is_eq, match_ordering}
 use Rattle.std.specs.Option.{is_some}
 use Rattle.std.specs.BTreeMap.{insert_entry, is_at}
 use Rattle.std.specs.Map.{lookup, keys_of}
 use Rattle.op_codec.specs.declared.immutable.Operation.{Operation}
-use Rattle.op_codec.specs.declared.immutable.Operation.TheVariants.{Set, Commit}
+use Rattle.op_codec.specs.declared.immutable.Operation.TheVariants.{Set}
 use Rattle.compact_db.specs.Immutable.{sets_of, keys_in, sets_key, set_among}
 
 module _ (F V K A D C : Type 0) where

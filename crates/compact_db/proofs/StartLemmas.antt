@@ -1,7 +1,6 @@
 -- How a database is opened from its log, from call to call.
-use Rattle.std.proofs.Common.{◌≡◌, ◌⊎◌, inl, inr, ℕ, ◌+◌, ◌-◌, ◌^◌, ◌<◌, ◌≤◌, true, false, List, [], ◌∷◌, length, map, take, drop, Option, Some, None, refl, sym, ◌∙◌, ap, subst, arith}
-use Rattle.std.specs.Prelude.{slice_get, Result, Ok, Err, IfOk, IfErr, OnOk, IsErrOf}
-use Rattle.std.specs.List.{AllByRecursion}
+use Rattle.std.proofs.Common.{◌≡◌, ◌⊎◌, inl, inr, ℕ, ◌+◌, ◌-◌, ◌<◌, List, length, map, drop, Option, Some, None, refl, sym, ◌∙◌, ap, subst, arith}
+use Rattle.std.specs.Prelude.{slice_get, Result, Ok, Err, IfOk, IfErr}
 use Rattle.std.specs.Result.{IsErrAnd}
 use Rattle.std.proofs.lemmas.Bool.Decides.{leb_tells}
 use Rattle.std.proofs.lemmas.List.{length-map, length-drop}
@@ -9,12 +8,12 @@ use Rattle.std.proofs.lemmas.Option.{slice_get_within}
 use Rattle.codec_base.specs.declared.error.CodecError.{CodecError}
 use Rattle.journal_base.specs.Items.{Items}
 use Rattle.journal_base.specs.View.{View, SameButBounds, at_bounds, log_of}
-use Rattle.volume_base.specs.Log.{Log, end_of, no_log, Shrinks}
+use Rattle.volume_base.specs.Log.{Log}
 use Rattle.volume_base.specs.Moments.{LogHas, LogLeft, LogKeeps}
 use Rattle.volume_base.specs.Names.{log_alone, NamesCall}
 use Rattle.volume_base.specs.Volume.{State, OnlyLeft, PastStays, SameContents, LogCall, Reads, Changes}
 use Rattle.volume_base.proofs.CallLemmas.{log_call_idle, log_call_after_read, names_call_idle, names_call_joins}
-use Rattle.volume_base.proofs.JoinLemmas.{changes_of_reads, changes_joins, went_of_reads, on_ok}
+use Rattle.volume_base.proofs.JoinLemmas.{changes_joins, went_of_reads}
 use Rattle.volume_base.proofs.StepLemmas.{shrinks_same}
 use Rattle.volume_base.proofs.TurnLemmas.{log_back, keeps_idle, keeps_joins, now_after}
 use Rattle.tree_shape.specs.Hashing.{Hashing}
@@ -22,13 +21,12 @@ use Rattle.tree_shape.specs.Shape.{Shape}
 use Rattle.log_model.specs.Meaning.{Meaning}
 use Rattle.log_model.specs.AppliedSizes.{first_at_least}
 use Rattle.chain_core.specs.declared.error.Error.{Error}
-use Rattle.chain_core.specs.declared.error.Error.TheVariants.{DataCorrupted, Volume}
-use Rattle.chain_core.specs.declared.error.DataFault.TheVariants.{NoTip}
+use Rattle.chain_core.specs.declared.error.Error.TheVariants.{Volume}
 use Rattle.witness_store.specs.Selected.{end_within, IsLastWithin}
 use Rattle.witness_store.specs.StoreView.{HasWitnesses}
 use Rattle.witness_store.specs.declared.witness.Witness.{Witness}
 use Rattle.compact_db.specs.DbView.{DbView, seen_log}
-use Rattle.compact_db.specs.Held.{HasStates, IsHeldFor}
+use Rattle.compact_db.specs.Held.{HasStates}
 use Rattle.compact_db.specs.Opening.{IsCapped, IsPast, IsLatest, witnesses_in, IsChosen, IsOpenedAt, WhyNotOpened, IsOpenLog, OpensFrom, Begins, Opens}
 use Rattle.compact_db.specs.Rebuild.{rebuild_answer}
 use Rattle.compact_db.specs.WitnessOf.{witness_of}
@@ -36,7 +34,7 @@ use Rattle.chain_core.specs.Answers.{IsOutside}
 use Rattle.compact_db.proofs.OpenLemmas.{not_corrupt}
 use Rattle.compact_db.proofs.ServingLemmas.{if_ok}
 use Rattle.compact_db.proofs.SizeLemmas.{get_behind, from_first}
-use Rattle.compact_db.proofs.StateLemmas.{end_among, end_is, latest_is, rising_sizes}
+use Rattle.compact_db.proofs.StateLemmas.{end_is, latest_is, rising_sizes}
 
 -- ---- the latest size
 

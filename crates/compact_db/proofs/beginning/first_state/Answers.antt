@@ -1,4 +1,4 @@
-use Rattle.std.proofs.Common.{◌≡◌, ◌<◌, ◌^◌, ℕ, [], length, map, Some, sym, ◌∙◌, ap, arith}
+use Rattle.std.proofs.Common.{[], length, map, Some, sym, ◌∙◌, ap, arith}
 use Rattle.tree_shape.specs.Slow.{node_of}
 use Rattle.log_model.specs.Operations.{leaves_from}
 use Rattle.log_model.proofs.OperationLemmas.{length-leaves_from}

@@ -1,4 +1,4 @@
-use Rattle.std.proofs.Common.{◌≡◌, ℕ, List, [], ◌∷◌, length, Result, Ok, Err, inl, sym, ◌∙◌, ap, subst}
+use Rattle.std.proofs.Common.{ℕ, List, [], ◌∷◌, length, Result, inl, sym, ◌∙◌, ap, subst}
 use Rattle.codec_base.specs.Parts.{whole}
 use Rattle.journal_base.specs.View.{seen_of}
 use Rattle.chain_core.specs.declared.error.Error.{Error}

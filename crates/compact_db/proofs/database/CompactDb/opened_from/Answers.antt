@@ -1,4 +1,4 @@
-use Rattle.std.proofs.Common.{◌≡◌, ℕ, ◌<◌, List, [], inl, inr, refl, arith}
+use Rattle.std.proofs.Common.{ℕ, List, inl, inr, refl, arith}
 use Rattle.codec_base.specs.Parts.{whole}
 use Rattle.journal_base.specs.View.{seen_of, log_of}
 use Rattle.chain_core.specs.declared.error.DataFault.TheVariants.{NoTip}

@@ -1,4 +1,4 @@
-use Rattle.std.proofs.Common.{◌≡◌, ℕ, List, Option, None, Some, Result, Ok, Err, inl, refl, sym, ap, subst}
+use Rattle.std.proofs.Common.{◌≡◌, ℕ, List, Option, None, Some, Result, Err, inl, refl, sym, ap, subst}
 use Rattle.codec_base.specs.Parts.{whole}
 use Rattle.journal_base.specs.View.{seen_of, config_of}
 use Rattle.volume_base.specs.declared.error.JournalError.TheVariants as journal_error
@@ -9,7 +9,7 @@ use Rattle.compact_db.specs.DbView.{DbView}
 use Rattle.compact_db.specs.Import.{journal_of}
 use Rattle.compact_db.specs.Opening.{Opens}
 use Rattle.compact_db.proofs.OpenLemmas.{start_why}
-use Rattle.compact_db.proofs.SettleLemmas.{passed_err, changes_passed}
+use Rattle.compact_db.proofs.SettleLemmas.{changes_passed}
 use Rattle.compact_db.proofs.StartLemmas.{err_is, opens_not, opens_after}
 use Rattle.compact_db.proofs.database.CompactDb.opened_under.Goals as goal
 

@@ -1,10 +1,9 @@
-use Rattle.std.proofs.Common.{◌≡◌, ℕ, List, Option, Ok, Err, sym, ap, subst}
+use Rattle.std.proofs.Common.{ℕ, List, Err, sym, ap, subst}
 use Rattle.std.specs.Prelude.{Result}
 use Rattle.codec_base.specs.Parts.{whole}
 use Rattle.journal_base.specs.View.{seen_of}
 use Rattle.volume_base.specs.declared.error.JournalError.TheVariants as journal_error
 use Rattle.chain_core.specs.declared.error.Error.{Error}
-use Rattle.witness_store.specs.StoreView.{StoreView}
 use Rattle.compact_db.specs.DbView.{DbView}
 use Rattle.compact_db.specs.Opening.{Opens}
 use Rattle.compact_db.proofs.StartLemmas.{err_is}

@@ -1,4 +1,4 @@
-use Rattle.std.proofs.Common.{◌≡◌, ◌∙◌, ap}
+use Rattle.std.proofs.Common.{◌∙◌, ap}
 use Rattle.compact_db.specs.Immutable.{sets_key}
 use Rattle.compact_db.proofs.SetLemmas.{sets_lookup}
 use Rattle.compact_db.proofs.immutable.crate+UnmerkleizedBatch+F+Operation+F+K+V+H.has_key.Goals as goal
