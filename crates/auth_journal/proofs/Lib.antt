@@ -13,3 +13,5 @@ pub mod StandingLemmas
 pub mod DurableLemmas
 pub mod PruneLemmas
 pub mod StartedLemmas
+pub mod OpenedLemmas
+pub mod ReadyLemmas

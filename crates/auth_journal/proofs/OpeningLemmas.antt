@@ -28,7 +28,7 @@ use Rattle.merkle_full.proofs.SettleLemmas.{end_cut}
 use Rattle.auth_journal.specs.Aligning.{NotAligned}
 use Rattle.auth_journal.specs.Errors.{from_journal, IsOutside}
 use Rattle.auth_journal.specs.Opening.{Readied, IsSoundReady, IsReadyIn}
-use Rattle.auth_journal.specs.Reading.{IsUnreadAt, IsFirstUnread}
+use Rattle.auth_journal.specs.Reading.{AreReadable, IsUnreadAt, IsFirstUnread}
 use Rattle.auth_journal.specs.Searching.{IsUnreadWithin}
 use Rattle.auth_journal.specs.declared.error.Error.{Error}
 use Rattle.auth_journal.specs.declared.error.Error.TheVariants as joined
@@ -101,6 +101,10 @@ module _ {Item : Type 0} (tells : Type 0) (spelling : Item → List ℕ) (admits
   pub aligned_cut : {F : Type 0} (from : ℕ) (e : Error F) → NotAligned tells cut from end e → NotAligned tells whole from end e
   aligned_cut from e (inl out) = inl out
   aligned_cut from e (inr why) = inr (why.0, why.1, unread_cut from why.0 why.2)
+
+  -- and what can be read of the one can be read of the other
+  pub readable_cut : (from : ℕ) → AreReadable cut from end → AreReadable whole from end
+  readable_cut from all p lo hi = let found = all p lo hi in (found.0, item_cut log end p (spelling found.0) found.1, found.2)
 
 -- ---- a tree that stands ready beside a log
 

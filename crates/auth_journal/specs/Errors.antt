@@ -1,5 +1,5 @@
 -- What the errors of the layers below become.
-use Rattle.std.specs.Prelude.{◌≡◌, Result, Ok, Err}
+use Rattle.std.specs.Prelude.{◌≡◌, Option, Some, None, IsSome, Result, Ok, Err}
 use Rattle.volume_base.specs.declared.error.JournalError.{JournalError}
 use Rattle.volume_base.specs.declared.error.JournalError.TheVariants as journal
 use Rattle.tree_store.specs.declared.error.Error as tree_error
@@ -23,6 +23,20 @@ abbrev pub IsOutside : {F : Type 0} → Error F → Type 0
 IsOutside joined.Volume = Unit {0}
 IsOutside joined.Memory = Unit {0}
 IsOutside _ = ⊥
+
+-- an error that was wrapped: neither want of memory nor a failure of the volume
+abbrev pub unwrapped : JournalError → Option JournalError
+unwrapped journal.Volume = None
+unwrapped journal.Memory = None
+unwrapped error = Some error
+
+-- Want of memory and a failure of the volume are told as what they are, and never in another error.
+abbrev pub IsLifted : {F : Type 0} → Error F → Type 0
+IsLifted (joined.Merkle (tree.Journal error)) = IsSome (unwrapped error)
+IsLifted (joined.Merkle tree.Volume) = ⊥
+IsLifted (joined.Merkle tree.Memory) = ⊥
+IsLifted (joined.Journal error) = IsSome (unwrapped error)
+IsLifted _ = Unit {0}
 
 -- ---- answers of the tree
 

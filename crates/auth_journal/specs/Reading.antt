@@ -2,7 +2,7 @@
 use Rattle.std.specs.Prelude.{◌≡◌, ◌⊎◌, ℕ, ◌-◌, ◌<◌, ◌≤◌, List, Some, slice_get}
 use Rattle.std.specs.List.{range_with_len}
 use Rattle.journal_base.specs.Answers.{IsOfVolume}
-use Rattle.journal_base.specs.Items.{Items, IsCorrupt}
+use Rattle.journal_base.specs.Items.{Items, Holds, IsCorrupt}
 use Rattle.journal_base.specs.Reads.{IsFirstFailing}
 use Rattle.volume_base.specs.Log.{end_of}
 use Rattle.volume_base.specs.declared.error.JournalError.{JournalError}
@@ -26,6 +26,10 @@ pub record IsFirstUnread {Item : Type 0} (tells : Type 0) (items : Items Item) (
   pub high : position < to
   pub first : tells → IsFirstFailing items (positions from to) position
   pub why : IsUnreadAt tells items position e
+
+-- Each item from one position up to another can be read.
+abbrev pub AreReadable : {Item : Type 0} → Items Item → ℕ → ℕ → Type 0
+AreReadable {Item} items from to = (p : ℕ) → from ≤ p → p < to → (x : Item) × Holds items p x × items.admits x
 
 -- why items can't be read: by the volume, or for want of memory; or the first that can't be read says why
 abbrev pub AreUnread : {Item : Type 0} → Type 0 → Items Item → ℕ → ℕ → JournalError → Type 0

@@ -1,6 +1,6 @@
 -- At which end a log is opened, and why at none.
 use Rattle.std.specs.Prelude.{◌≡◌, ◌⊎◌, ℕ, ◌+◌, ◌<◌, ◌≤◌, min, Option, Some, None, Bool}
-use Rattle.volume_base.specs.Log.{Log, end_of, cut_to, pruned_to}
+use Rattle.volume_base.specs.Log.{Log, end_of, cut_to, pruned_to, Advances}
 use Rattle.volume_base.specs.declared.error.JournalError.{JournalError}
 use Rattle.volume_base.specs.declared.error.JournalError.TheVariants.{ItemPruned, ItemOutOfRange, Corruption}
 use Rattle.journal_base.specs.Answers.{IsOfVolume}
@@ -56,3 +56,7 @@ Covers log place = (log.start ≡ place) ⊎ ((log.start < place) × (place < en
 -- the log up to an end, without the whole blobs below a place
 abbrev pub kept_between : ℕ → Log → ℕ → ℕ → Log
 kept_between blob log start end = pruned_to (cut_to log end) (blob_start blob (min start (end_of (cut_to log end))))
+
+-- an image of it loses items at its end, none below this end, and then items at its front, none from this place on
+abbrev pub Trims : ℕ → ℕ → Log → Log → Type 0
+Trims least place old new = (to : ℕ) × (least ≤ to) × Advances place (cut_to old to) new

@@ -37,10 +37,21 @@ pub record JournalStands {D Item : Type 0} (s : Shape) (h : Hashing D) (digest :
 abbrev pub names_of : {D Codec : Type 0} → Joined D Codec → Names
 names_of j = two_logs_and_map j.items.name j.tree.log.name j.tree.metadata
 
+-- Of an image of the volume, the two logs and the map of these names stand for the list.
+abbrev pub NamesStand : {D Item : Type 0} → Shape → Hashing D → (D → List ℕ) → (Item → List ℕ) → List Item → Marks → List ℕ → List ℕ → List ℕ → Image → Type 0
+NamesStand s h digest spelling list marks items nodes metadata image =
+    JournalStands s h digest spelling list marks (image.log items) (image.log nodes) (image.map metadata)
+
+-- Where whatever a crash leaves of them stands for the list, it does so at each moment of a call.
+abbrev pub NamesKeepStanding : {D Item : Type 0} → Shape → Hashing D → (D → List ℕ) → (Item → List ℕ) → List Item → Marks → List ℕ → List ℕ → List ℕ → State → State → Type 0
+NamesKeepStanding s h digest spelling list marks items nodes metadata old new =
+    Now (NamesLeft (two_logs_and_map items nodes metadata)) (NamesStand s h digest spelling list marks items nodes metadata) old →
+    Keeps (NamesLeft (two_logs_and_map items nodes metadata)) (NamesStand s h digest spelling list marks items nodes metadata) old new
+
 -- Of an image of the volume, what has these names stands for the list.
 abbrev pub ImageStands : {D Codec Item : Type 0} → Shape → Hashing D → (D → List ℕ) → (Item → List ℕ) → List Item → Marks → Joined D Codec → Image → Type 0
 ImageStands s h digest spelling list marks j image =
-    JournalStands s h digest spelling list marks (image.log j.items.name) (image.log j.tree.log.name) (image.map j.tree.metadata)
+    NamesStand s h digest spelling list marks j.items.name j.tree.log.name j.tree.metadata image
 
 -- Where whatever a crash leaves of these names stands for the list by the one marks, a call takes it to the others: up to a turn the one stand,
 -- and from it on the others; after an error they may not have turned.

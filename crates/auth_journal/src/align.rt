@@ -10,7 +10,9 @@ ghost use Rattle.merkle_full.specs.Flushing.{AllStand, AllKeepStanding};
 ghost use Rattle.merkle_full.specs.Full.{IsBeside, IsSeated, Rests};
 ghost use Rattle.merkle_full.specs.Lists.{IsFullOf};
 ghost use Rattle.auth_journal.specs.Aligning.{IsAligned, NotAligned};
+ghost use Rattle.auth_journal.specs.Errors.{IsLifted};
 ghost use Rattle.auth_journal.specs.Joined.{leaves_of};
+ghost use Rattle.auth_journal.specs.Reading.{AreReadable};
 
 use crate::Error;
 use crate::leaves::with_leaves;
@@ -36,6 +38,8 @@ pub(crate) fn align<F: Family, C: Contiguous, H: Hasher, V: Volume>(
     requires few { end ≤ 2 ^ 62 }
     ensures beside { IfOk result (λ t. IsBeside merkle t) }
     ensures longer { IfOk result (λ t. IsLonger F.shape (max merkle.tree.leaves end) merkle.tree t.tree) }
+    ensures replayed { let items = items_of C.Item.spelling C.Item.admits (C.view journal.now) (V.state vol.old) in
+        OnOk result (V.tells → AreReadable items merkle.tree.leaves end) }
     // For each list of which the log is a run and whose first leaves make the tree, so still, with more leaves.
     ensures full { let admits = H.Digest.Read.admits tt in
         let log = log_of (C.view journal.now) (V.state vol.old) in
@@ -73,6 +77,9 @@ pub(crate) fn catch_up<F: Family, C: Contiguous, H: Hasher, V: Volume>(
     requires few { end ≤ 2 ^ 62 }
     requires fresh { merkle.log.failed ≡ false }
     ensures aligned { IfOk result (λ t. IsAligned merkle (max merkle.tree.leaves end) t) }
+    // Each item that the tree lacked can be read.
+    ensures replayed { let items = items_of C.Item.spelling C.Item.admits (C.view journal.now) (V.state vol.old) in
+        OnOk result (V.tells → AreReadable items merkle.tree.leaves end) }
     ensures rests { IfOk result (λ t. Rests F.shape t) }
     ensures seated { IfOk result (λ t. V.tells → IsSeated F.shape merkle (present (V.state vol.old)) →
         IsSeated F.shape t (present (V.state vol.new))) }
@@ -86,7 +93,18 @@ pub(crate) fn catch_up<F: Family, C: Contiguous, H: Hasher, V: Volume>(
     ensures refused { let items = items_of C.Item.spelling C.Item.admits (C.view journal.now) (V.state vol.old) in
         V.tells → IsSeated F.shape merkle (present (V.state vol.old)) →
         IfErr result (NotAligned V.tells items merkle.tree.leaves end) }
+    // Whatever the volume tells.
+    ensures lifted { IfErr result IsLifted }
     ensures durable { OnOk result (V.tells → IsDurable merkle.log (V.state vol.new)) }
+    // After it all leaves are durable.
+    ensures settled { let log = log_of (C.view journal.now) (V.state vol.old) in
+        OnOk result (V.tells → (list : List C.Item) (durable top : ℕ) →
+        Spells C.Item.spelling list log → end ≤ length list →
+        IsFullOf F.shape H.hash H.Digest.spelling (H.Digest.Read.admits tt)
+        (leaves_of F.shape H.hash C.Item.spelling (take merkle.tree.leaves list)) merkle (present (V.state vol.old)) →
+        let all = leaves_of F.shape H.hash C.Item.spelling (take (max merkle.tree.leaves end) list) in
+        AllStand F.shape H.hash H.Digest.spelling all durable top merkle (V.state vol.old) →
+        AllStand F.shape H.hash H.Digest.spelling all (length all) top merkle (V.state vol.new)) }
     ensures names { V.tells → NamesCall (log_alone merkle.log.name) (V.state vol.old) (V.state vol.new) }
     // Each image goes on standing for the list, or for a longer one.
     ensures images { let log = log_of (C.view journal.now) (V.state vol.old) in

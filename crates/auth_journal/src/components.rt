@@ -9,7 +9,7 @@ use tree_core::{Family, Hasher, Location, MAX_LEAVES, Standard};
 use volume_base::{JournalError, Volume};
 
 impl<F: Family, C: Backing, H: Hasher> Journal<F, C, H> {
-    ghost use Rattle.std.specs.Prelude.{◌≡◌, ◌≢◌, ◌⊎◌, ◌<◌, ◌≤◌, ◌^◌, ℕ, List, take, true, false, Err, IfOk, IfErr, OnOk};
+    ghost use Rattle.std.specs.Prelude.{◌≡◌, ◌≢◌, ◌⊎◌, ◌<◌, ◌≤◌, ◌^◌, ℕ, List, length, take, true, false, Err, IfOk, IfErr, OnOk};
     ghost use Rattle.journal_base.specs.Items.{items_of, Spells};
     ghost use Rattle.journal_base.specs.View.{log_of, IsHeld, IsDurable};
     ghost use Rattle.tree_store.specs.declared.error.Error.TheVariants.{LocationOverflow};
@@ -21,7 +21,9 @@ impl<F: Family, C: Backing, H: Hasher> Journal<F, C, H> {
     ghost use Rattle.merkle_full.specs.Full.{IsSeated, Rests};
     ghost use Rattle.merkle_full.specs.Lists.{IsFullOf};
     ghost use Rattle.auth_journal.specs.Aligning.{IsAligned, NotAligned};
+    ghost use Rattle.auth_journal.specs.Errors.{IsLifted};
     ghost use Rattle.auth_journal.specs.Joined.{IsJoinedOf, leaves_of};
+    ghost use Rattle.auth_journal.specs.Reading.{AreReadable};
 
     /// Joins a log with a tree. The leaves that the tree lacks are made of the log's items, which are read so many at a
     /// time, and the tree is synced. Where the log or the tree keeps a failed sync it refuses with `Volume`. Else it
@@ -51,8 +53,13 @@ impl<F: Family, C: Backing, H: Hasher> Journal<F, C, H> {
             merkle.tree.leaves ≤ (C.view journal).end → (C.view journal).end ≤ 2 ^ 62 →
             IsSeated F.shape merkle (present (V.state vol.old)) →
             IfErr result (NotAligned V.tells items merkle.tree.leaves (C.view journal).end) }
+        // Whatever the volume tells, and whatever it holds.
+        ensures lifted { IfErr result IsLifted }
         ensures made { IfOk result (λ t. (t.items ≡ C.view journal) × (t.bagging ≡ hasher) × (t.failed ≡ false)) }
         ensures tree { IfOk result (λ t. IsAligned merkle (C.view journal).end t.tree × Rests F.shape t.tree) }
+        // Each item that the tree lacked can be read.
+        ensures replayed { let items = items_of C.Item.spelling C.Item.admits (C.view journal) (V.state vol.old) in
+            OnOk result (V.tells → AreReadable items merkle.tree.leaves (C.view journal).end) }
         ensures seated { IfOk result (λ t. V.tells → IsSeated F.shape merkle (present (V.state vol.old)) →
             IsSeated F.shape t.tree (present (V.state vol.new))) }
         // Where the log is a run of a list, and the tree is that of its first leaves, it is the journal of the list.
@@ -65,6 +72,16 @@ impl<F: Family, C: Backing, H: Hasher> Journal<F, C, H> {
             merkle (present (V.state vol.old)) →
             IsJoinedOf F.shape H.hash H.Digest.spelling admits C.Item.spelling list t (present (V.state vol.new))) }
         ensures durable { OnOk result (V.tells → IsDurable merkle.log (V.state vol.new)) }
+        // After it all leaves are durable.
+        ensures settled { OnOk result (V.tells → (list : List C.Item) (durable top : ℕ) →
+            Spells C.Item.spelling list (log_of (C.view journal) (V.state vol.old)) →
+            IsHeld (C.view journal) (V.state vol.old) →
+            IsFullOf F.shape H.hash H.Digest.spelling (H.Digest.Read.admits tt)
+            (leaves_of F.shape H.hash C.Item.spelling (take merkle.tree.leaves list))
+            merkle (present (V.state vol.old)) →
+            let all = leaves_of F.shape H.hash C.Item.spelling list in
+            AllStand F.shape H.hash H.Digest.spelling all durable top merkle (V.state vol.old) →
+            AllStand F.shape H.hash H.Digest.spelling all (length all) top merkle (V.state vol.new)) }
         // Every other log and every map stays, and so does what a crash leaves of it.
         ensures names { V.tells → NamesCall (log_alone merkle.log.name) (V.state vol.old) (V.state vol.new) }
         ensures images { V.tells → (list : List C.Item) (durable top : ℕ) →

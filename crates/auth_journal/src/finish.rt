@@ -18,7 +18,9 @@ impl<F: Family, C: Backing, H: Hasher> Recovery<F, C, H> {
     ghost use Rattle.merkle_full.specs.Full.{IsSeated, Rests};
     ghost use Rattle.auth_journal.specs.Aligning.{NotAligned};
     ghost use Rattle.auth_journal.specs.Joined.{IsJoinedOf, leaves_of};
-    ghost use Rattle.auth_journal.specs.Opening.{IsReadyIn, IsOpenedFrom};
+    ghost use Rattle.auth_journal.specs.Opening.{IsReadyIn, IsOpenedFrom, StandsWhileOpened};
+    ghost use Rattle.auth_journal.specs.Reading.{AreReadable};
+    ghost use Rattle.auth_journal.specs.Standing.{Marks};
 
     /// Cuts the log to the end and makes it durable. Then the tree is opened, the leaves that it lacks are made of the
     /// log's items, which are read so many at a time, and it is synced. It refuses an item that it can't read as
@@ -28,6 +30,9 @@ impl<F: Family, C: Backing, H: Hasher> Recovery<F, C, H> {
         ensures reached { IfOk result (λ t. V.tells → IsReadyIn self (V.state vol.old) →
             (t.items.end ≡ self.end) × (t.tree.tree.leaves ≡ self.end)) }
         ensures rests { IfOk result (λ t. Rests F.shape t.tree) }
+        // Each item that the tree lacked can be read.
+        ensures replayed { let items = items_of C.Item.spelling C.Item.admits self.items (V.state vol.old) in
+            OnOk result (V.tells → IsReadyIn self (V.state vol.old) → AreReadable items self.tree.tree.leaves self.end) }
         // The contents are those of the journal's logs and map, and the log is the one of before up to the end.
         ensures held { IfOk result (λ t. V.tells → IsHeld t.items (V.state vol.new)) }
         ensures cut { OnOk result (V.tells →
@@ -56,6 +61,9 @@ impl<F: Family, C: Backing, H: Hasher> Recovery<F, C, H> {
         ensures log { let old = V.state vol.old in V.tells → IsReadyIn self old →
             LogKeeps self.items.name (Follows (old.log_left old.clock self.items.name) (Shrinks self.end))
             old (V.state vol.new) }
+        // Where no more is durable than what stays, each image of all three goes on standing for the list.
+        ensures images { V.tells → (list : List C.Item) (marks : Marks) → StandsWhileOpened F.shape H.hash
+            H.Digest.spelling C.Item.spelling list marks self (V.state vol.old) (V.state vol.new) }
         ensures changes { Changes V.tells Error.Volume (V.state vol.old) (V.state vol.new) result }
     {
         let journal = self.journal.finish(vol, self.end)?;

@@ -19,10 +19,10 @@ impl<F: Family, C: Backing, H: Hasher> Journal<F, C, H> {
     ghost use Rattle.volume_base.specs.Names.{two_logs_and_map, NamesCall};
     ghost use Rattle.volume_base.specs.Volume.{Follows, Changes};
     ghost use Rattle.merkle_full.specs.Full.{Rests, IsSeated};
-    ghost use Rattle.merkle_full.specs.Preparing.{cap_of};
     ghost use Rattle.auth_journal.specs.Joined.{IsJoinedOf, leaves_of};
-    ghost use Rattle.auth_journal.specs.Opening.{OpensAt, NotOpened, ShrinksToEnd};
+    ghost use Rattle.auth_journal.specs.Opening.{OpensUpTo, NotOpened, ShrinksToEnd};
     ghost use Rattle.auth_journal.specs.Searching.{EndsAt};
+    ghost use Rattle.auth_journal.specs.Standing.{Marks, NamesKeepStanding};
 
     /// The journal up to the last item below a cap, or any, that a predicate accepts.
     fn open_under<V: Volume, P: Fn(&C::Item) -> bool>(
@@ -48,12 +48,12 @@ impl<F: Family, C: Backing, H: Hasher> Journal<F, C, H> {
         ensures cut { let view = C.config journal_cfg in IfOk result (λ t. V.tells →
             (log_of view (V.state vol.new) ≡ cut_to (log_of view (V.state vol.old)) t.items.end)
             × IsHeld t.items (V.state vol.new)) }
-        // The tree is opened under that end, and has a leaf for each item of it.
+        // The tree is opened under that end, the items that it lacks can be read, and it has a leaf for each item.
         ensures opens { let map = (V.state vol.old).map (string_bytes merkle_cfg.metadata) in
             let log = (V.state vol.old).log (string_bytes merkle_cfg.nodes) in
-            let admits = H.Digest.Read.admits tt in
-            IfOk result (λ t. V.tells → (leaves : ℕ) × OpensAt F H.Digest.spelling admits F.shape map log
-            (cap_of (Some t.items.end)) t.tree.boundary leaves) }
+            let items = items_of C.Item.spelling C.Item.admits (C.config journal_cfg) (V.state vol.old) in
+            IfOk result (λ t. V.tells → OpensUpTo F H.Digest.spelling (H.Digest.Read.admits tt) F.shape map log items
+            t.items.end t.tree.boundary) }
         ensures whole { IfOk result (λ t. V.tells → t.tree.tree.leaves ≡ t.items.end) }
         ensures rests { IfOk result (λ t. Rests F.shape t.tree) }
         ensures seated { IfOk result (λ t. V.tells → IsSeated F.shape t.tree (present (V.state vol.new))) }
@@ -82,6 +82,14 @@ impl<F: Family, C: Backing, H: Hasher> Journal<F, C, H> {
             let says = FnReturnsAt P.Fn predicate in V.tells →
             LogKeeps view.name (Follows (old.log_left old.clock view.name) (ShrinksToEnd items says max_size))
             old (V.state vol.new) }
+        // Where no more is durable than an end keeps, each image of all three goes on standing for the list.
+        ensures images { let view = C.config journal_cfg in let old = V.state vol.old in
+            let items = items_of C.Item.spelling C.Item.admits view old in
+            let says = FnReturnsAt P.Fn predicate in V.tells → (list : List C.Item) (marks : Marks) →
+            ((end : ℕ) → EndsAt items says max_size end → (marks.durable ≤ end) × (marks.node_durable ≤ end)) →
+            Spells C.Item.spelling list (log_of view old) → length list ≤ 2 ^ 62 →
+            NamesKeepStanding F.shape H.hash H.Digest.spelling C.Item.spelling list marks
+            view.name (string_bytes merkle_cfg.nodes) (string_bytes merkle_cfg.metadata) old (V.state vol.new) }
         ensures changes { Changes V.tells Error.Volume (V.state vol.old) (V.state vol.new) result }
     {
         let recovery = Journal::prepare(
@@ -123,12 +131,12 @@ impl<F: Family, C: Backing, H: Hasher> Journal<F, C, H> {
         ensures cut { let view = C.config journal_cfg in IfOk result (λ t. V.tells →
             (log_of view (V.state vol.new) ≡ cut_to (log_of view (V.state vol.old)) t.items.end)
             × IsHeld t.items (V.state vol.new)) }
-        // The tree is opened under that end, and has a leaf for each item of it.
+        // The tree is opened under that end, the items that it lacks can be read, and it has a leaf for each item.
         ensures opens { let map = (V.state vol.old).map (string_bytes merkle_cfg.metadata) in
             let log = (V.state vol.old).log (string_bytes merkle_cfg.nodes) in
-            let admits = H.Digest.Read.admits tt in
-            IfOk result (λ t. V.tells → (leaves : ℕ) × OpensAt F H.Digest.spelling admits F.shape map log
-            (cap_of (Some t.items.end)) t.tree.boundary leaves) }
+            let items = items_of C.Item.spelling C.Item.admits (C.config journal_cfg) (V.state vol.old) in
+            IfOk result (λ t. V.tells → OpensUpTo F H.Digest.spelling (H.Digest.Read.admits tt) F.shape map log items
+            t.items.end t.tree.boundary) }
         ensures whole { IfOk result (λ t. V.tells → t.tree.tree.leaves ≡ t.items.end) }
         ensures rests { IfOk result (λ t. Rests F.shape t.tree) }
         ensures seated { IfOk result (λ t. V.tells → IsSeated F.shape t.tree (present (V.state vol.new))) }
@@ -157,6 +165,14 @@ impl<F: Family, C: Backing, H: Hasher> Journal<F, C, H> {
             let says = FnReturnsAt P.Fn predicate in V.tells →
             LogKeeps view.name (Follows (old.log_left old.clock view.name) (ShrinksToEnd items says None))
             old (V.state vol.new) }
+        // Where no more is durable than an end keeps, each image of all three goes on standing for the list.
+        ensures images { let view = C.config journal_cfg in let old = V.state vol.old in
+            let items = items_of C.Item.spelling C.Item.admits view old in
+            let says = FnReturnsAt P.Fn predicate in V.tells → (list : List C.Item) (marks : Marks) →
+            ((end : ℕ) → EndsAt items says None end → (marks.durable ≤ end) × (marks.node_durable ≤ end)) →
+            Spells C.Item.spelling list (log_of view old) → length list ≤ 2 ^ 62 →
+            NamesKeepStanding F.shape H.hash H.Digest.spelling C.Item.spelling list marks
+            view.name (string_bytes merkle_cfg.nodes) (string_bytes merkle_cfg.metadata) old (V.state vol.new) }
         ensures changes { Changes V.tells Error.Volume (V.state vol.old) (V.state vol.new) result }
     {
         Journal::open_under(
@@ -197,12 +213,12 @@ impl<F: Family, C: Backing, H: Hasher> Journal<F, C, H> {
         ensures cut { let view = C.config journal_cfg in IfOk result (λ t. V.tells →
             (log_of view (V.state vol.new) ≡ cut_to (log_of view (V.state vol.old)) t.items.end)
             × IsHeld t.items (V.state vol.new)) }
-        // The tree is opened under that end, and has a leaf for each item of it.
+        // The tree is opened under that end, the items that it lacks can be read, and it has a leaf for each item.
         ensures opens { let map = (V.state vol.old).map (string_bytes merkle_cfg.metadata) in
             let log = (V.state vol.old).log (string_bytes merkle_cfg.nodes) in
-            let admits = H.Digest.Read.admits tt in
-            IfOk result (λ t. V.tells → (leaves : ℕ) × OpensAt F H.Digest.spelling admits F.shape map log
-            (cap_of (Some t.items.end)) t.tree.boundary leaves) }
+            let items = items_of C.Item.spelling C.Item.admits (C.config journal_cfg) (V.state vol.old) in
+            IfOk result (λ t. V.tells → OpensUpTo F H.Digest.spelling (H.Digest.Read.admits tt) F.shape map log items
+            t.items.end t.tree.boundary) }
         ensures whole { IfOk result (λ t. V.tells → t.tree.tree.leaves ≡ t.items.end) }
         ensures rests { IfOk result (λ t. Rests F.shape t.tree) }
         ensures seated { IfOk result (λ t. V.tells → IsSeated F.shape t.tree (present (V.state vol.new))) }
@@ -231,6 +247,14 @@ impl<F: Family, C: Backing, H: Hasher> Journal<F, C, H> {
             let says = FnReturnsAt P.Fn predicate in V.tells →
             LogKeeps view.name (Follows (old.log_left old.clock view.name) (ShrinksToEnd items says (Some max_size)))
             old (V.state vol.new) }
+        // Where no more is durable than an end keeps, each image of all three goes on standing for the list.
+        ensures images { let view = C.config journal_cfg in let old = V.state vol.old in
+            let items = items_of C.Item.spelling C.Item.admits view old in
+            let says = FnReturnsAt P.Fn predicate in V.tells → (list : List C.Item) (marks : Marks) →
+            ((end : ℕ) → EndsAt items says (Some max_size) end → (marks.durable ≤ end) × (marks.node_durable ≤ end)) →
+            Spells C.Item.spelling list (log_of view old) → length list ≤ 2 ^ 62 →
+            NamesKeepStanding F.shape H.hash H.Digest.spelling C.Item.spelling list marks
+            view.name (string_bytes merkle_cfg.nodes) (string_bytes merkle_cfg.metadata) old (V.state vol.new) }
         ensures changes { Changes V.tells Error.Volume (V.state vol.old) (V.state vol.new) result }
     {
         Journal::open_under(

@@ -9,7 +9,7 @@ use tree_core::{Bagging, Family, Hasher, Location, MAX_LEAVES, Standard};
 use volume_base::{JournalError, Volume};
 
 impl<F: Family, C: Backing, H: Hasher> Journal<F, C, H> {
-    ghost use Rattle.std.specs.Prelude.{◌≡◌, ◌≢◌, ◌≤◌, ◌^◌, ℕ, List, take, Ok, Some, Option, string_bytes, IfOk, IfErr};
+    ghost use Rattle.std.specs.Prelude.{◌≡◌, ◌≢◌, ◌⊎◌, ◌≤◌, ◌^◌, ℕ, List, take, Ok, Some, Option, string_bytes, IfOk, IfErr};
     ghost use Rattle.std.specs.Fn.{FnReturnsAt};
     ghost use Rattle.std.specs.NonZero.{non_zero_u64_get};
     ghost use Rattle.journal_base.specs.Items.{items_of};
@@ -52,6 +52,8 @@ impl<F: Family, C: Backing, H: Hasher> Journal<F, C, H> {
             IfOk result (λ r. V.tells → Opens F H.Digest.spelling (H.Digest.Read.admits tt) F.shape map log
             (cap_of (Some r.end)) r.tree.boundary r.tree.complete r.tree.pruned r.tree.tree.leaves) }
         ensures within { IfOk result (λ r. V.tells → IsReadyIn r (V.state vol.new)) }
+        // Whatever the volume tells.
+        ensures sound { IfOk result (λ r. (r.items.start ≤ r.tree.tree.leaves) × (r.end ≤ 2 ^ 62)) }
         // For each list that the contents stand for, the tree is that of its first leaves.
         ensures list { let map = (V.state vol.old).map (string_bytes merkle_cfg.metadata) in
             let log = (V.state vol.old).log (string_bytes merkle_cfg.nodes) in
@@ -65,6 +67,10 @@ impl<F: Family, C: Backing, H: Hasher> Journal<F, C, H> {
             let log = (V.state vol.old).log (string_bytes merkle_cfg.nodes) in
             V.tells → IfErr result
             (NotReady H.Digest.spelling (H.Digest.Read.admits tt) F.shape map log items says max_size) }
+        // Before an end is found that a tree may have nothing is written.
+        ensures searched { let items = items_of C.Item.spelling C.Item.admits (C.config journal_cfg) (V.state vol.old) in
+            let says = FnReturnsAt P.Fn predicate in V.tells → ((V.state vol.new).clock ≡ (V.state vol.old).clock)
+            ⊎ ((end : ℕ) × EndsAt items says max_size end × (end ≤ 2 ^ 62)) }
         // At most the node log is cleared, where no boundary is stored and it starts past 0.
         ensures log { V.tells →
             LogCall (string_bytes merkle_cfg.nodes) (BecomesOneOf (cleared_at 0)) (V.state vol.old) (V.state vol.new) }

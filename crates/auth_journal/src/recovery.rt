@@ -48,7 +48,7 @@ impl<F: Family, C: Backing, H: Hasher> Recovery<F, C, H> {
     ghost use Rattle.journal_base.specs.View.{log_of, IsHeld};
     ghost use Rattle.volume_base.specs.Volume.{Reads};
     ghost use Rattle.volume_base.specs.declared.error.JournalError.{JournalError};
-    ghost use Rattle.auth_journal.specs.Errors.{IsOutside};
+    ghost use Rattle.auth_journal.specs.Errors.{IsOutside, IsLifted};
     ghost use Rattle.auth_journal.specs.Searching.{IsUnreadWithin};
 
     /// The start, and the end at which it will be opened.
@@ -79,6 +79,8 @@ impl<F: Family, C: Backing, H: Hasher> Recovery<F, C, H> {
         ensures refused { let items = items_of C.Item.spelling C.Item.admits self.now.items (V.state vol.old) in
             V.tells → IsHeld self.now.items (V.state vol.old) → IfErr result (λ e. IsOutside e ⊎
             ((d : JournalError) × IsUnreadWithin items self.now.end position d × (e ≡ Error.Journal d))) }
+        // Whatever the volume tells, and whatever it holds.
+        ensures lifted { IfErr result IsLifted }
         // Where the log is a run of a list, an item that is read is the list's.
         ensures listed { let log = log_of self.now.items (V.state vol.old) in
             V.tells → IsHeld self.now.items (V.state vol.old) →

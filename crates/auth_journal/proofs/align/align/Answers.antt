@@ -10,6 +10,7 @@ use Rattle.auth_journal.specs.Joined.{leaves_of}
 use Rattle.auth_journal.specs.Reading.{positions}
 use Rattle.auth_journal.specs.declared.error.Error.TheVariants as joined
 use Rattle.auth_journal.proofs.AlignLemmas.{read_join, replayed, piece_unread, nothing_read, longer_joins, beside_joins, reads_above, memory_only}
+use Rattle.auth_journal.proofs.OpenedLemmas.{readable_from}
 use Rattle.auth_journal.proofs.align.align.Goals as goal
 
 pub loop-leaves-init : goal.loop-leaves-init
@@ -83,3 +84,10 @@ pub returns-clause-full : goal.returns-clause-full
 returns-clause-full g c told list image run few full =
     let now = c.loop-leaves.invariant in
     subst (λ (n : ℕ). IsFullOf g.F.Family.shape g.H.Hasher.hash g.H.Digest.Spelled.spelling (g.H.Digest.Read.admits tt) (leaves_of g.F.Family.shape g.H.Hasher.hash g.C.Item.Spelled.spelling (take n list)) c.loop-leaves.merkle image) (sym now.longer.leaves) (now.full told list image run few full)
+
+pub returns-clause-replayed : goal.returns-clause-replayed
+returns-clause-replayed g c told =
+    let view = g.C.Contiguous.view c.args.journal.now in
+    let items = items_of g.C.Item.Spelled.spelling g.C.Item.Read.admits view (g.V.Volume.state c.args.vol.now) in
+    let read = c.loop-leaves.invariant.readable told in
+    readable_from items c.args.merkle.tree.leaves c.loop-leaves.leaves c.args.end read.0 c.loop-leaves-test.false read.1

@@ -9,9 +9,12 @@ use Rattle.tree_store.specs.declared.error.Error.TheVariants as tree
 use Rattle.merkle_full.specs.Lists.{IsFullOf}
 use Rattle.merkle_full.proofs.FullLemmas.{full_later}
 use Rattle.merkle_full.proofs.StandLemmas.{pair_idle}
+use Rattle.auth_journal.specs.Errors.{from_tree, IsLifted}
 use Rattle.auth_journal.specs.Joined.{leaves_of}
 use Rattle.auth_journal.specs.declared.error.Error.TheVariants as joined
 use Rattle.auth_journal.proofs.AlignLemmas.{seated_later, outside_above, images_joined, changes_above}
+use Rattle.auth_journal.proofs.DurableLemmas.{err_and}
+use Rattle.auth_journal.proofs.OpenedLemmas.{aligned_lifted, flush_lifted, settle_joined}
 use Rattle.auth_journal.proofs.align.catch_up.Goals as goal
 
 pub returns-clause-aligned : goal.returns-clause-aligned
@@ -138,3 +141,32 @@ returns-clause-changes g c =
     let then = (c.in_ok-synced.ensures {u = tt}).writes fresh in
     let t = c.in_ok-synced.synced in
     changes_joins tells tree.Volume joined.Volume _ _ _ (Ok t) (Ok t) (went_of_reads tells joined.Volume _ _ c.in_ok-aligned.aligned one.reads) (changes_of_writes tells tree.Volume _ _ (Ok t) then) (λ is. absurd cc) then.kept
+
+pub returns-clause-replayed : goal.returns-clause-replayed
+returns-clause-replayed g c told = (c.in_ok-aligned.ensures {u = tt}).replayed told
+
+pub returns-in_err-aligned-clause-lifted : goal.returns-in_err-aligned-clause-lifted
+returns-in_err-aligned-clause-lifted g c =
+    let e = c.in_err-aligned.field-0.0 in
+    err_and _ e IsLifted c.from_residual.ensures.1 (aligned_lifted g.V.Volume.tells _ _ _ e (c.in_err-aligned.ensures {u = tt}).refused)
+
+pub returns-in_err-synced-clause-lifted : goal.returns-in_err-synced-clause-lifted
+returns-in_err-synced-clause-lifted g c =
+    let e = c.in_err-synced.field-0.0 in
+    err_and _ (from_tree e) IsLifted c.from_residual-in_err-synced.ensures.1 (flush_lifted g.F.Family.shape c.in_ok-aligned.aligned e (c.in_err-synced.ensures {u = tt}).errors)
+
+pub returns-clause-settled : goal.returns-clause-settled
+returns-clause-settled g c told list durable top run few full has =
+    let s = g.F.Family.shape in
+    let h = g.H.Hasher.hash in
+    let digest = g.H.Digest.Spelled.spelling in
+    let admits = g.H.Digest.Read.admits tt in
+    let spelling = g.C.Item.Spelled.spelling in
+    let s0 = g.V.Volume.state c.args.vol.now in
+    let s1 = g.V.Volume.state c.align.new.vol in
+    let s2 = g.V.Volume.state c.sync.new.vol in
+    let one = c.in_ok-aligned.ensures {u = tt} in
+    let t = c.in_ok-aligned.aligned in
+    let read = one.reads.contents told in
+    let here = full_later s h digest admits (leaves_of s h spelling (take t.tree.leaves list)) t (present s0) (present s1) (read.logs t.log.name) (read.maps t.metadata) (one.full told list (present s0) run few full) in
+    settle_joined s h digest (λ n. leaves_of s h spelling (take n list)) durable top c.args.merkle t _ s0 s1 s2 one.beside one.longer.leaves one.reads.clock (one.reads.past told) has ((c.in_ok-synced.ensures {u = tt}).settled told h (leaves_of s h spelling (take t.tree.leaves list)) durable top here)

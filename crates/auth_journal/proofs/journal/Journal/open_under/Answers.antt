@@ -1,23 +1,27 @@
-use Rattle.std.proofs.Common.{◌≡◌, inl, inr, Ok, Some, take, refl, sym, ◌∙◌, ap, subst}
+use Rattle.std.proofs.Common.{◌≡◌, ◌≤◌, inl, inr, Ok, Some, take, refl, sym, ◌∙◌, ap, subst, arith}
 use Rattle.std.specs.Fn.{FnReturnsAt}
 use Rattle.std.specs.Prelude.{string_bytes}
 use Rattle.volume_base.specs.Log.{Log, cut_to, Shrinks}
-use Rattle.volume_base.specs.Moments.{present, LogKeeps}
+use Rattle.volume_base.specs.Moments.{NamesLeft, present, LogKeeps}
 use Rattle.volume_base.specs.Names.{two_logs_and_map, NamesCall}
 use Rattle.volume_base.specs.Volume.{Map, OnlyLeft, Follows}
 use Rattle.volume_base.proofs.CallLemmas.{names_call_log, names_call_joins}
 use Rattle.volume_base.proofs.MomentLemmas.{log_stays_log}
+use Rattle.volume_base.proofs.NameLemmas.{names_of_image}
+use Rattle.volume_base.proofs.TurnLemmas.{names_back, now_after, keeps_idle, keeps_joins}
 use Rattle.volume_base.proofs.JoinLemmas.{went_of, changes_joins}
 use Rattle.journal_base.specs.Items.{items_of, Spells}
 use Rattle.journal_base.specs.View.{View, at_bounds}
 use Rattle.tree_store.specs.Stored.{TreeStands}
 use Rattle.merkle_full.specs.Preparing.{cap_of}
 use Rattle.merkle_full.proofs.GrownLemmas.{err_same}
-use Rattle.merkle_full.proofs.PrepareLemmas.{kept_standing}
+use Rattle.merkle_full.proofs.PrepareLemmas.{kept_standing, durable_fits}
 use Rattle.auth_journal.specs.Aligning.{NotAligned}
 use Rattle.auth_journal.specs.Joined.{IsJoinedOf, leaves_of}
-use Rattle.auth_journal.specs.Opening.{OpensAt, ShrinksToEnd}
+use Rattle.auth_journal.specs.Opening.{OpensAt, OpensUpTo, ShrinksToEnd}
+use Rattle.auth_journal.specs.Reading.{AreReadable}
 use Rattle.auth_journal.specs.Searching.{EndsAt}
+use Rattle.auth_journal.specs.Standing.{NamesStand, NamesKeepStanding}
 use Rattle.auth_journal.specs.declared.error.Error.TheVariants as joined
 use Rattle.auth_journal.proofs.AlignLemmas.{changes_same}
 use Rattle.auth_journal.proofs.OpeningLemmas.{seen_items, keeps_behind}
@@ -135,11 +139,17 @@ returns-clause-opens g c told =
     let from = did_finish.from in
     let within = did.within told in
     let end : t.items.end ≡ r.end = (did_finish.reached told within).0 in
-    let opens : OpensAt g.row.F.Denot digest admitted s (s0.map metadata) (s0.log nodes) (cap_of (Some r.end)) r.tree.pruned r.tree.tree.leaves = record { boundary = r.tree.boundary; complete = r.tree.complete; opens = did.opens told } in (
-      r.tree.tree.leaves,
-      subst (λ b. OpensAt g.row.F.Denot digest admitted s (s0.map metadata) (s0.log nodes) (cap_of (Some t.items.end)) b r.tree.tree.leaves) (sym from.boundary)
-          (subst (λ n. OpensAt g.row.F.Denot digest admitted s (s0.map metadata) (s0.log nodes) (cap_of (Some n)) r.tree.pruned r.tree.tree.leaves) (sym end) opens),
-    )
+    let same : s1.log first.name ≡ s0.log first.name = (did.log told).others.logs first.name c.requires.apart in
+    let opens : OpensAt g.row.F.Denot digest admitted s (s0.map metadata) (s0.log nodes) (cap_of (Some r.end)) r.tree.pruned r.tree.tree.leaves = record { boundary = r.tree.boundary; complete = r.tree.complete; opens = did.opens told } in
+    let items = items_of spelling admits first s0 in
+    let up_to : OpensUpTo g.row.F.Denot digest admitted s (s0.map metadata) (s0.log nodes) items r.end r.tree.pruned = record {
+      leaves = r.tree.tree.leaves;
+      opens = opens;
+      reached = omega (arith, did.sound.0, within.items.start_is, ap (λ (l : Log). l.start) (ap s1.log name ∙ same));
+      readable = seen_items (λ i. AreReadable i r.tree.tree.leaves r.end) spelling admits first r.items s0 s1 did.named.0 same (did_finish.replayed told within);
+    } in
+    subst (λ b. OpensUpTo g.row.F.Denot digest admitted s (s0.map metadata) (s0.log nodes) items t.items.end b) (sym from.boundary)
+    (subst (λ n. OpensUpTo g.row.F.Denot digest admitted s (s0.map metadata) (s0.log nodes) items n r.tree.pruned) (sym end) up_to)
 
 pub returns-clause-whole : goal.returns-clause-whole
 returns-clause-whole g c told =
@@ -300,7 +310,8 @@ returns-in_err-opened-clause-refused g c told =
     let opens : OpensAt g.row.F.Denot digest admitted s (s0.map metadata) (s0.log nodes) (cap_of (Some r.end)) r.tree.pruned r.tree.tree.leaves = record { boundary = r.tree.boundary; complete = r.tree.complete; opens = did.opens told } in
     let e = c.in_err-opened.field-0.0 in
     let not = seen_items (λ i. NotAligned tells i r.tree.tree.leaves r.end e) spelling admits first r.items s0 s1 did.named.0 same (c.in_err-opened.ensures.refused told within) in
-    err_same _ e _ c.from_residual-in_err-opened.ensures.1 (inr (r.end, r.tree.pruned, r.tree.tree.leaves, did.found told, opens, not))
+    let reached : (s0.log first.name).start ≤ r.tree.tree.leaves = omega (arith, did.sound.0, within.items.start_is, ap (λ (l : Log). l.start) (ap s1.log name ∙ same)) in
+    err_same _ e _ c.from_residual-in_err-opened.ensures.1 (inr (r.end, r.tree.pruned, r.tree.tree.leaves, did.found told, did.sound.1, opens, reached, not))
 
 pub returns-in_err-recovery-clause-names : goal.returns-in_err-recovery-clause-names
 returns-in_err-recovery-clause-names g c told =
@@ -463,3 +474,96 @@ returns-clause-changes g c =
     let did_finish = c.in_ok-opened.ensures {u = tt} in
     let from = did_finish.from in
     changes_joins tells joined.Volume joined.Volume _ _ _ (Ok t) (Ok t) (went_of tells joined.Volume _ _ r did.changes) did_finish.changes (λ is. absurd cc) did_finish.changes.kept
+
+pub returns-in_err-recovery-clause-images : goal.returns-in_err-recovery-clause-images
+returns-in_err-recovery-clause-images g c told list marks low run long has =
+    let s = g.F.Family.shape in
+    let h = g.H.Hasher.hash in
+    let digest = g.H.Digest.Spelled.spelling in
+    let admitted = g.H.Digest.Read.admits tt in
+    let spelling = g.C.Item.Spelled.spelling in
+    let s0 = g.V.Volume.state c.args.vol.now in
+    let s1 = g.V.Volume.state c.prepare.new.vol in
+    let first = g.C.Backing.config c.args.journal_cfg in
+    let nodes = string_bytes c.args.merkle_cfg.nodes in
+    let metadata = string_bytes c.args.merkle_cfg.metadata in
+    let now = g.met.V.Volume.contents_left c.args.vol.now told in
+    let stands = (has (present s0) (names_of_image (two_logs_and_map first.name nodes metadata) s0 s0.clock (present s0) now)).tree in
+    let all = leaves_of s h spelling list in
+    let Left = NamesLeft (two_logs_and_map first.name nodes metadata) in
+    let Stands = NamesStand s h digest spelling list marks first.name nodes metadata in
+    let did = c.in_err-recovery.ensures in
+    let clock = did.still told (λ stored is. kept_standing s h digest all marks.node_durable (s0.log first.name).start (s0.log nodes) (s0.map metadata) stored stands is) in
+    keeps_idle Left (names_back (two_logs_and_map first.name nodes metadata)) Stands s0 s1 clock (did.log told).images.past has
+
+pub returns-in_err-opened-clause-images : goal.returns-in_err-opened-clause-images
+returns-in_err-opened-clause-images g c told list marks low run long has =
+    let s = g.F.Family.shape in
+    let h = g.H.Hasher.hash in
+    let digest = g.H.Digest.Spelled.spelling in
+    let admitted = g.H.Digest.Read.admits tt in
+    let spelling = g.C.Item.Spelled.spelling in
+    let s0 = g.V.Volume.state c.args.vol.now in
+    let s1 = g.V.Volume.state c.prepare.new.vol in
+    let first = g.C.Backing.config c.args.journal_cfg in
+    let nodes = string_bytes c.args.merkle_cfg.nodes in
+    let metadata = string_bytes c.args.merkle_cfg.metadata in
+    let now = g.met.V.Volume.contents_left c.args.vol.now told in
+    let stands = (has (present s0) (names_of_image (two_logs_and_map first.name nodes metadata) s0 s0.clock (present s0) now)).tree in
+    let all = leaves_of s h spelling list in
+    let Left = NamesLeft (two_logs_and_map first.name nodes metadata) in
+    let Stands = NamesStand s h digest spelling list marks first.name nodes metadata in
+    let did = c.in_ok-recovery.ensures {u = tt} in
+    let clock = did.still told (λ stored is. kept_standing s h digest all marks.node_durable (s0.log first.name).start (s0.log nodes) (s0.map metadata) stored stands is) in
+    let ab = keeps_idle Left (names_back (two_logs_and_map first.name nodes metadata)) Stands s0 s1 clock (did.log told).images.past has in
+    let r = c.in_ok-recovery.recovery in
+    let s2 = g.V.Volume.state c.finish.new.vol in
+    let name : r.items.name ≡ first.name = ap (λ (v : View g.row.C-Item-Cfg.Denot). v.name) did.named.0 in
+    let same : s1.log first.name ≡ s0.log first.name = (did.log told).others.logs first.name c.requires.apart in
+    let ready = did.within told in
+    let here = subst (λ (l : Log). Spells spelling list l) (sym (ap s1.log name ∙ same)) run in
+    let ends = low r.end (did.found told) in
+    let few : marks.node_durable ≤ cap_of (Some r.end) = omega (arith, ends.1, did.sound.1) in
+    let fits = durable_fits g.row.F.Denot s h digest admitted all marks.node_durable (s0.log first.name).start (s0.log nodes) (s0.map metadata) (cap_of (Some r.end)) r.tree.boundary r.tree.complete r.tree.pruned r.tree.tree.leaves stands (did.opens told) few in
+    let of = did.list told list marks.node_durable (s0.log first.name).start stands in
+    let step = c.in_err-opened.ensures.images told list marks ready here long of ends.0 fits in
+    let bc = subst (λ n. NamesKeepStanding s h digest spelling list marks n nodes metadata s1 s2) name
+    (subst (λ n. NamesKeepStanding s h digest spelling list marks r.items.name n metadata s1 s2) did.named.1.nodes_is
+    (subst (λ n. NamesKeepStanding s h digest spelling list marks r.items.name r.tree.log.name n s1 s2) did.named.1.metadata_is step)) in
+    keeps_joins Left (names_back (two_logs_and_map first.name nodes metadata)) Stands s0 s1 s2 ab (bc (now_after Left Stands s0 s1 ab))
+
+pub returns-clause-images : goal.returns-clause-images
+returns-clause-images g c told list marks low run long has =
+    let s = g.F.Family.shape in
+    let h = g.H.Hasher.hash in
+    let digest = g.H.Digest.Spelled.spelling in
+    let admitted = g.H.Digest.Read.admits tt in
+    let spelling = g.C.Item.Spelled.spelling in
+    let s0 = g.V.Volume.state c.args.vol.now in
+    let s1 = g.V.Volume.state c.prepare.new.vol in
+    let first = g.C.Backing.config c.args.journal_cfg in
+    let nodes = string_bytes c.args.merkle_cfg.nodes in
+    let metadata = string_bytes c.args.merkle_cfg.metadata in
+    let now = g.met.V.Volume.contents_left c.args.vol.now told in
+    let stands = (has (present s0) (names_of_image (two_logs_and_map first.name nodes metadata) s0 s0.clock (present s0) now)).tree in
+    let all = leaves_of s h spelling list in
+    let Left = NamesLeft (two_logs_and_map first.name nodes metadata) in
+    let Stands = NamesStand s h digest spelling list marks first.name nodes metadata in
+    let did = c.in_ok-recovery.ensures {u = tt} in
+    let clock = did.still told (λ stored is. kept_standing s h digest all marks.node_durable (s0.log first.name).start (s0.log nodes) (s0.map metadata) stored stands is) in
+    let ab = keeps_idle Left (names_back (two_logs_and_map first.name nodes metadata)) Stands s0 s1 clock (did.log told).images.past has in
+    let r = c.in_ok-recovery.recovery in
+    let s2 = g.V.Volume.state c.finish.new.vol in
+    let name : r.items.name ≡ first.name = ap (λ (v : View g.row.C-Item-Cfg.Denot). v.name) did.named.0 in
+    let same : s1.log first.name ≡ s0.log first.name = (did.log told).others.logs first.name c.requires.apart in
+    let ready = did.within told in
+    let here = subst (λ (l : Log). Spells spelling list l) (sym (ap s1.log name ∙ same)) run in
+    let ends = low r.end (did.found told) in
+    let few : marks.node_durable ≤ cap_of (Some r.end) = omega (arith, ends.1, did.sound.1) in
+    let fits = durable_fits g.row.F.Denot s h digest admitted all marks.node_durable (s0.log first.name).start (s0.log nodes) (s0.map metadata) (cap_of (Some r.end)) r.tree.boundary r.tree.complete r.tree.pruned r.tree.tree.leaves stands (did.opens told) few in
+    let of = did.list told list marks.node_durable (s0.log first.name).start stands in
+    let step = (c.in_ok-opened.ensures {u = tt}).images told list marks ready here long of ends.0 fits in
+    let bc = subst (λ n. NamesKeepStanding s h digest spelling list marks n nodes metadata s1 s2) name
+    (subst (λ n. NamesKeepStanding s h digest spelling list marks r.items.name n metadata s1 s2) did.named.1.nodes_is
+    (subst (λ n. NamesKeepStanding s h digest spelling list marks r.items.name r.tree.log.name n s1 s2) did.named.1.metadata_is step)) in
+    keeps_joins Left (names_back (two_logs_and_map first.name nodes metadata)) Stands s0 s1 s2 ab (bc (now_after Left Stands s0 s1 ab))

@@ -357,3 +357,63 @@ returns-clause-list g c told list durable top stands =
     let Q = TreeStands s h g.H.Digest.Spelled.spelling (leaves_of s h spelling list) durable top in
     let here = subst (λ (l : Log). Q l (s2.map metadata)) (sym (read.logs nodes)) (subst (λ (m : Map). Q (s0.log nodes) m) (sym (read.maps metadata)) stands) in
     subst (λ (ds : List g.row.H-Digest.Denot). IsOf s h ds r.tree) (leaves_take s h spelling r.tree.leaves list) ((c.in_ok-merkle.ensures {u = tt}).list told (leaves_of s h spelling list) durable top here)
+
+pub returns-clause-sound : goal.returns-clause-sound
+returns-clause-sound g c = (omega arith, omega (arith, c.if-end-gt-MAX_LEAVES.false))
+
+pub returns-in_err-journal-clause-searched : goal.returns-in_err-journal-clause-searched
+returns-in_err-journal-clause-searched g c told = inl c.in_err-journal.ensures.answers.clock
+
+pub returns-in_err-end-clause-searched : goal.returns-in_err-end-clause-searched
+returns-in_err-end-clause-searched g c told = inl (c.in_err-end.ensures.reads.clock ∙ (c.in_ok-journal.ensures {u = tt}).answers.clock)
+
+pub returns-then-end-gt-MAX_LEAVES-clause-searched : goal.returns-then-end-gt-MAX_LEAVES-clause-searched
+returns-then-end-gt-MAX_LEAVES-clause-searched g c told = inl ((c.in_ok-end.ensures {u = tt}).reads.clock ∙ (c.in_ok-journal.ensures {u = tt}).answers.clock)
+
+pub returns-in_err-merkle-clause-searched : goal.returns-in_err-merkle-clause-searched
+returns-in_err-merkle-clause-searched g c told =
+    let s0 = g.V.Volume.state c.args.vol.now in
+    let s1 = g.V.Volume.state c.recover.new.vol in
+    let first = g.C.Backing.config c.args.journal_cfg in
+    let spelling = g.C.Item.Spelled.spelling in
+    let admits = g.C.Item.Read.admits in
+    let says = FnReturnsAt g.P.Fn c.args.predicate in
+    let cap = c.args.max_size in
+    let view = g.C.Recovery.BackingRecovery.view c.in_ok-journal.journal in
+    let seen = c.in_ok-journal.ensures {u = tt} in
+    let logs = (seen.answers.contents told).logs first.name in
+    let held = seen_held first view s0 s1 seen.made logs (seen.start told) (seen.end told) in
+    let end = c.in_ok-end.end in
+    inr (end, seen_items (λ i. EndsAt i says cap end) spelling admits first view s0 s1 seen.made logs ((c.in_ok-end.ensures {u = tt}).found told held), omega (arith, c.if-end-gt-MAX_LEAVES.false))
+
+pub returns-then-leaves-start-clause-searched : goal.returns-then-leaves-start-clause-searched
+returns-then-leaves-start-clause-searched g c told =
+    let s0 = g.V.Volume.state c.args.vol.now in
+    let s1 = g.V.Volume.state c.recover.new.vol in
+    let first = g.C.Backing.config c.args.journal_cfg in
+    let spelling = g.C.Item.Spelled.spelling in
+    let admits = g.C.Item.Read.admits in
+    let says = FnReturnsAt g.P.Fn c.args.predicate in
+    let cap = c.args.max_size in
+    let view = g.C.Recovery.BackingRecovery.view c.in_ok-journal.journal in
+    let seen = c.in_ok-journal.ensures {u = tt} in
+    let logs = (seen.answers.contents told).logs first.name in
+    let held = seen_held first view s0 s1 seen.made logs (seen.start told) (seen.end told) in
+    let end = c.in_ok-end.end in
+    inr (end, seen_items (λ i. EndsAt i says cap end) spelling admits first view s0 s1 seen.made logs ((c.in_ok-end.ensures {u = tt}).found told held), omega (arith, c.if-end-gt-MAX_LEAVES.false))
+
+pub returns-clause-searched : goal.returns-clause-searched
+returns-clause-searched g c told =
+    let s0 = g.V.Volume.state c.args.vol.now in
+    let s1 = g.V.Volume.state c.recover.new.vol in
+    let first = g.C.Backing.config c.args.journal_cfg in
+    let spelling = g.C.Item.Spelled.spelling in
+    let admits = g.C.Item.Read.admits in
+    let says = FnReturnsAt g.P.Fn c.args.predicate in
+    let cap = c.args.max_size in
+    let view = g.C.Recovery.BackingRecovery.view c.in_ok-journal.journal in
+    let seen = c.in_ok-journal.ensures {u = tt} in
+    let logs = (seen.answers.contents told).logs first.name in
+    let held = seen_held first view s0 s1 seen.made logs (seen.start told) (seen.end told) in
+    let end = c.in_ok-end.end in
+    inr (end, seen_items (λ i. EndsAt i says cap end) spelling admits first view s0 s1 seen.made logs ((c.in_ok-end.ensures {u = tt}).found told held), omega (arith, c.if-end-gt-MAX_LEAVES.false))

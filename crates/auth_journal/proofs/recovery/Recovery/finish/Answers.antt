@@ -1,8 +1,8 @@
-use Rattle.std.proofs.Common.{◌≡◌, ◌≢◌, ◌≤◌, ◌^◌, inl, List, Ok, Err, take, length, map, false, refl, sym, ◌∙◌, ap, subst, arith}
+use Rattle.std.proofs.Common.{◌≡◌, ◌≢◌, ◌≤◌, ◌^◌, ◌++◌, inl, List, Ok, Err, max, take, drop, length, map, false, refl, sym, ◌∙◌, ap, subst, arith}
 use Rattle.volume_base.specs.Log.{Log, Shrinks, end_of, cut_to}
 use Rattle.volume_base.specs.Moments.{present, LogKeeps}
 use Rattle.volume_base.specs.Names.{log_alone, two_logs_and_map, NamesCall}
-use Rattle.volume_base.specs.Volume.{Follows, OnlyLeft}
+use Rattle.volume_base.specs.Volume.{Map, Follows, OnlyLeft}
 use Rattle.volume_base.specs.declared.error.JournalError.TheVariants as journal
 use Rattle.volume_base.proofs.CallLemmas.{names_call_log, names_call_joins}
 use Rattle.volume_base.proofs.JoinLemmas.{went_of_writes, went_joins, changes_of_writes, changes_joins}
@@ -12,15 +12,21 @@ use Rattle.journal_base.specs.View.{View, SameButBounds, IsHeld, log_of, at_boun
 use Rattle.tree_core.specs.Tree.{IsOf}
 use Rattle.tree_store.specs.Stored.{TreeStands}
 use Rattle.tree_store.specs.declared.error.Error.TheVariants as tree
+use Rattle.volume_base.proofs.TurnLemmas.{now_after}
+use Rattle.merkle_full.specs.Flushing.{AllStand, AllKeepStanding}
 use Rattle.merkle_full.proofs.GrownLemmas.{err_same}
 use Rattle.merkle_full.proofs.SettleLemmas.{end_cut}
 use Rattle.auth_journal.specs.Aligning.{NotAligned}
 use Rattle.auth_journal.specs.Joined.{Joined, IsJoinedOf, leaves_of}
-use Rattle.auth_journal.specs.Opening.{Readied, IsSoundReady, IsReadyIn, IsOpenedFrom}
+use Rattle.auth_journal.specs.Opening.{Readied, IsSoundReady, IsReadyIn, IsOpenedFrom, StandsWhileOpened}
+use Rattle.auth_journal.specs.Reading.{AreReadable}
 use Rattle.auth_journal.specs.declared.error.Error.TheVariants as joined
 use Rattle.auth_journal.proofs.AlignLemmas.{outside_above, changes_above, changes_same}
 use Rattle.auth_journal.proofs.LeafLemmas.{all_digests, length-leaves_of}
-use Rattle.auth_journal.proofs.OpeningLemmas.{prepared_later, start_not, aligned_cut, names_of_tree, names_of_nodes, log_keeps_beside, keeps_cut, finish_joined, leaves_take}
+use Rattle.auth_journal.proofs.OpenedLemmas.{Left, Stands, opened_as, cut_keeps, opened_keeps, caught_keeps, named_keeps, cut_at, leaves_split}
+use Rattle.auth_journal.proofs.ReadingLemmas.{run_end}
+use Rattle.auth_journal.proofs.StandingLemmas.{tree_beside}
+use Rattle.auth_journal.proofs.OpeningLemmas.{prepared_later, start_not, aligned_cut, readable_cut, names_of_tree, names_of_nodes, log_keeps_beside, keeps_cut, finish_joined, leaves_take}
 use Rattle.auth_journal.proofs.recovery.Recovery.finish.Goals as goal
 
 pub returns-clause-from : goal.returns-clause-from
@@ -563,3 +569,162 @@ returns-clause-changes g c =
     let first = went_of_writes tells journal.Volume _ _ c.in_ok-journal.journal cut.call.writes in
     let went = went_joins tells _ _ _ first (went_of_writes tells tree.Volume _ _ t opened.writes) in
     changes_joins tells joined.Volume joined.Volume _ _ _ (Ok u) (Ok j) went caught.changes (λ is. absurd cc) caught.changes.kept
+
+pub returns-clause-replayed : goal.returns-clause-replayed
+returns-clause-replayed g c told held =
+    let tells = g.V.Volume.tells in
+    let spelling = g.C.Item.Spelled.spelling in
+    let s0 = g.V.Volume.state c.args.vol.now in
+    let r : Readied g.row.H-Digest.Denot g.row.C-Item-Cfg.Denot = record { items = g.C.Recovery.BackingRecovery.view c.self.inside.journal; end = c.self.inside.end; tree = c.self.inside.merkle; bagging = c.self.inside.hasher } in
+    let sound : IsSoundReady r = c.self.invariant in
+    let s1 = g.V.Volume.state c.finish.new.vol in
+    let cut = c.in_ok-journal.ensures {u = tt} in
+    let opened_is = g.met.C.Backing.opened_is c.in_ok-journal.journal in
+    let items = g.C.Contiguous.view c.in_ok-journal.journal in
+    let items_is : SameButBounds r.items items = subst (λ (v : View g.row.C-Item-Cfg.Denot). SameButBounds r.items v) opened_is cut.made in
+    let name : items.name ≡ r.items.name = ap (λ (v : View g.row.C-Item-Cfg.Denot). v.name) items_is in
+    let s2 = g.V.Volume.state c.finish-2.new.vol in
+    let t = c.in_ok-opened.opened in
+    let opened = c.in_ok-opened.ensures {u = tt} in
+    let node : t.log.name ≡ r.tree.log.name = ap (λ (v : View (Unit {0})). v.name) opened.from.log in
+    let apart : items.name ≢ r.tree.log.name = λ e. sound.apart (sym name ∙ e) in
+    let ready : IsReadyIn r s0 = subst (λ (v : Readied g.row.H-Digest.Denot g.row.C-Item-Cfg.Denot). IsReadyIn v s0) (sym c.self.view_is) held in
+    let low : (log_of r.items s0).start ≤ r.end = omega (arith, sound.reached, ready.items.start_is) in
+    let high : r.end ≤ end_of (log_of r.items s0) = omega (arith, sound.within, ready.items.end_is) in
+    let second = (opened.names told).others.logs items.name (apart, tt) in
+    let admits = g.C.Item.Read.admits in
+    let at : s2.log r.items.name ≡ cut_to (s0.log r.items.name) r.end = sym (ap s2.log name) ∙ second ∙ ap s1.log name ∙ cut.cut told in
+    let seen = subst (λ (l : Log). AreReadable (record { log = l; spelling = spelling; admits = admits r.items.codec }) r.tree.tree.leaves r.end) at
+    (subst (λ n. AreReadable (items_of spelling admits r.items s2) n r.end) opened.from.leaves (subst (λ (w : View g.row.C-Item-Cfg.Denot). AreReadable (items_of spelling admits w s2) t.tree.leaves r.end) items_is ((c.in_ok-merkle.ensures {u = tt}).replayed told))) in
+    let whole = readable_cut tells spelling (admits r.items.codec) (s0.log r.items.name) r.end low (λ told. high) r.tree.tree.leaves seen in
+    subst (λ (v : Readied g.row.H-Digest.Denot g.row.C-Item-Cfg.Denot). AreReadable (items_of spelling admits v.items s0) v.tree.tree.leaves v.end) c.self.view_is whole
+
+pub returns-in_err-journal-clause-images : goal.returns-in_err-journal-clause-images
+returns-in_err-journal-clause-images g c told list marks =
+    let tells = g.V.Volume.tells in
+    let spelling = g.C.Item.Spelled.spelling in
+    let s0 = g.V.Volume.state c.args.vol.now in
+    let r : Readied g.row.H-Digest.Denot g.row.C-Item-Cfg.Denot = record { items = g.C.Recovery.BackingRecovery.view c.self.inside.journal; end = c.self.inside.end; tree = c.self.inside.merkle; bagging = c.self.inside.hasher } in
+    let sound : IsSoundReady r = c.self.invariant in
+    let s1 = g.V.Volume.state c.finish.new.vol in
+    subst (λ (v : Readied g.row.H-Digest.Denot g.row.C-Item-Cfg.Denot). StandsWhileOpened g.F.Family.shape g.H.Hasher.hash g.H.Digest.Spelled.spelling spelling list marks v s0 s1) c.self.view_is
+    (λ ready run long of low_items low_nodes has.
+    cut_keeps g.F.Family.shape g.H.Hasher.hash g.H.Digest.Spelled.spelling spelling list marks r sound s0 s1 ready low_items (c.in_err-journal.ensures.call.log told).images has)
+
+pub returns-in_err-opened-clause-images : goal.returns-in_err-opened-clause-images
+returns-in_err-opened-clause-images g c told list marks =
+    let tells = g.V.Volume.tells in
+    let spelling = g.C.Item.Spelled.spelling in
+    let s0 = g.V.Volume.state c.args.vol.now in
+    let r : Readied g.row.H-Digest.Denot g.row.C-Item-Cfg.Denot = record { items = g.C.Recovery.BackingRecovery.view c.self.inside.journal; end = c.self.inside.end; tree = c.self.inside.merkle; bagging = c.self.inside.hasher } in
+    let sound : IsSoundReady r = c.self.invariant in
+    let s1 = g.V.Volume.state c.finish.new.vol in
+    let cut = c.in_ok-journal.ensures {u = tt} in
+    let opened_is = g.met.C.Backing.opened_is c.in_ok-journal.journal in
+    let items = g.C.Contiguous.view c.in_ok-journal.journal in
+    let items_is : SameButBounds r.items items = subst (λ (v : View g.row.C-Item-Cfg.Denot). SameButBounds r.items v) opened_is cut.made in
+    let name : items.name ≡ r.items.name = ap (λ (v : View g.row.C-Item-Cfg.Denot). v.name) items_is in
+    let s2 = g.V.Volume.state c.finish-2.new.vol in
+    let s = g.F.Family.shape in
+    let h = g.H.Hasher.hash in
+    let digest = g.H.Digest.Spelled.spelling in
+    let admits = g.H.Digest.Read.admits tt in
+    let all = leaves_of s h spelling list in
+    subst (λ (v : Readied g.row.H-Digest.Denot g.row.C-Item-Cfg.Denot). StandsWhileOpened g.F.Family.shape g.H.Hasher.hash g.H.Digest.Spelled.spelling spelling list marks v s0 s2) c.self.view_is
+    (λ ready run long of low_items low_nodes has.
+    let prepared = prepared_later r.tree s0 s1 ((cut.call.log told).others.logs r.tree.log.name (λ e. sound.apart (sym e))) ((cut.call.log told).others.maps r.tree.metadata) ready.tree in
+    let few : length all ≤ 2 ^ 62 = omega (arith, long, length-leaves_of s h spelling list) in
+    let digests = all_digests s h admits (map spelling list) (λ m. g.met.H.Digest.Digest.allowed (h.digest m) (ap length (sym (g.met.H.Hasher.same_bytes (h.digest m))) ∙ g.met.H.Hasher.one_size m)) in
+    let of_front = subst (λ (ds : List g.row.H-Digest.Denot). IsOf s h ds r.tree.tree) (sym (leaves_take s h spelling r.tree.tree.leaves list)) of in
+    let now = g.met.V.Volume.contents_left c.finish.new.vol told in
+    let ab = cut_keeps s h digest spelling list marks r sound s0 s1 ready low_items (cut.call.log told).images has in
+    let did = c.in_err-opened.ensures in
+    opened_keeps s h digest spelling list marks r sound s0 s1 s2 ab (did.names told) now (λ top. did.images told h all marks.node_durable top prepared few digests of_front low_nodes))
+
+pub returns-in_err-merkle-clause-images : goal.returns-in_err-merkle-clause-images
+returns-in_err-merkle-clause-images g c told list marks =
+    let tells = g.V.Volume.tells in
+    let spelling = g.C.Item.Spelled.spelling in
+    let s0 = g.V.Volume.state c.args.vol.now in
+    let r : Readied g.row.H-Digest.Denot g.row.C-Item-Cfg.Denot = record { items = g.C.Recovery.BackingRecovery.view c.self.inside.journal; end = c.self.inside.end; tree = c.self.inside.merkle; bagging = c.self.inside.hasher } in
+    let sound : IsSoundReady r = c.self.invariant in
+    let s1 = g.V.Volume.state c.finish.new.vol in
+    let cut = c.in_ok-journal.ensures {u = tt} in
+    let opened_is = g.met.C.Backing.opened_is c.in_ok-journal.journal in
+    let items = g.C.Contiguous.view c.in_ok-journal.journal in
+    let items_is : SameButBounds r.items items = subst (λ (v : View g.row.C-Item-Cfg.Denot). SameButBounds r.items v) opened_is cut.made in
+    let name : items.name ≡ r.items.name = ap (λ (v : View g.row.C-Item-Cfg.Denot). v.name) items_is in
+    let s2 = g.V.Volume.state c.finish-2.new.vol in
+    let t = c.in_ok-opened.opened in
+    let opened = c.in_ok-opened.ensures {u = tt} in
+    let node : t.log.name ≡ r.tree.log.name = ap (λ (v : View (Unit {0})). v.name) opened.from.log in
+    let apart : items.name ≢ r.tree.log.name = λ e. sound.apart (sym name ∙ e) in
+    let s = g.F.Family.shape in
+    let h = g.H.Hasher.hash in
+    let digest = g.H.Digest.Spelled.spelling in
+    let admits = g.H.Digest.Read.admits tt in
+    let all = leaves_of s h spelling list in
+    let s3 = g.V.Volume.state c.catch_up.new.vol in
+    let caught = c.in_err-merkle.ensures in
+    subst (λ (v : Readied g.row.H-Digest.Denot g.row.C-Item-Cfg.Denot). StandsWhileOpened g.F.Family.shape g.H.Hasher.hash g.H.Digest.Spelled.spelling spelling list marks v s0 s3) c.self.view_is
+    (λ ready run long of low_items low_nodes has.
+    let prepared = prepared_later r.tree s0 s1 ((cut.call.log told).others.logs r.tree.log.name (λ e. sound.apart (sym e))) ((cut.call.log told).others.maps r.tree.metadata) ready.tree in
+    let few : length all ≤ 2 ^ 62 = omega (arith, long, length-leaves_of s h spelling list) in
+    let digests = all_digests s h admits (map spelling list) (λ m. g.met.H.Digest.Digest.allowed (h.digest m) (ap length (sym (g.met.H.Hasher.same_bytes (h.digest m))) ∙ g.met.H.Hasher.one_size m)) in
+    let of_front = subst (λ (ds : List g.row.H-Digest.Denot). IsOf s h ds r.tree.tree) (sym (leaves_take s h spelling r.tree.tree.leaves list)) of in
+    let now = g.met.V.Volume.contents_left c.finish.new.vol told in
+    let ab = cut_keeps s h digest spelling list marks r sound s0 s1 ready low_items (cut.call.log told).images has in
+    let bc = opened_keeps s h digest spelling list marks r sound s0 s1 s2 ab (opened.names told) now (λ top. opened.images told h all marks.node_durable top prepared few digests of_front low_nodes) in
+    let stands = tree_beside s h digest spelling list (opened_as r) sound.apart marks s1 (s1.log r.items.name) (now.logs r.items.name) (now_after (Left s h digest spelling list marks r sound) (Stands s h digest spelling list marks r sound) s0 s1 ab) (s1.log r.tree.log.name) (s1.map r.tree.metadata) (now.logs r.tree.log.name) (now.maps r.tree.metadata) in
+    let stood = subst (λ (m : Map). TreeStands s h digest all marks.node_durable (s1.log r.items.name).start (s1.log r.tree.log.name) m) prepared.read stands in
+    let full = opened.full told h all marks.node_durable (s1.log r.items.name).start prepared stood few digests of_front in
+    let here = cut_at s h digest admits spelling list r items t s0 s1 s2 sound ready run name (cut.listed told list run) ((opened.names told).others.logs items.name (apart, tt)) opened.from.leaves full in
+    let split = leaves_split s h spelling list t.tree.leaves r.end (omega (arith, opened.from.leaves, ready.high)) (omega (arith, run_end spelling list (log_of r.items s0) run, sound.within, ready.items.end_is)) in
+    caught_keeps s h digest spelling list marks r sound s0 s2 s3 t.log.name (sym node) bc (caught.names told) (g.met.V.Volume.contents_left c.finish-2.new.vol told)
+    (λ top. subst (λ (ds : List g.row.H-Digest.Denot). AllStand s h digest ds marks.node_durable top (opened_as r).tree s2 → AllKeepStanding s h digest ds marks.node_durable top (opened_as r).tree s2 s3) split
+    (named_keeps s h digest (leaves_of s h spelling (take (max t.tree.leaves r.end) (take r.end list)) ++ drop r.end all) marks.node_durable top (opened_as r).tree t s2 s3 node opened.from.metadata
+    (caught.images told (take r.end list) (drop r.end all) marks.node_durable top here.run here.long here.full))))
+
+pub returns-clause-images : goal.returns-clause-images
+returns-clause-images g c told list marks =
+    let tells = g.V.Volume.tells in
+    let spelling = g.C.Item.Spelled.spelling in
+    let s0 = g.V.Volume.state c.args.vol.now in
+    let r : Readied g.row.H-Digest.Denot g.row.C-Item-Cfg.Denot = record { items = g.C.Recovery.BackingRecovery.view c.self.inside.journal; end = c.self.inside.end; tree = c.self.inside.merkle; bagging = c.self.inside.hasher } in
+    let sound : IsSoundReady r = c.self.invariant in
+    let s1 = g.V.Volume.state c.finish.new.vol in
+    let cut = c.in_ok-journal.ensures {u = tt} in
+    let opened_is = g.met.C.Backing.opened_is c.in_ok-journal.journal in
+    let items = g.C.Contiguous.view c.in_ok-journal.journal in
+    let items_is : SameButBounds r.items items = subst (λ (v : View g.row.C-Item-Cfg.Denot). SameButBounds r.items v) opened_is cut.made in
+    let name : items.name ≡ r.items.name = ap (λ (v : View g.row.C-Item-Cfg.Denot). v.name) items_is in
+    let s2 = g.V.Volume.state c.finish-2.new.vol in
+    let t = c.in_ok-opened.opened in
+    let opened = c.in_ok-opened.ensures {u = tt} in
+    let node : t.log.name ≡ r.tree.log.name = ap (λ (v : View (Unit {0})). v.name) opened.from.log in
+    let apart : items.name ≢ r.tree.log.name = λ e. sound.apart (sym name ∙ e) in
+    let s = g.F.Family.shape in
+    let h = g.H.Hasher.hash in
+    let digest = g.H.Digest.Spelled.spelling in
+    let admits = g.H.Digest.Read.admits tt in
+    let all = leaves_of s h spelling list in
+    let s3 = g.V.Volume.state c.catch_up.new.vol in
+    let caught = c.in_ok-merkle.ensures {u = tt} in
+    subst (λ (v : Readied g.row.H-Digest.Denot g.row.C-Item-Cfg.Denot). StandsWhileOpened g.F.Family.shape g.H.Hasher.hash g.H.Digest.Spelled.spelling spelling list marks v s0 s3) c.self.view_is
+    (λ ready run long of low_items low_nodes has.
+    let prepared = prepared_later r.tree s0 s1 ((cut.call.log told).others.logs r.tree.log.name (λ e. sound.apart (sym e))) ((cut.call.log told).others.maps r.tree.metadata) ready.tree in
+    let few : length all ≤ 2 ^ 62 = omega (arith, long, length-leaves_of s h spelling list) in
+    let digests = all_digests s h admits (map spelling list) (λ m. g.met.H.Digest.Digest.allowed (h.digest m) (ap length (sym (g.met.H.Hasher.same_bytes (h.digest m))) ∙ g.met.H.Hasher.one_size m)) in
+    let of_front = subst (λ (ds : List g.row.H-Digest.Denot). IsOf s h ds r.tree.tree) (sym (leaves_take s h spelling r.tree.tree.leaves list)) of in
+    let now = g.met.V.Volume.contents_left c.finish.new.vol told in
+    let ab = cut_keeps s h digest spelling list marks r sound s0 s1 ready low_items (cut.call.log told).images has in
+    let bc = opened_keeps s h digest spelling list marks r sound s0 s1 s2 ab (opened.names told) now (λ top. opened.images told h all marks.node_durable top prepared few digests of_front low_nodes) in
+    let stands = tree_beside s h digest spelling list (opened_as r) sound.apart marks s1 (s1.log r.items.name) (now.logs r.items.name) (now_after (Left s h digest spelling list marks r sound) (Stands s h digest spelling list marks r sound) s0 s1 ab) (s1.log r.tree.log.name) (s1.map r.tree.metadata) (now.logs r.tree.log.name) (now.maps r.tree.metadata) in
+    let stood = subst (λ (m : Map). TreeStands s h digest all marks.node_durable (s1.log r.items.name).start (s1.log r.tree.log.name) m) prepared.read stands in
+    let full = opened.full told h all marks.node_durable (s1.log r.items.name).start prepared stood few digests of_front in
+    let here = cut_at s h digest admits spelling list r items t s0 s1 s2 sound ready run name (cut.listed told list run) ((opened.names told).others.logs items.name (apart, tt)) opened.from.leaves full in
+    let split = leaves_split s h spelling list t.tree.leaves r.end (omega (arith, opened.from.leaves, ready.high)) (omega (arith, run_end spelling list (log_of r.items s0) run, sound.within, ready.items.end_is)) in
+    caught_keeps s h digest spelling list marks r sound s0 s2 s3 t.log.name (sym node) bc (caught.names told) (g.met.V.Volume.contents_left c.finish-2.new.vol told)
+    (λ top. subst (λ (ds : List g.row.H-Digest.Denot). AllStand s h digest ds marks.node_durable top (opened_as r).tree s2 → AllKeepStanding s h digest ds marks.node_durable top (opened_as r).tree s2 s3) split
+    (named_keeps s h digest (leaves_of s h spelling (take (max t.tree.leaves r.end) (take r.end list)) ++ drop r.end all) marks.node_durable top (opened_as r).tree t s2 s3 node opened.from.metadata
+    (caught.images told (take r.end list) (drop r.end all) marks.node_durable top here.run here.long here.full))))

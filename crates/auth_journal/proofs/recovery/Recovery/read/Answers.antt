@@ -4,10 +4,12 @@ use Rattle.volume_base.specs.declared.error.JournalError.{JournalError}
 use Rattle.journal_base.specs.Items.{items_of, Spells}
 use Rattle.journal_base.specs.View.{IsHeld, log_of}
 use Rattle.merkle_full.proofs.PrepareLemmas.{held_within}
-use Rattle.auth_journal.specs.Errors.{IsOutside}
+use Rattle.auth_journal.specs.Errors.{from_journal, IsOutside, IsLifted}
 use Rattle.auth_journal.specs.Opening.{Readied}
 use Rattle.auth_journal.specs.Searching.{IsUnreadWithin}
 use Rattle.auth_journal.specs.declared.error.Error.TheVariants as joined
+use Rattle.auth_journal.proofs.DurableLemmas.{err_and}
+use Rattle.auth_journal.proofs.OpenedLemmas.{log_lifted}
 use Rattle.auth_journal.proofs.OpeningLemmas.{read_refused}
 use Rattle.auth_journal.proofs.recovery.Recovery.read.Goals as goal
 
@@ -36,3 +38,8 @@ returns-clause-listed g c told held list x run low at allowed =
     (subst (λ (v : Readied g.row.H-Digest.Denot g.row.C-Item-Cfg.Denot). Spells spelling list (log_of v.items state)) back run)
     (subst (λ (v : Readied g.row.H-Digest.Denot g.row.C-Item-Cfg.Denot). (log_of v.items state).start ≤ c.args.position) back low) at
     (subst (λ (v : Readied g.row.H-Digest.Denot g.row.C-Item-Cfg.Denot). g.C.Item.Read.admits v.items.codec x) back allowed)
+
+pub returns-in_err-item-clause-lifted : goal.returns-in_err-item-clause-lifted
+returns-in_err-item-clause-lifted g c =
+    let e = c.in_err-item.field-0.0 in
+    err_and _ (from_journal e) IsLifted c.from_residual.ensures.1 (log_lifted g.row.F.Denot e)
