@@ -11,10 +11,15 @@ Then a history of a tree: the opening, and steps that add leaves and call someth
 none does. A failed call changes nothing. What a crash then leaves of the node log is counted: a version since the last sync, of which
 an append makes one with each item, here the two newest; and of that the part between two positions, the end at least the least end of
 all versions, the start at most the greatest start. All of these open as the program reckons, and with what is durable.
+
+Then a tree begins in a sync at each number of leaves, over a tree of none and of fourteen, up to four leaves more. With a pin less
+than the start has peaks it is refused. Without pins each peak of the start comes from the log, and the first that the log doesn't have
+is missing. A log that has a leaf past the start is kept up to the end, from the blob of the start's position on; else it is cleared.
 """
 from trees import Mmb, Mmr, peaks, root
 
 LEAVES, SYNCED, BLOB = 20, 14, 3
+MOST_START, STORED, KEPT = 16, 14, 4
 STEPS = [(5, "flush"), (8, "sync"), (10, "flush"), (11, 6), (13, "flush"), (14, "sync"), (15, "flush"), (15, 15)]
 
 
@@ -129,12 +134,35 @@ def print_images(history, changes):
     print(f"{count} of {count} images open as reckoned, {durable} leaves durable")
 
 
+def begun(family, stored, start):
+    leaves = min(start + KEPT, stored)
+    if leaves <= start:
+        position = family.size(start)
+        return f"nodes {position} to {position}: {tree(family, start, start)}"
+    return f"nodes {blob_start(family.size(start))} to {family.size(leaves)}: {tree(family, start, leaves)}"
+
+
+def print_syncs(family):
+    for start in range(MOST_START + 1):
+        print(f"{family.name} begun at {start}")
+        for stored in (0, STORED):
+            over = f"  over {stored} leaves,"
+            positions = [family.position(*peak) for peak in peaks(family, start)]
+            if positions:
+                print(f"{over} a pin less: invalid pinned nodes")
+            print(f"{over} with pins: {begun(family, stored, start)}")
+            missing = [position for position in positions if family.size(stored) <= position]
+            print(f"{over} without: {f'missing node {missing[0]}' if missing else begun(family, stored, start)}")
+
+
 def main():
     for family in (Mmr, Mmb):
         for boundary in range(LEAVES + 1):
             print_pruned(family, boundary)
     for family in (Mmr, Mmb):
         print_history(family)
+    for family in (Mmr, Mmb):
+        print_syncs(family)
 
 
 if __name__ == "__main__":

@@ -1,10 +1,10 @@
 //! A tree of twenty leaves that is pruned at each number of leaves: what stays, its openings under caps, and its proofs.
 use crate::error::TableError;
-use crate::trees::{Tree, config, grown, hasher, memory};
+use crate::trees::{Tree, config, grown, hasher, memory, print_tree};
 use memory_volume::MemoryVolume;
 use merkle_full::Merkle;
 use std::alloc::Global;
-use tree_core::{Digest, Error, Family, Location, Mem, Sha256Digest};
+use tree_core::{Error, Family, Location, Mem, Sha256Digest};
 use volume_base::{JournalError, Volume};
 
 /// The number of leaves of the tree.
@@ -21,19 +21,6 @@ fn pruned<F: Family>(
     let tree = grown(tree, 14)?.sync(vol)?;
     let tree = grown(tree, LEAVES)?;
     Ok(tree.prune(vol, Location::new(u64::from(boundary)))?)
-}
-
-/// Prints the oldest kept leaf, the leaves, the nodes and the root.
-fn print_tree<F: Family>(rt: &impl Print, alloc: Global, tree: &Tree<F>) -> Result<(), TableError> {
-    let (start, end) = tree.bounds();
-    let root = hex::encode(alloc, tree.root(&hasher(), 0)?.as_slice())?;
-    println!(rt;
-        "{} {} {} {root}",
-        start.as_u64(),
-        end.as_u64(),
-        tree.size().as_u64()
-    )?;
-    Ok(())
 }
 
 /// Prints what is opened of a copy of the volume under a cap, or why nothing is.

@@ -3,7 +3,7 @@ use crate::error::TableError;
 use merkle_full::{Config, Merkle};
 use std::alloc::Global;
 use std::num::NonZeroU64;
-use tree_core::{Bagging, Family, Mem, Sha256Digest, Sha256Hasher, Standard};
+use tree_core::{Bagging, Digest, Family, Mem, Sha256Digest, Sha256Hasher, Standard};
 
 pub(crate) type Tree<F> = Merkle<F, Sha256Digest>;
 
@@ -54,4 +54,21 @@ pub(crate) fn roots<F: Family>(alloc: Global, most: u8) -> Result<Vec<Sha256Dige
         roots.push(mem.root(&hasher(), 0)?)?;
     }
     Ok(roots)
+}
+
+/// Prints the oldest kept leaf, the leaves, the nodes and the root.
+pub(crate) fn print_tree<F: Family>(
+    rt: &impl Print,
+    alloc: Global,
+    tree: &Tree<F>,
+) -> Result<(), TableError> {
+    let (start, end) = tree.bounds();
+    let root = hex::encode(alloc, tree.root(&hasher(), 0)?.as_slice())?;
+    println!(rt;
+        "{} {} {} {root}",
+        start.as_u64(),
+        end.as_u64(),
+        tree.size().as_u64()
+    )?;
+    Ok(())
 }
