@@ -15,3 +15,7 @@ pub mod PruneLemmas
 pub mod StartedLemmas
 pub mod OpenedLemmas
 pub mod ReadyLemmas
+pub mod LowerLemmas
+pub mod GrowLemmas
+pub mod OverLemmas
+pub mod MutableLemmas

@@ -15,20 +15,28 @@ use Rattle.volume_base.proofs.CallLemmas.{log_call_then_stays}
 use Rattle.volume_base.proofs.ImageLemmas.{with_log, with_log_here, with_log_other}
 use Rattle.volume_base.proofs.NameLemmas.{names_move_log}
 use Rattle.volume_base.proofs.TurnLemmas.{names_back, now_after, turned_after, keeps_none, keeps_joins, turns_weaker, steps_at_end, steps_weaker, steps_then}
-use Rattle.journal_base.specs.Items.{Spells}
+use Rattle.journal_base.specs.Blobs.{blob_start}
+use Rattle.journal_base.specs.Items.{Items, Spells, items_of}
 use Rattle.journal_base.specs.View.{View, SameButBounds, IsDurable, IsHeld, at_bounds, log_of, prune_point}
 use Rattle.journal_base.proofs.ItemLemmas.{spells_pruned}
 use Rattle.tree_shape.specs.Hashing.{Hashing}
-use Rattle.tree_shape.specs.Shape.{Shape}
+use Rattle.tree_shape.specs.Shape.{Shape, made}
 use Rattle.tree_shape.proofs.NeededLemmas.{made_le}
 use Rattle.tree_store.specs.Stored.{TreeStands, size}
 use Rattle.merkle_full.specs.Flushing.{AllStand, IsSameTree}
 use Rattle.merkle_full.specs.Full.{Full, Rests}
 use Rattle.merkle_full.specs.Lists.{IsFullOf}
-use Rattle.merkle_full.specs.Pruning.{StandsWhilePruned, at_boundary}
+use Rattle.merkle_full.specs.Pruning.{StandsWhilePruned, KeepsPins, IsOfPrune, at_boundary}
 use Rattle.merkle_full.proofs.FullLemmas.{full_later}
 use Rattle.merkle_full.proofs.PruneLemmas.{blob_low}
-use Rattle.auth_journal.specs.Durable.{IsFlushed, IsCut, IsPrunedTo}
+use Rattle.tree_core.specs.Tree.{prune_answer}
+use Rattle.tree_store.specs.Stores as tree_stores
+use Rattle.tree_store.specs.declared.error.Error as tree_error
+use Rattle.tree_store.specs.declared.error.Error.TheVariants as tree
+use Rattle.auth_journal.specs.Durable.{IsFlushed, IsCut, IsPrunedTo, IsFromTree, IsTreeUnpruned, IsJournalUnpruned}
+use Rattle.auth_journal.specs.Errors.{IsOutside}
+use Rattle.auth_journal.specs.declared.error.Error.{Error}
+use Rattle.auth_journal.specs.declared.error.Error.TheVariants as joined
 use Rattle.auth_journal.specs.Joined.{Joined, IsJoinedOf, leaves_of}
 use Rattle.auth_journal.specs.Standing.{Marks, all_synced, pruned_below, names_of, ImageStands, StepsStanding, ItemsGoFirst}
 use Rattle.auth_journal.proofs.JoinedLemmas.{joined_later}
@@ -172,6 +180,27 @@ module _ {D Codec Item : Type 0} (s : Shape) (h : Hashing D) (digest : D → Lis
 
 -- ---- answers
 
+-- why a tree isn't pruned
+pub why_unpruned : {F D T : Type 0} (s : Shape) (tells : Type 0) (t : Full D) (items : Items D) (place : ℕ) (e : tree_error.Error F)
+    → (t.log.failed ≡ true → IsErrOf {T = T} (Err e) tree.Volume) → (t.log.failed ≡ false → (d : tree_error.Error F) → prune_answer t.tree.leaves place ≡ Err d → IsErrOf {T = T} (Err e) d)
+    → (prune_answer {F = F} t.tree.leaves place ≡ Ok tt → IsOfPrune s tells t items place e) → IsTreeUnpruned s tells t items place e
+why_unpruned {F} s tells t items place e kept refused errors = by_answer (prune_answer t.tree.leaves place) refl
+  where
+    by_failed : (b : Bool) → t.log.failed ≡ b → (d : tree_error.Error F) → prune_answer t.tree.leaves place ≡ Err d → IsTreeUnpruned s tells t items place e
+    by_failed true is d answer = let volume : tree.Volume ≡ e = (let same = kept is in cc) in inr (inl (inl (subst tree_stores.IsOutside volume tt)))
+    by_failed false is d answer = let same : d ≡ e = (let both = refused is d answer in cc) in inl (answer ∙ ap Err same)
+
+    by_answer : (answer : Result (Unit {0}) (tree_error.Error F)) → prune_answer t.tree.leaves place ≡ answer → IsTreeUnpruned s tells t items place e
+    by_answer (Ok u) is = inr (errors is)
+    by_answer (Err d) is = by_failed t.log.failed refl d is
+
+-- the outside's failure is one of the tree
+pub outside_from_tree : {F : Type 0} (P : tree_error.Error F → Type 0) (e : Error F) → IsOutside e → P tree.Volume → P tree.Memory → IsFromTree P e
+outside_from_tree P joined.Volume o volume memory = (tree.Volume, refl, volume)
+outside_from_tree P joined.Memory o volume memory = (tree.Memory, refl, memory)
+outside_from_tree P (joined.Journal d) o volume memory = absurd o
+outside_from_tree P (joined.Merkle d) o volume memory = absurd o
+
 -- calls that write and may read were done, and so is the last
 pub changes_done : {S T D E : Type 0} (tells : Type 0) (last : D) (fault : E) (a b c : State) (two : S) (made : T) → Went tells a b → Changes tells last b c (Ok two) → Changes tells fault a c (Ok made)
 changes_done {S = S} {T = T} {D = D} {E = E} tells last fault a b c two made ab bc = changes_joins tells last fault a b c first second ab bc (λ is. absurd (never made fault is)) bc.kept
@@ -249,6 +278,40 @@ module _ {D Codec : Type 0} (j k l m : Joined D Codec) (flushed : IsFlushed j k)
     bagging = moved.bagging ∙ cut.bagging ∙ flushed.bagging;
     failed = moved.failed ∙ cut.failed ∙ flushed.failed;
   }
+
+  logs_are : l.tree.log ≡ at_bounds j.tree.log k.tree.log.start k.tree.log.end
+  logs_are = ap (λ (t : Full D). t.log) cut.tree ∙ flushed.tree.log
+
+  -- the node log begins later too
+  pub nodes_pruned : (s : Shape) → k.tree.log.start ≡ j.tree.log.start → m.items ≡ l.items
+      → (l.tree.boundary < l.items.start → m.tree.log.start ≡ max l.tree.log.start (blob_start l.tree.log.blob (length (made s l.items.start))))
+      → j.tree.boundary < m.items.start → m.tree.log.start ≡ max j.tree.log.start (blob_start j.tree.log.blob (length (made s m.items.start)))
+  nodes_pruned s same items moves above =
+      let begins : l.items.start ≡ m.items.start = ap (λ v. v.start) (sym items) in
+      let boundary : l.tree.boundary ≡ j.tree.boundary = ap (λ (t : Full D). t.boundary) cut.tree ∙ flushed.tree.boundary in
+      let starts : l.tree.log.start ≡ j.tree.log.start = ap (λ (t : Full D). t.log.start) cut.tree ∙ same in
+      let blobs : l.tree.log.blob ≡ j.tree.log.blob = ap (λ v. v.blob) logs_are in
+      moves (omega (arith, above, begins, boundary))
+      ∙ ap (λ n. max n (blob_start l.tree.log.blob (length (made s l.items.start)))) starts
+      ∙ ap (λ n. max j.tree.log.start (blob_start n (length (made s l.items.start)))) blobs
+      ∙ ap (λ n. max j.tree.log.start (blob_start j.tree.log.blob (length (made s n)))) begins
+
+  -- no pin is lost
+  pub pins_pruned : (a c d : State) → c.map j.tree.metadata ≡ a.map j.tree.metadata → KeepsPins (c.map l.tree.metadata) (d.map l.tree.metadata) → KeepsPins (a.map j.tree.metadata) (d.map j.tree.metadata)
+  pins_pruned a c d same keeps =
+      subst (λ (m : Map). KeepsPins m (d.map j.tree.metadata)) same (subst (λ (n : List ℕ). KeepsPins (c.map n) (d.map n)) pins_is keeps)
+
+  -- the tree isn't pruned to where the log begins then
+  pub unpruned_tree : {F : Type 0} (s : Shape) (tells : Type 0) (digest : D → List ℕ) (admits : Unit {0} → D → Type 0) (c d : State) → k.items.name ≢ k.tree.log.name → (tells → IsHeld l.items c)
+      → (tells → NamesCall (log_and_map l.tree.log.name l.tree.metadata) c d) → (error : Error F)
+      → IsFromTree (IsTreeUnpruned s tells l.tree (items_of digest admits l.tree.log d) l.items.start) error
+      → IsFromTree (IsJournalUnpruned s tells j.tree (items_of digest admits j.tree.log d) (log_of j.items d).start) error
+  unpruned_tree s tells digest admits c d apart held names error why =
+      let same : IsSameTree j.tree l.tree = subst (λ (t : Full D). IsSameTree j.tree t) (sym cut.tree) flushed.tree in
+      let begins : tells → l.items.start ≡ (log_of j.items d).start = λ told.
+      (let over : d.log j.items.name ≡ c.log j.items.name = (tree_call c d (names told)).others.logs j.items.name (apart_of apart, tt) in
+      (held told).start_is ∙ ap (λ (g : Log). g.start) (ap c.log cut_is ∙ sym over)) in
+      (why.0, why.1, inr (l.tree, same, (l.items.start, begins, subst (λ items. IsTreeUnpruned s tells l.tree items l.items.start why.0) (ap (λ v. items_of digest admits v d) logs_are) why.2)))
 
   module _ {Item : Type 0} (s : Shape) (h : Hashing D) (digest : D → List ℕ) (admits : D → Type 0) (spelling : Item → List ℕ) (list : List Item) (loc : ℕ) (b c d : State)
       (was : IsJoinedOf s h digest admits spelling list k (present b)) (put : log_of k.items c ≡ pruned_to (log_of k.items b) (prune_point k.items loc b)) (call : LogCall k.items.name (Advances (prune_point k.items loc b)) b c) (held : IsHeld l.items c) (apart : k.items.name ≢ k.tree.log.name) where

@@ -17,7 +17,7 @@ use Rattle.tree_shape.specs.Shape.{Shape}
 use Rattle.tree_store.specs.Stored.{TreeStands}
 use Rattle.merkle_full.specs.Flushing.{AllStand, AllKeepStanding}
 use Rattle.auth_journal.specs.Joined.{Joined, leaves_of}
-use Rattle.auth_journal.specs.Standing.{Marks, items_synced, all_synced, names_of, ImageStands}
+use Rattle.auth_journal.specs.Standing.{Marks, items_synced, all_synced, names_of, logs_of, ImageStands}
 use Rattle.auth_journal.proofs.LeafLemmas.{length-leaves_of}
 
 -- ---- which names a call is on
@@ -30,6 +30,21 @@ module _ {D Codec : Type 0} (j : Joined D Codec) (a b : State) where
   names_tree call = record {
     others = record { logs = λ other none. call.others.logs other none.1; maps = λ other none. call.others.maps other tt };
     images = record { past = call.images.past; logs = λ other none. call.images.logs other none.1; maps = λ other none. call.images.maps other tt };
+  }
+
+  pub logs_items : (step : Log → Log → Type 0) → LogCall j.items.name step a b → NamesCall (logs_of j) a b
+  logs_items step call = names_call_log (logs_of j) j.items.name step a b (inl refl) call
+
+  pub logs_tree : NamesCall (log_alone j.tree.log.name) a b → NamesCall (logs_of j) a b
+  logs_tree call = record {
+    others = record { logs = λ other none. call.others.logs other none.1; maps = λ other none. call.others.maps other tt };
+    images = record { past = call.images.past; logs = λ other none. call.images.logs other none.1; maps = λ other none. call.images.maps other tt };
+  }
+
+  pub names_logs : NamesCall (logs_of j) a b → NamesCall (names_of j) a b
+  names_logs call = record {
+    others = record { logs = λ other none. call.others.logs other none; maps = λ other none. call.others.maps other tt };
+    images = record { past = call.images.past; logs = λ other none. call.images.logs other none; maps = λ other none. call.images.maps other tt };
   }
 
   pub names_tree_and_map : NamesCall (log_and_map j.tree.log.name j.tree.metadata) a b → NamesCall (names_of j) a b

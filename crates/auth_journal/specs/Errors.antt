@@ -1,7 +1,8 @@
 -- What the errors of the layers below become.
-use Rattle.std.specs.Prelude.{◌≡◌, Option, Some, None, IsSome, Result, Ok, Err}
+use Rattle.std.specs.Prelude.{◌≡◌, ℕ, ◌^◌, ◌+◌, ◌⊎◌, Option, Some, None, IsSome, Result, Ok, Err}
 use Rattle.volume_base.specs.declared.error.JournalError.{JournalError}
 use Rattle.volume_base.specs.declared.error.JournalError.TheVariants as journal
+use Rattle.volume_base.specs.declared.error.TreeCause.TheVariants as cause
 use Rattle.tree_store.specs.declared.error.Error as tree_error
 use Rattle.tree_store.specs.declared.error.Error.TheVariants as tree
 use Rattle.auth_journal.specs.declared.error.Error.{Error}
@@ -37,6 +38,28 @@ IsLifted (joined.Merkle tree.Volume) = ⊥
 IsLifted (joined.Merkle tree.Memory) = ⊥
 IsLifted (joined.Journal error) = IsSome (unwrapped error)
 IsLifted _ = Unit {0}
+
+-- ---- errors of the journal, where it is used as a log of items
+
+-- What stands for an error of the tree: a location that is too great and a node that isn't there are named as the tree's, a leaf past
+-- the tree counts as an item past the end, and an error of the node log is itself. Nothing stands for any other.
+abbrev pub lowered_tree : {F : Type 0} → tree_error.Error F → Option JournalError
+lowered_tree (tree.LocationOverflow n) = Some (journal.Tree (cause.LocationOverflow n))
+lowered_tree (tree.ElementPruned p) = Some (journal.Tree (cause.ElementPruned p))
+lowered_tree (tree.MissingNode p) = Some (journal.Tree (cause.ElementPruned p))
+lowered_tree (tree.LeafOutOfBounds n) = Some (journal.ItemOutOfRange n)
+lowered_tree (tree.Journal error) = unwrapped error
+lowered_tree _ = None
+
+abbrev pub lowered : {F : Type 0} → Error F → Option JournalError
+lowered (joined.Merkle error) = lowered_tree error
+lowered (joined.Journal error) = unwrapped error
+lowered joined.Volume = Some journal.Volume
+lowered joined.Memory = Some journal.Memory
+
+-- It stands for an error of the journal of which this holds.
+abbrev pub IsLowered : {F : Type 0} → (Error F → Type 0) → JournalError → Type 0
+IsLowered {F} P error = (e : Error F) × P e × (lowered e ≡ Some error)
 
 -- ---- answers of the tree
 

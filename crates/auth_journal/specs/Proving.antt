@@ -1,17 +1,18 @@
 -- Proofs of items.
-use Rattle.std.specs.Prelude.{◌≡◌, ◌⊎◌, ℕ, ◌+◌, ◌-◌, ◌≤◌, min, nat_le, List, map, take, drop, Option, Result, Ok, Err, OnOk, IfOk, IfErr, if◌then◌else◌}
+use Rattle.std.specs.Prelude.{◌≡◌, ◌⊎◌, ℕ, ◌+◌, ◌-◌, ◌≤◌, min, nat_le, List, length, map, take, drop, Option, Some, Result, Ok, Err, OnOk, IfOk, IfErr, IsOkUnless, if◌then◌else◌}
 use Rattle.std.specs.Global.{Vec}
 use Rattle.codec_base.specs.Codec.{Reading}
-use Rattle.volume_base.specs.Moments.{Image}
+use Rattle.volume_base.specs.Moments.{Image, present}
+use Rattle.volume_base.specs.Volume.{State}
 use Rattle.volume_base.specs.declared.error.JournalError.{JournalError}
-use Rattle.journal_base.specs.Items.{Items}
+use Rattle.journal_base.specs.Items.{Items, items_of}
 use Rattle.tree_shape.specs.Hashing.{Hashing}
 use Rattle.tree_shape.specs.Pins.{pins}
 use Rattle.tree_shape.specs.Shape.{Shape, peaks}
 use Rattle.tree_shape.specs.Slow.{node_of}
 use Rattle.tree_store.specs.Stores.{IsFirstAbsent, IsUnread}
 use Rattle.tree_store.specs.declared.error.Error as tree_error
-use Rattle.tree_store.specs.declared.error.Error.TheVariants.{RangeOutOfBounds, ElementPruned}
+use Rattle.tree_store.specs.declared.error.Error.TheVariants.{RangeOutOfBounds, ElementPruned, Memory}
 use Rattle.tree_proof.specs.declared.proof.Proof.{Proof}
 use Rattle.tree_proof.specs.Cover.{meets}
 use Rattle.tree_proof.specs.SlowProof.{proof_of}
@@ -23,7 +24,7 @@ use Rattle.tree_core.specs.Tree.{Tree, IsOf}
 use Rattle.tree_store.specs.Stores as tree
 use Rattle.merkle_full.specs.Full.{Full, IsHeld, told_at}
 use Rattle.merkle_full.specs.Lists.{IsFullOf}
-use Rattle.merkle_full.specs.Reading.{peaks_answer}
+use Rattle.merkle_full.specs.Reading.{peaks_answer, IsUnreadAmong}
 use Rattle.auth_journal.specs.Errors.{IsOutside}
 use Rattle.auth_journal.specs.Joined.{Joined, IsJoinedOf, leaves_of}
 use Rattle.auth_journal.specs.Reading.{IsFirstUnread, AreAdmitted}
@@ -39,6 +40,16 @@ pub record IsBatchProof {F D : Type 0} (s : Shape) (b : Sealed D) (base : Tree D
   pub batch : IfOk result (λ proof. (h : Hashing D) (all made : List D) → IsOf s h all base → IsSealedOf s h made b → AreAlike all made →
       proof ≡ proof_of s h made inactive (meets x y))
   pub kept : base.boundary ≤ x → b.first ≤ base.leaves → OnlyRefusedBy answer result
+
+-- What the peaks of the first n leaves of a sealed batch over a tree answer: what both together have there; of lists, where one of the two
+-- begins the other, the peaks of the batch's list; or the first that isn't there, which never comes from the tree's boundary on, where the
+-- tree has what stands before the batch's nodes.
+pub record AreBatchPeaks {F D : Type 0} (s : Shape) (b : Sealed D) (base : Tree D) (n : ℕ) (result : Result (Vec D) (tree_error.Error F)) : Type 0 where
+  pub nodes : IfOk result (λ found. map Some found.items ≡ map (overlaid s b base) (pins s n))
+  pub list : IfOk result (λ found. (h : Hashing D) (all made : List D) → IsOf s h all base → IsSealedOf s h made b → AreAlike all made →
+      found.items ≡ map (node_of s h made) (peaks s n))
+  pub first : IfErr result (IsUnread (overlaid s b base) (pins s n))
+  pub kept : base.boundary ≤ n → b.first ≤ base.leaves → IsOkUnless result Memory
 
 -- ---- items of a journal
 
@@ -73,12 +84,15 @@ pub record IsItemsProof {F D Codec Item : Type 0} (tells : Type 0) (s : Shape) (
       IfErr result (WhyUnproved (told_at reads j.tree image) (cover_positions s (meets a (range_end n a count)) n)
       (record { log = image.log j.items.name; spelling = spelling; admits = allowed j.items.codec }) a (range_end n a count))
 
--- The peaks of so many leaves of a tree: what it answers where no read decides; or else those of each list that it is of; or the first
--- that isn't there, which never comes from the boundary on.
-pub record ArePeaksAt {F D : Type 0} (tells : Type 0) (s : Shape) (digest : D → List ℕ) (admits : D → Type 0) (reads : List ℕ → Reading D) (t : Full D) (image : Image) (n : ℕ)
+-- The peaks of so many leaves of a tree: what it answers where no read decides; or else what it tells there, and those of each list that it
+-- is of; or the first that isn't there, which never comes from the boundary on. Whatever the volume holds, one of them can't be read.
+pub record ArePeaksAt {F D : Type 0} (tells : Type 0) (s : Shape) (digest : D → List ℕ) (admits : Unit {0} → D → Type 0) (reads : List ℕ → Reading D) (t : Full D) (state : State) (n : ℕ)
     (result : Result (Vec D) (tree_error.Error F)) : Type 0 where
   pub refused : (e : tree_error.Error F) → peaks_answer t.tree.leaves n ≡ Err e → result ≡ Err e
   pub within : OnOk result (peaks_answer {F = F} t.tree.leaves n ≡ Ok tt)
-  pub nodes : IfOk result (λ found. tells → (h : Hashing D) (all : List D) → IsFullOf s h digest admits all t image → found.items ≡ map (node_of s h all) (peaks s n))
-  pub kept : t.boundary ≤ n → peaks_answer {F = F} t.tree.leaves n ≡ Ok tt → tells → (h : Hashing D) (all : List D) → IsFullOf s h digest admits all t image → IfErr result tree.IsOutside
-  pub first : peaks_answer {F = F} t.tree.leaves n ≡ Ok tt → tells → IsHeld s digest admits t image → IfErr result (tree.IsOutsideOr (told_at reads t image) (pins s n))
+  pub counted : IfOk result (λ found. length found.items ≡ length (pins s n))
+  pub told : IfOk result (λ found. tells → IsHeld s digest (admits tt) t (present state) → map Some found.items ≡ map (told_at reads t (present state)) (pins s n))
+  pub nodes : IfOk result (λ found. tells → (h : Hashing D) (all : List D) → IsFullOf s h digest (admits tt) all t (present state) → found.items ≡ map (node_of s h all) (peaks s n))
+  pub kept : t.boundary ≤ n → peaks_answer {F = F} t.tree.leaves n ≡ Ok tt → tells → (h : Hashing D) (all : List D) → IsFullOf s h digest (admits tt) all t (present state) → IfErr result tree.IsOutside
+  pub first : peaks_answer {F = F} t.tree.leaves n ≡ Ok tt → tells → IsHeld s digest (admits tt) t (present state) → IfErr result (tree.IsOutsideOr (told_at reads t (present state)) (pins s n))
+  pub unread : peaks_answer {F = F} t.tree.leaves n ≡ Ok tt → IfErr result (IsUnreadAmong tells (items_of digest admits t.log state) (pins s n))

@@ -1,5 +1,5 @@
 -- What a crash leaves of a journal: of its log of items, of its node log, and of the map of its tree.
-use Rattle.std.specs.Prelude.{◌≡◌, ◌⊎◌, ℕ, max, List, Result, map}
+use Rattle.std.specs.Prelude.{◌≡◌, ◌⊎◌, ℕ, max, List, [], ◌∷◌, Result, map}
 use Rattle.volume_base.specs.Bounds.{IsPartOf}
 use Rattle.volume_base.specs.Log.{Log, no_log}
 use Rattle.volume_base.specs.Moments.{Image, NamesLeft, Now, Keeps, Steps}
@@ -48,6 +48,10 @@ NamesKeepStanding s h digest spelling list marks items nodes metadata old new =
     Now (NamesLeft (two_logs_and_map items nodes metadata)) (NamesStand s h digest spelling list marks items nodes metadata) old →
     Keeps (NamesLeft (two_logs_and_map items nodes metadata)) (NamesStand s h digest spelling list marks items nodes metadata) old new
 
+-- the names of its two logs alone
+abbrev pub logs_of : {D Codec : Type 0} → Joined D Codec → Names
+logs_of j = record { logs = j.items.name ∷ j.tree.log.name ∷ []; maps = [] }
+
 -- Of an image of the volume, what has these names stands for the list.
 abbrev pub ImageStands : {D Codec Item : Type 0} → Shape → Hashing D → (D → List ℕ) → (Item → List ℕ) → List Item → Marks → Joined D Codec → Image → Type 0
 ImageStands s h digest spelling list marks j image =
@@ -60,6 +64,13 @@ abbrev pub StepsStanding : {T E D Codec Item : Type 0} → Shape → Hashing D �
 StepsStanding s h digest spelling list before after j old new result =
     Now (NamesLeft (names_of j)) (ImageStands s h digest spelling list before j) old →
     Steps (NamesLeft (names_of j)) (ImageStands s h digest spelling list before j) (ImageStands s h digest spelling list after j) old new result
+
+-- Where whatever a crash leaves of these names stands for the one list, it stands for the other at each moment of a call.
+abbrev pub KeepsStanding : {D Codec Item : Type 0} → Shape → Hashing D → (D → List ℕ) → (Item → List ℕ) → List Item → List Item → Marks
+    → Joined D Codec → State → State → Type 0
+KeepsStanding s h digest spelling list longer marks j old new =
+    Now (NamesLeft (names_of j)) (ImageStands s h digest spelling list marks j) old →
+    Keeps (NamesLeft (names_of j)) (ImageStands s h digest spelling longer marks j) old new
 
 -- At each moment from the one to the other what a crash leaves of the tree is what it left before, or nothing is left of the log of items.
 abbrev pub ItemsGoFirst : {D Codec : Type 0} → Joined D Codec → State → State → Type 0

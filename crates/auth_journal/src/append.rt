@@ -85,8 +85,10 @@ fn append_to<C: Backing, V: Volume>(
 
 impl<F: Family, C: Backing, H: Hasher> Journal<F, C, H> {
     ghost use Rattle.std.specs.Prelude.{◌⊎◌, ℕ, Err};
-    ghost use Rattle.tree_core.specs.Applied.{IsLonger, FitsTree, RefusedByTree};
-    ghost use Rattle.tree_core.specs.Batches.{IsSealedOf};
+    ghost use Rattle.tree_core.specs.Applied.{IsLonger, FitsTree, EndsAtTree, RefusedByTree};
+    ghost use Rattle.tree_core.specs.Batches.{IsSealedOf, sealed_node};
+    ghost use Rattle.tree_core.specs.Tree.{node_at};
+    ghost use Rattle.tree_store.specs.Stored.{size};
     ghost use Rattle.tree_store.specs.declared.error.Error as tree_error;
     ghost use Rattle.tree_store.specs.declared.error.Error.TheVariants.{LocationOverflow};
     ghost use Rattle.volume_base.specs.Moments.{Image, present};
@@ -94,7 +96,9 @@ impl<F: Family, C: Backing, H: Hasher> Journal<F, C, H> {
     ghost use Rattle.merkle_full.specs.Full.{IsBeside};
     ghost use Rattle.auth_journal.specs.Appending.{unapplied, IsNamed, NamesUnwritten};
     ghost use Rattle.auth_journal.specs.Batched.{IsSealedOfItems};
+    ghost use Rattle.auth_journal.specs.Errors.{IsLifted};
     ghost use Rattle.auth_journal.specs.Joined.{IsJoinedOf, IsSameJoin, leaves_of};
+    ghost use Rattle.auth_journal.specs.Standing.{Marks, KeepsStanding};
     ghost use Rattle.auth_journal.specs.declared.error.Error.{Error};
 
     /// The leaves of these items, as a sealed batch on the tree. It refuses with `LocationOverflow` where they and the tree's are
@@ -161,6 +165,11 @@ impl<F: Family, C: Backing, H: Hasher> Journal<F, C, H> {
             IsJoinedOf F.shape H.hash H.Digest.spelling admits C.Item.spelling list self (present (V.state vol.old)) →
             IsJoinedOf F.shape H.hash H.Digest.spelling admits C.Item.spelling
             (list ++ item.now ∷ []) made.0 (present (V.state vol.new))) }
+        // At each moment whatever a crash leaves stands for the longer list, of which no more is durable than before.
+        ensures images { let admits = H.Digest.Read.admits tt in V.tells → (list : List C.Item) (marks : Marks) →
+            IsJoinedOf F.shape H.hash H.Digest.spelling admits C.Item.spelling list self (present (V.state vol.old)) →
+            KeepsStanding F.shape H.hash H.Digest.spelling C.Item.spelling list (list ++ item.now ∷ []) marks
+            self (V.state vol.old) (V.state vol.new) }
     {
         let one = self.copy_of(item)?;
         let batch = self.leaf_batch(&one)?;
@@ -205,6 +214,11 @@ impl<F: Family, C: Backing, H: Hasher> Journal<F, C, H> {
             IsJoinedOf F.shape H.hash H.Digest.spelling admits C.Item.spelling list self (present (V.state vol.old)) →
             IsJoinedOf F.shape H.hash H.Digest.spelling admits C.Item.spelling
             (list ++ items.now) made.0 (present (V.state vol.new))) }
+        // At each moment whatever a crash leaves stands for the longer list, of which no more is durable than before.
+        ensures images { let admits = H.Digest.Read.admits tt in V.tells → (list : List C.Item) (marks : Marks) →
+            IsJoinedOf F.shape H.hash H.Digest.spelling admits C.Item.spelling list self (present (V.state vol.old)) →
+            KeepsStanding F.shape H.hash H.Digest.spelling C.Item.spelling list (list ++ items.now) marks
+            self (V.state vol.old) (V.state vol.new) }
     {
         if items.is_empty() {
             return Err(Error::Journal(JournalError::EmptyAppend));
@@ -232,6 +246,8 @@ impl<F: Family, C: Backing, H: Hasher> Journal<F, C, H> {
         ensures marked { OnOk result ((i : ℕ) × FitsTree F.shape self.tree.tree batch.now.nodes i) }
         ensures refused { (e : tree_error.Error F) → IsErrOf result (Error.Merkle e) →
             RefusedByTree F.shape self.tree.tree batch.now.nodes e × (vol.new ≡ vol.old) }
+        // Of any journal, whatever the volume holds.
+        ensures lifted { IfErr result IsLifted }
         ensures overflow { (e : JournalError) → IsErrOf result (Error.Journal e) →
             (e ≡ SizeOverflow) × (V.tells → 2 ^ 64 - 1 < end_of (log_of self.items (V.state vol.old)) + batch.now.nodes.leaves) }
         ensures unwritten { NamesUnwritten (V.state vol.old) (V.state vol.new) result }
@@ -239,12 +255,21 @@ impl<F: Family, C: Backing, H: Hasher> Journal<F, C, H> {
             (unapplied batch.now self.tree.tree.leaves) (V.state vol.old) (V.state vol.new) result }
         ensures same { IfOk result (λ made. IsBeside self.tree made.tree × IsSameJoin self made) }
         ensures longer { IfOk result (λ made. IsLonger F.shape batch.now.nodes.leaves self.tree.tree made.tree.tree) }
+        // Of no list either: its new nodes are the batch's, and the mark behind the batch is then the tree's.
+        ensures since { IfOk result (λ made. (p : ℕ) → size F.shape self.tree.tree.leaves ≤ p →
+            node_at made.tree.tree p ≡ sealed_node F.shape batch.now.nodes p) }
+        ensures behind { IfOk result (λ made. EndsAtTree F.shape batch.now.nodes made.tree.tree) }
         ensures joined { let admits = H.Digest.Read.admits tt in
             IfOk result (λ made. V.tells → (list more : List C.Item) →
             IsJoinedOf F.shape H.hash H.Digest.spelling admits C.Item.spelling list self (present (V.state vol.old)) →
             IsSealedOfItems F.shape H.hash C.Item.spelling more batch.now →
             IsJoinedOf F.shape H.hash H.Digest.spelling admits C.Item.spelling
             (list ++ drop (length list) more) made (present (V.state vol.new))) }
+        // At each moment whatever a crash leaves stands for the longer list, of which no more is durable than before.
+        ensures images { let admits = H.Digest.Read.admits tt in V.tells → (list : List C.Item) (marks : Marks) →
+            IsJoinedOf F.shape H.hash H.Digest.spelling admits C.Item.spelling list self (present (V.state vol.old)) →
+            KeepsStanding F.shape H.hash H.Digest.spelling C.Item.spelling list (list ++ unapplied batch.now self.tree.tree.leaves) marks
+            self (V.state vol.old) (V.state vol.new) }
     {
         // Its leaves tell that the batch is sound.
         let _leaves = batch.nodes.leaves();

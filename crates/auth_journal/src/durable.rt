@@ -18,7 +18,7 @@ impl<F: Family, C: Backing, H: Hasher> Journal<F, C, H> {
     ghost use Rattle.auth_journal.specs.Durable.{IsFlushed, IsStarted, IsFromTree, outcome};
     ghost use Rattle.auth_journal.specs.Errors.{IsOutside};
     ghost use Rattle.auth_journal.specs.Joined.{IsJoinedOf};
-    ghost use Rattle.auth_journal.specs.Standing.{Marks, items_synced, all_synced, names_of, StepsStanding};
+    ghost use Rattle.auth_journal.specs.Standing.{Marks, items_synced, all_synced, logs_of, StepsStanding};
     ghost use Rattle.auth_journal.specs.declared.error.Error.{Error};
 
     /// Makes the log of items durable, and then appends the nodes that the node log lacks. Where a failed sync is kept it refuses
@@ -27,6 +27,10 @@ impl<F: Family, C: Backing, H: Hasher> Journal<F, C, H> {
         ensures kept { self.failed ≡ true → IsErrOf result Error.Volume × (vol.new ≡ vol.old) }
         ensures same { IfOk result (λ j. IsFlushed self j) }
         ensures rests { IfOk result (λ j. Rests F.shape j.tree) }
+        ensures nodes { let admits = H.Digest.Read.admits tt in
+            IfOk result (λ j. V.tells → (list : List C.Item) →
+            IsJoinedOf F.shape H.hash H.Digest.spelling admits C.Item.spelling list self (present (V.state vol.old)) →
+            j.tree.log.start ≡ self.tree.log.start) }
         ensures joined { let admits = H.Digest.Read.admits tt in
             IfOk result (λ j. V.tells → (list : List C.Item) →
             IsJoinedOf F.shape H.hash H.Digest.spelling admits C.Item.spelling list self (present (V.state vol.old)) →
@@ -38,8 +42,8 @@ impl<F: Family, C: Backing, H: Hasher> Journal<F, C, H> {
         ensures outside { let admits = H.Digest.Read.admits tt in V.tells → (list : List C.Item) →
             IsJoinedOf F.shape H.hash H.Digest.spelling admits C.Item.spelling list self (present (V.state vol.old)) →
             IfErr result IsOutside }
-        // Every other log and map stays, and so does what a crash leaves of it.
-        ensures names { V.tells → NamesCall (names_of self) (V.state vol.old) (V.state vol.new) }
+        // Every other log and every map stays, and so does what a crash leaves of it.
+        ensures names { V.tells → NamesCall (logs_of self) (V.state vol.old) (V.state vol.new) }
         // From a turn on all items are durable.
         ensures images { let admits = H.Digest.Read.admits tt in V.tells → (list : List C.Item) (marks : Marks) →
             IsJoinedOf F.shape H.hash H.Digest.spelling admits C.Item.spelling list self (present (V.state vol.old)) →
@@ -67,6 +71,10 @@ impl<F: Family, C: Backing, H: Hasher> Journal<F, C, H> {
         ensures kept { self.failed ≡ true → IsErrOf result Error.Volume × (vol.new ≡ vol.old) }
         ensures same { IfOk result (λ j. IsFlushed self j) }
         ensures rests { IfOk result (λ j. Rests F.shape j.tree) }
+        ensures nodes { let admits = H.Digest.Read.admits tt in
+            IfOk result (λ j. V.tells → (list : List C.Item) →
+            IsJoinedOf F.shape H.hash H.Digest.spelling admits C.Item.spelling list self (present (V.state vol.old)) →
+            j.tree.log.start ≡ self.tree.log.start) }
         ensures joined { let admits = H.Digest.Read.admits tt in
             IfOk result (λ j. V.tells → (list : List C.Item) →
             IsJoinedOf F.shape H.hash H.Digest.spelling admits C.Item.spelling list self (present (V.state vol.old)) →
@@ -79,8 +87,8 @@ impl<F: Family, C: Backing, H: Hasher> Journal<F, C, H> {
         ensures outside { let admits = H.Digest.Read.admits tt in V.tells → (list : List C.Item) →
             IsJoinedOf F.shape H.hash H.Digest.spelling admits C.Item.spelling list self (present (V.state vol.old)) →
             IfErr result IsOutside }
-        // Every other log and map stays, and so does what a crash leaves of it.
-        ensures names { V.tells → NamesCall (names_of self) (V.state vol.old) (V.state vol.new) }
+        // Every other log and every map stays, and so does what a crash leaves of it.
+        ensures names { V.tells → NamesCall (logs_of self) (V.state vol.old) (V.state vol.new) }
         // From a turn on all items and all their nodes are durable.
         ensures images { let admits = H.Digest.Read.admits tt in V.tells → (list : List C.Item) (marks : Marks) →
             IsJoinedOf F.shape H.hash H.Digest.spelling admits C.Item.spelling list self (present (V.state vol.old)) →
@@ -112,6 +120,13 @@ impl<F: Family, C: Backing, H: Hasher> Journal<F, C, H> {
         ensures untouched { IfOk result (λ made. made.0.items.failed ≡ true → (made.0.tree ≡ self.tree)
             × (V.tells → NamesCall (log_alone self.items.name) (V.state vol.old) (V.state vol.new))) }
         ensures rests { IfOk result (λ made. made.0.items.failed ≡ false → Rests F.shape made.0.tree) }
+        ensures nodes { let admits = H.Digest.Read.admits tt in
+            IfOk result (λ made. V.tells → (list : List C.Item) →
+            IsJoinedOf F.shape H.hash H.Digest.spelling admits C.Item.spelling list self (present (V.state vol.old)) →
+            made.0.tree.log.start ≡ self.tree.log.start) }
+        // Where the sync of the items was done they are durable, whatever becomes of the tree.
+        ensures items { IfOk result (λ made. made.0.items.failed ≡ false → V.tells →
+            IsDurable self.items (V.state vol.new)) }
         ensures joined { let admits = H.Digest.Read.admits tt in
             IfOk result (λ made. V.tells → (list : List C.Item) →
             IsJoinedOf F.shape H.hash H.Digest.spelling admits C.Item.spelling list self (present (V.state vol.old)) →
@@ -131,8 +146,8 @@ impl<F: Family, C: Backing, H: Hasher> Journal<F, C, H> {
         ensures outside { let admits = H.Digest.Read.admits tt in V.tells → (list : List C.Item) →
             IsJoinedOf F.shape H.hash H.Digest.spelling admits C.Item.spelling list self (present (V.state vol.old)) →
             IfErr result IsOutside }
-        // Every other log and map stays, and so does what a crash leaves of it.
-        ensures names { V.tells → NamesCall (names_of self) (V.state vol.old) (V.state vol.new) }
+        // Every other log and every map stays, and so does what a crash leaves of it.
+        ensures names { V.tells → NamesCall (logs_of self) (V.state vol.old) (V.state vol.new) }
         // Beside a ticket that is done all items and all their nodes are durable from a turn on.
         ensures images { let admits = H.Digest.Read.admits tt in V.tells → (list : List C.Item) (marks : Marks) →
             IsJoinedOf F.shape H.hash H.Digest.spelling admits C.Item.spelling list self (present (V.state vol.old)) →

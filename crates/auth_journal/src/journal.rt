@@ -29,8 +29,8 @@ impl<F: Family, C: Backing, H: Hasher> Model for Journal<F, C, H> {
 }
 
 impl<F: Family, C: Backing, H: Hasher> Journal<F, C, H> {
-    ghost use Rattle.std.specs.Prelude.{◌≡◌, ◌≤◌, ◌∷◌, [], List, length, IsOk, IfOk, IsOkUnless};
-    ghost use Rattle.tree_shape.specs.Root.{root};
+    ghost use Rattle.std.specs.Prelude.{◌≡◌, ◌≤◌, ◌∷◌, [], List, length, reverse, IsOk, IfOk, IsOkUnless};
+    ghost use Rattle.tree_shape.specs.Root.{root, root_over};
     ghost use Rattle.tree_core.specs.Applied.{IsMarkOf, FitsTree, EndsAtTree};
     ghost use Rattle.tree_core.specs.Batches.{BeginsAt, StandsAt};
     ghost use Rattle.tree_core.specs.Tree.{IsOf};
@@ -52,6 +52,10 @@ impl<F: Family, C: Backing, H: Hasher> Journal<F, C, H> {
         ensures ok { IsOk result }
         ensures root { IfOk result (λ d. (all : List H.Digest) → IsOf F.shape H.hash all self.now.tree.tree →
             d ≡ root F.shape H.hash all inactive_peaks self.now.bagging) }
+        // It is the root over the mark of the tree, whether or not that is a list's.
+        ensures marked { let tree = self.now.tree.tree in
+            IfOk result (λ d. (ps : List H.Digest) → IsMarkOf F.shape tree tree.leaves ps →
+            d ≡ root_over H.hash tree.leaves (reverse ps) inactive_peaks self.now.bagging) }
     {
         lift(self.merkle.root(&self.hasher, inactive_peaks))
     }

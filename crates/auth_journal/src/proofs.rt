@@ -1,5 +1,6 @@
 //! Proofs of items, at the present size and at fewer, and of the items of a batch.
 use crate::lift::lift;
+use crate::over::peaks_over;
 use crate::reading::read_range;
 use crate::{Error, Journal, MerkleizedBatch};
 use journal_base::{Backing, Contiguous};
@@ -8,16 +9,17 @@ use tree_core::{Family, Hasher, Location, Proof};
 use volume_base::Volume;
 
 impl<F: Family, C: Backing, H: Hasher> Journal<F, C, H> {
-    ghost use Rattle.std.specs.Prelude.{◌≡◌, ◌≤◌, ◌-◌, length, Err};
+    ghost use Rattle.std.specs.Prelude.{◌≡◌, ◌≤◌, ◌-◌, ◌+◌, length, Err, IfErr};
     ghost use Rattle.std.specs.NonZero.{non_zero_u64_get};
+    ghost use Rattle.tree_shape.specs.Pins.{pins};
     ghost use Rattle.tree_store.specs.declared.error.Error as tree_error;
     ghost use Rattle.tree_verification.specs.Ranges.{range_answer};
     ghost use Rattle.volume_base.specs.Moments.{present};
     ghost use Rattle.volume_base.specs.Volume.{Reads};
     ghost use Rattle.merkle_full.specs.Reading.{peaks_answer};
     ghost use Rattle.auth_journal.specs.Batched.{own_length};
-    ghost use Rattle.auth_journal.specs.Errors.{Lifts};
-    ghost use Rattle.auth_journal.specs.Proving.{IsItemsProof, IsBatchProof, ArePeaksAt, items_answer};
+    ghost use Rattle.auth_journal.specs.Errors.{Lifts, IsLifted};
+    ghost use Rattle.auth_journal.specs.Proving.{IsItemsProof, IsBatchProof, AreBatchPeaks, ArePeaksAt, items_answer};
 
     /// The proof of the items from `start` on in the tree as it was at `leaves`, and these items: at most `max_ops`, and none past
     /// the leaves. It refuses, in this order: with `RangeOutOfBounds` of the log's end where it has fewer items, with
@@ -34,6 +36,8 @@ impl<F: Family, C: Backing, H: Hasher> Journal<F, C, H> {
         ensures proves { IsItemsProof V.tells F.shape H.hash H.Digest.spelling (H.Digest.Read.admits tt) (H.Digest.Read.reads tt)
             C.Item.spelling C.Item.admits self.now (present (V.state vol.old)) leaves inactive_peaks start (non_zero_u64_get max_ops) result }
         ensures uncalled { (e : tree_error.Error F) → items_answer self.now.items.end leaves start ≡ Err e → vol.new ≡ vol.old }
+        // Of any journal, whatever the volume holds.
+        ensures lifted { IfErr result IsLifted }
         ensures reads { Reads V.tells Error.Volume (V.state vol.old) (V.state vol.new) result }
     {
         // Its leaves tell that the tree in memory is sound.
@@ -75,6 +79,8 @@ impl<F: Family, C: Backing, H: Hasher> Journal<F, C, H> {
             (non_zero_u64_get max_ops) result }
         ensures uncalled { let end = self.now.items.end in
             (e : tree_error.Error F) → items_answer end end start ≡ Err e → vol.new ≡ vol.old }
+        // Of any journal, whatever the volume holds.
+        ensures lifted { IfErr result IsLifted }
         ensures reads { Reads V.tells Error.Volume (V.state vol.old) (V.state vol.new) result }
     {
         let leaves = self.size();
@@ -87,10 +93,11 @@ impl<F: Family, C: Backing, H: Hasher> Journal<F, C, H> {
         vol: &mut V,
         loc: Location<F>,
     ) -> Result<Vec<H::Digest>, Error<F>>
-        ensures peaks { Lifts (ArePeaksAt V.tells F.shape H.Digest.spelling (H.Digest.Read.admits tt) (H.Digest.Read.reads tt)
-            self.now.tree (present (V.state vol.old)) loc) result }
+        ensures peaks { Lifts (ArePeaksAt V.tells F.shape H.Digest.spelling H.Digest.Read.admits (H.Digest.Read.reads tt)
+            self.now.tree (V.state vol.old) loc) result }
         ensures uncalled { (e : tree_error.Error F) → peaks_answer self.now.tree.tree.leaves loc ≡ Err e → vol.new ≡ vol.old }
         ensures reads { Reads V.tells Error.Volume (V.state vol.old) (V.state vol.new) result }
+        ensures count { (V.state vol.new).reads ≤ (V.state vol.old).reads + length (pins F.shape loc) }
     {
         lift(self.merkle.pinned_nodes_at(vol, loc))
     }
@@ -116,5 +123,18 @@ impl<F: Family, C: Backing, H: Hasher> Journal<F, C, H> {
             Location::new(end),
             inactive_peaks,
         )
+    }
+
+    /// The peaks of the leaves before the batch's own items, the oldest first, over this journal's tree in memory. It refuses with
+    /// `ElementPruned` the first that isn't there.
+    pub fn speculative_pinned_nodes(
+        &self,
+        batch: &MerkleizedBatch<F, H::Digest, C::Item>,
+    ) -> Result<Vec<H::Digest>, Error<F>>
+        ensures { let start = batch.now.nodes.leaves - own_length batch.now in
+            Lifts (AreBatchPeaks F.shape batch.now.nodes self.now.tree.tree start) result }
+    {
+        let start = batch.size() - batch.items().len() as u64;
+        lift(peaks_over(self.alloc, self.merkle.mem(), &batch.nodes, start))
     }
 }

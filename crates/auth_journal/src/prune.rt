@@ -5,17 +5,20 @@ use tree_core::{Family, Hasher, Location};
 use volume_base::Volume;
 
 impl<F: Family, C: Backing, H: Hasher> Journal<F, C, H> {
-    ghost use Rattle.std.specs.Prelude.{◌≡◌, ◌<◌, ◌≤◌, ℕ, List, length, true, false, Ok, IfOk, IfErr, OnOk, IsErrOf};
+    ghost use Rattle.std.specs.Prelude.{◌≡◌, ◌<◌, ◌≤◌, ℕ, List, length, max, true, false, Ok, IfOk, IfErr, OnOk, IsErrOf};
+    ghost use Rattle.journal_base.specs.Blobs.{blob_start};
+    ghost use Rattle.journal_base.specs.Items.{items_of};
     ghost use Rattle.journal_base.specs.View.{log_of, prune_point, IsDurable, IsHeld};
     ghost use Rattle.merkle_full.specs.Flushing.{AllStand};
     ghost use Rattle.merkle_full.specs.Full.{Rests};
     ghost use Rattle.merkle_full.specs.Lists.{IsFullOf};
-    ghost use Rattle.merkle_full.specs.Pruning.{StandsWhilePruned};
+    ghost use Rattle.merkle_full.specs.Pruning.{StandsWhilePruned, KeepsPins};
+    ghost use Rattle.tree_shape.specs.Shape.{made};
     ghost use Rattle.volume_base.specs.Log.{pruned_to, Advances};
     ghost use Rattle.volume_base.specs.Moments.{present};
     ghost use Rattle.volume_base.specs.Names.{log_and_map, NamesCall};
     ghost use Rattle.volume_base.specs.Volume.{LogCall, Changes, Writes};
-    ghost use Rattle.auth_journal.specs.Durable.{IsCut, IsPrunedTo};
+    ghost use Rattle.auth_journal.specs.Durable.{IsCut, IsPrunedTo, IsFromTree, IsTreeUnpruned, IsJournalUnpruned};
     ghost use Rattle.auth_journal.specs.Errors.{IsOutside};
     ghost use Rattle.auth_journal.specs.Joined.{IsSoundJoin, IsJoinedOf};
     ghost use Rattle.auth_journal.specs.Standing.{Marks, all_synced, pruned_below, names_of, StepsStanding};
@@ -51,6 +54,16 @@ impl<F: Family, C: Backing, H: Hasher> Journal<F, C, H> {
         ensures items { IfOk result (λ j. j.items ≡ self.items) }
         ensures moved { IfOk result (λ j. IsPrunedTo self j) }
         ensures rests { IfOk result (λ j. Rests F.shape self.tree → Rests F.shape j.tree) }
+        ensures start { let admits = H.Digest.Read.admits tt in
+            let point = blob_start self.tree.log.blob (length (made F.shape self.items.start)) in
+            IfOk result (λ j. self.tree.boundary < self.items.start → V.tells → (all : List H.Digest) →
+            IsFullOf F.shape H.hash H.Digest.spelling admits all self.tree (present (V.state vol.old)) →
+            j.tree.log.start ≡ max self.tree.log.start point) }
+        ensures pins { OnOk result (V.tells →
+            KeepsPins ((V.state vol.old).map self.tree.metadata) ((V.state vol.new).map self.tree.metadata)) }
+        // Of any tree, whatever the volume holds.
+        ensures errors { let items = items_of H.Digest.spelling H.Digest.Read.admits self.tree.log (V.state vol.new) in
+            IfErr result (IsFromTree (IsTreeUnpruned F.shape V.tells self.tree items self.items.start)) }
         ensures full { let admits = H.Digest.Read.admits tt in
             IfOk result (λ j. V.tells → (all : List H.Digest) →
             IsFullOf F.shape H.hash H.Digest.spelling admits all self.tree (present (V.state vol.old)) →
@@ -97,11 +110,23 @@ impl<F: Family, C: Backing, H: Hasher> Journal<F, C, H> {
         ensures pruned { let point = prune_point self.items loc (V.state vol.old) in
             OnOk result (0 < self.items.end → V.tells →
             log_of self.items (V.state vol.new) ≡ pruned_to (log_of self.items (V.state vol.old)) point) }
+        // Whole blobs below the boundary's position are gone from the node log, and no pin from its map.
+        ensures nodes { let admits = H.Digest.Read.admits tt in
+            IfOk result (λ pruned. self.tree.boundary < pruned.0.items.start → V.tells → (list : List C.Item) →
+            IsJoinedOf F.shape H.hash H.Digest.spelling admits C.Item.spelling list self (present (V.state vol.old)) →
+            let point = blob_start self.tree.log.blob (length (made F.shape pruned.0.items.start)) in
+            pruned.0.tree.log.start ≡ max self.tree.log.start point) }
+        ensures pins { OnOk result (V.tells →
+            KeepsPins ((V.state vol.old).map self.tree.metadata) ((V.state vol.new).map self.tree.metadata)) }
         ensures durable { OnOk result (0 < self.items.end → V.tells → IsDurable self.items (V.state vol.new)) }
         ensures joined { let admits = H.Digest.Read.admits tt in
             IfOk result (λ made. V.tells → (list : List C.Item) →
             IsJoinedOf F.shape H.hash H.Digest.spelling admits C.Item.spelling list self (present (V.state vol.old)) →
             IsJoinedOf F.shape H.hash H.Digest.spelling admits C.Item.spelling list made.0 (present (V.state vol.new))) }
+        // Of any journal, whatever the volume holds: the place is where the log of items begins then.
+        ensures errors { let state = V.state vol.new in
+            let items = items_of H.Digest.spelling H.Digest.Read.admits self.tree.log state in
+            IfErr result (IsFromTree (IsJournalUnpruned F.shape V.tells self.tree items (log_of self.items state).start)) }
         ensures outside { let admits = H.Digest.Read.admits tt in V.tells → (list : List C.Item) →
             IsJoinedOf F.shape H.hash H.Digest.spelling admits C.Item.spelling list self (present (V.state vol.old)) →
             IfErr result IsOutside }

@@ -29,10 +29,10 @@ impl<F: Family, D: Digest, Item: Drop> Model for MerkleizedBatch<F, D, Item> {
 }
 
 impl<F: Family, D: Digest, Item: Drop> MerkleizedBatch<F, D, Item> {
-    ghost use Rattle.std.specs.Prelude.{◌≡◌, ◌+◌, ◌-◌, ◌≤◌, ◌^◌, List, length, slice_get, Some, IsOk, IfOk, IsOkUnless};
+    ghost use Rattle.std.specs.Prelude.{◌≡◌, ◌+◌, ◌-◌, ◌≤◌, ◌^◌, List, length, reverse, slice_get, Some, IsOk, IfOk, IsOkUnless};
     ghost use Rattle.std.specs.Option.{option_copied};
     ghost use Rattle.tree_shape.specs.Hashing.{Hashing};
-    ghost use Rattle.tree_shape.specs.Root.{root};
+    ghost use Rattle.tree_shape.specs.Root.{root, root_over};
     ghost use Rattle.tree_core.specs.Batches.{IsSealedOf};
     ghost use Rattle.tree_core.specs.Links.{StandsBehind};
     ghost use Rattle.tree_verification.specs.Ranges.{range_answer, leaf_answer};
@@ -81,6 +81,9 @@ impl<F: Family, D: Digest, Item: Drop> MerkleizedBatch<F, D, Item> {
         ensures ok { IsOk result }
         ensures root { IfOk result (λ d. (all : List D) → IsSealedOf F.shape H.hash all self.now.nodes →
             d ≡ root F.shape H.hash all inactive_peaks hasher.now) }
+        // It is the root over the mark behind the batch, whether or not that is a list's.
+        ensures marked { IfOk result (λ d. (ps : List D) × StandsBehind F.shape self.now.nodes.links self.now.nodes.leaves ps
+            × (d ≡ root_over H.hash self.now.nodes.leaves (reverse ps) inactive_peaks hasher.now)) }
     {
         lift(self.nodes.root(hasher, inactive_peaks))
     }

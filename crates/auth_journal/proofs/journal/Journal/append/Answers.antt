@@ -1,9 +1,11 @@
-use Rattle.std.proofs.Common.{◌≡◌, List, [], ◌∷◌, ◌++◌, length, map, drop, sym, ◌∙◌, ap, subst, Err}
+use Rattle.std.proofs.Common.{◌≡◌, ◌≢◌, List, [], ◌∷◌, ◌++◌, length, map, drop, sym, ◌∙◌, ap, subst, Err}
 use Rattle.std.proofs.Math.Seq.{drop-append_seam}
 use Rattle.journal_base.specs.View.{log_of}
 use Rattle.tree_core.specs.Applied.{FitsTree}
 use Rattle.tree_core.specs.Batches.{IsSealedOf}
-use Rattle.volume_base.specs.Log.{end_of}
+use Rattle.volume_base.specs.Log.{end_of, Grows}
+use Rattle.volume_base.specs.Volume.{LogCall}
+use Rattle.auth_journal.proofs.GrowLemmas.{items_grow, none_stands}
 use Rattle.volume_base.specs.Moments.{present}
 use Rattle.merkle_full.specs.Lists.{AreDigests}
 use Rattle.auth_journal.specs.Joined.{Joined, IsJoinedOf, leaves_of}
@@ -69,3 +71,38 @@ returns-in_err-one-clause-appends g c =
     let e = c.in_err-one.field-0.0 in
     let memory : e ≡ joined.Memory = (c.in_err-one.ensures {u = tt}).memory in
     appends_not g.V.Volume.tells g.C.Item.Spelled.spelling c.args.self.items (c.args.item.now ∷ []) a a _ e _ c.from_residual.ensures.1 (λ is. let same : joined.Memory ≡ joined.Volume = sym memory ∙ is in cc)
+
+pub returns-in_err-one-clause-images : goal.returns-in_err-one-clause-images
+returns-in_err-one-clause-images g c tells list marks joined =
+    let off = subst (λ (k : Joined g.row.H-Digest.Denot g.row.C-Item-Cfg.Denot). k.items.name ≢ k.tree.log.name) c.self.view_is c.self.invariant.apart in
+    none_stands g.F.Family.shape g.H.Hasher.hash g.H.Digest.Spelled.spelling g.C.Item.Spelled.spelling list (c.args.item.now ∷ []) c.args.self off g.met.F.Family.lawful (g.V.Volume.state c.args.vol.now) marks joined.items
+
+pub returns-in_err-batch-clause-images : goal.returns-in_err-batch-clause-images
+returns-in_err-batch-clause-images g c tells list marks joined =
+    let off = subst (λ (k : Joined g.row.H-Digest.Denot g.row.C-Item-Cfg.Denot). k.items.name ≢ k.tree.log.name) c.self.view_is c.self.invariant.apart in
+    none_stands g.F.Family.shape g.H.Hasher.hash g.H.Digest.Spelled.spelling g.C.Item.Spelled.spelling list (c.args.item.now ∷ []) c.args.self off g.met.F.Family.lawful (g.V.Volume.state c.args.vol.now) marks joined.items
+
+pub returns-in_err-merkle-clause-images : goal.returns-in_err-merkle-clause-images
+returns-in_err-merkle-clause-images g c tells list marks joined =
+    let off = subst (λ (k : Joined g.row.H-Digest.Denot g.row.C-Item-Cfg.Denot). k.items.name ≢ k.tree.log.name) c.self.view_is c.self.invariant.apart in
+    none_stands g.F.Family.shape g.H.Hasher.hash g.H.Digest.Spelled.spelling g.C.Item.Spelled.spelling list (c.args.item.now ∷ []) c.args.self off g.met.F.Family.lawful (g.V.Volume.state c.args.vol.now) marks joined.items
+
+pub returns-in_err-journal-clause-images : goal.returns-in_err-journal-clause-images
+returns-in_err-journal-clause-images g c tells list marks joined =
+    let spelling = g.C.Item.Spelled.spelling in
+    let a = g.V.Volume.state c.args.vol.now in
+    let b = g.V.Volume.state c.append_one.new.vol in
+    let items : List g.row.C-Item.Denot = (c.args.item.now ∷ []) in
+    let off = subst (λ (k : Joined g.row.H-Digest.Denot g.row.C-Item-Cfg.Denot). k.items.name ≢ k.tree.log.name) c.self.view_is c.self.invariant.apart in
+    let call = subst (λ (k : Joined g.row.H-Digest.Denot g.row.C-Item-Cfg.Denot). LogCall k.items.name (Grows (log_of k.items a) (map spelling items)) a b) c.self.view_is (c.append_one.ensures.appends.log tells) in
+    items_grow g.F.Family.shape g.H.Hasher.hash g.H.Digest.Spelled.spelling spelling list items c.args.self off g.met.F.Family.lawful marks a b joined.items call.images
+
+pub returns-clause-images : goal.returns-clause-images
+returns-clause-images g c tells list marks joined =
+    let spelling = g.C.Item.Spelled.spelling in
+    let a = g.V.Volume.state c.args.vol.now in
+    let b = g.V.Volume.state c.append_one.new.vol in
+    let items : List g.row.C-Item.Denot = (c.args.item.now ∷ []) in
+    let off = subst (λ (k : Joined g.row.H-Digest.Denot g.row.C-Item-Cfg.Denot). k.items.name ≢ k.tree.log.name) c.self.view_is c.self.invariant.apart in
+    let call = subst (λ (k : Joined g.row.H-Digest.Denot g.row.C-Item-Cfg.Denot). LogCall k.items.name (Grows (log_of k.items a) (map spelling items)) a b) c.self.view_is (c.append_one.ensures.appends.log tells) in
+    items_grow g.F.Family.shape g.H.Hasher.hash g.H.Digest.Spelled.spelling spelling list items c.args.self off g.met.F.Family.lawful marks a b joined.items call.images

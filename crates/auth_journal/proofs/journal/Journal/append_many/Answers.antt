@@ -1,9 +1,11 @@
-use Rattle.std.proofs.Common.{inr, ℕ, List, ◌++◌, length, map, drop, refl, sym, ◌∙◌, ap, subst, arith, Ok, Err}
+use Rattle.std.proofs.Common.{◌≢◌, inr, ℕ, List, ◌++◌, length, map, drop, refl, sym, ◌∙◌, ap, subst, arith, Ok, Err}
 use Rattle.std.proofs.Math.Seq.{drop-append_seam}
 use Rattle.journal_base.specs.View.{log_of}
 use Rattle.tree_core.specs.Applied.{FitsTree}
 use Rattle.tree_core.specs.Batches.{IsSealedOf}
-use Rattle.volume_base.specs.Log.{end_of}
+use Rattle.volume_base.specs.Log.{end_of, Grows}
+use Rattle.volume_base.specs.Volume.{LogCall}
+use Rattle.auth_journal.proofs.GrowLemmas.{items_grow, none_stands}
 use Rattle.volume_base.specs.Moments.{present}
 use Rattle.volume_base.specs.declared.error.JournalError.TheVariants as journal
 use Rattle.merkle_full.specs.Lists.{AreDigests}
@@ -96,3 +98,38 @@ returns-clause-joined g c tells list joined =
     let grown = applied.full h (leaves_of s h spelling list) (leaves_of s h spelling (list ++ items)) (present old) here.tree sealed digests in
     let did = (c.in_ok-journal.ensures {u = tt}).appends in
     appended_joined s h digest admits spelling list (list ++ items) items j k old new here c.self.invariant (did.appended tells) did.made ((c.in_ok-journal.ensures {u = tt}).held tells) (did.log tells).others applied.beside (sym (drop-append_seam list items)) grown
+
+pub returns-then-is_empty-clause-images : goal.returns-then-is_empty-clause-images
+returns-then-is_empty-clause-images g c tells list marks joined =
+    let off = subst (λ (k : Joined g.row.H-Digest.Denot g.row.C-Item-Cfg.Denot). k.items.name ≢ k.tree.log.name) c.self.view_is c.self.invariant.apart in
+    none_stands g.F.Family.shape g.H.Hasher.hash g.H.Digest.Spelled.spelling g.C.Item.Spelled.spelling list c.args.items.now c.args.self off g.met.F.Family.lawful (g.V.Volume.state c.args.vol.now) marks joined.items
+
+pub returns-in_err-batch-clause-images : goal.returns-in_err-batch-clause-images
+returns-in_err-batch-clause-images g c tells list marks joined =
+    let off = subst (λ (k : Joined g.row.H-Digest.Denot g.row.C-Item-Cfg.Denot). k.items.name ≢ k.tree.log.name) c.self.view_is c.self.invariant.apart in
+    none_stands g.F.Family.shape g.H.Hasher.hash g.H.Digest.Spelled.spelling g.C.Item.Spelled.spelling list c.args.items.now c.args.self off g.met.F.Family.lawful (g.V.Volume.state c.args.vol.now) marks joined.items
+
+pub returns-in_err-merkle-clause-images : goal.returns-in_err-merkle-clause-images
+returns-in_err-merkle-clause-images g c tells list marks joined =
+    let off = subst (λ (k : Joined g.row.H-Digest.Denot g.row.C-Item-Cfg.Denot). k.items.name ≢ k.tree.log.name) c.self.view_is c.self.invariant.apart in
+    none_stands g.F.Family.shape g.H.Hasher.hash g.H.Digest.Spelled.spelling g.C.Item.Spelled.spelling list c.args.items.now c.args.self off g.met.F.Family.lawful (g.V.Volume.state c.args.vol.now) marks joined.items
+
+pub returns-in_err-journal-clause-images : goal.returns-in_err-journal-clause-images
+returns-in_err-journal-clause-images g c tells list marks joined =
+    let spelling = g.C.Item.Spelled.spelling in
+    let a = g.V.Volume.state c.args.vol.now in
+    let b = g.V.Volume.state c.append_to.new.vol in
+    let items : List g.row.C-Item.Denot = c.args.items.now in
+    let off = subst (λ (k : Joined g.row.H-Digest.Denot g.row.C-Item-Cfg.Denot). k.items.name ≢ k.tree.log.name) c.self.view_is c.self.invariant.apart in
+    let call = subst (λ (k : Joined g.row.H-Digest.Denot g.row.C-Item-Cfg.Denot). LogCall k.items.name (Grows (log_of k.items a) (map spelling items)) a b) c.self.view_is (c.append_to.ensures.appends.log tells) in
+    items_grow g.F.Family.shape g.H.Hasher.hash g.H.Digest.Spelled.spelling spelling list items c.args.self off g.met.F.Family.lawful marks a b joined.items call.images
+
+pub returns-clause-images : goal.returns-clause-images
+returns-clause-images g c tells list marks joined =
+    let spelling = g.C.Item.Spelled.spelling in
+    let a = g.V.Volume.state c.args.vol.now in
+    let b = g.V.Volume.state c.append_to.new.vol in
+    let items : List g.row.C-Item.Denot = c.args.items.now in
+    let off = subst (λ (k : Joined g.row.H-Digest.Denot g.row.C-Item-Cfg.Denot). k.items.name ≢ k.tree.log.name) c.self.view_is c.self.invariant.apart in
+    let call = subst (λ (k : Joined g.row.H-Digest.Denot g.row.C-Item-Cfg.Denot). LogCall k.items.name (Grows (log_of k.items a) (map spelling items)) a b) c.self.view_is (c.append_to.ensures.appends.log tells) in
+    items_grow g.F.Family.shape g.H.Hasher.hash g.H.Digest.Spelled.spelling spelling list items c.args.self off g.met.F.Family.lawful marks a b joined.items call.images

@@ -1,4 +1,4 @@
-use Rattle.std.proofs.Common.{◌≡◌, Global, List, ◌++◌, length, map, drop, refl, sym, ◌∙◌, ap, subst, arith, Ok, Err}
+use Rattle.std.proofs.Common.{◌≡◌, ◌≢◌, Global, List, ◌++◌, length, map, drop, refl, sym, ◌∙◌, ap, subst, arith, Ok, Err}
 use Rattle.std.specs.declared.rc.Rc.{Rc}
 use Rattle.codec_base.specs.declared.list.ListOf.{ListOf}
 use Rattle.journal_base.specs.View.{log_of}
@@ -11,6 +11,10 @@ use Rattle.auth_journal.specs.Appending.{Appends, unapplied}
 use Rattle.auth_journal.specs.Batched.{SealedItems, joined_items}
 use Rattle.auth_journal.specs.Joined.{Joined, IsJoinedOf, leaves_of}
 use Rattle.auth_journal.specs.declared.error.Error.TheVariants as joined
+use Rattle.auth_journal.specs.Errors.{from_journal, from_tree, IsLifted}
+use Rattle.auth_journal.proofs.DurableLemmas.{err_and}
+use Rattle.auth_journal.proofs.GrowLemmas.{items_grow, none_stands}
+use Rattle.auth_journal.proofs.LowerLemmas.{journal_lifted, refused_lifted}
 use Rattle.auth_journal.proofs.AppendLemmas.{appends_refused, appends_below, appends_ok}
 use Rattle.auth_journal.proofs.BatchLemmas.{unapplied_from, unapplied_of}
 use Rattle.auth_journal.proofs.ErrorLemmas.{answered_size, unwritten_below}
@@ -110,3 +114,40 @@ returns-clause-joined g c tells list more joined of =
     let did = (c.in_ok-journal.ensures {u = tt}).appends in
     subst (λ (xs : List g.row.C-Item.Denot). IsJoinedOf s h digest admits spelling (list ++ xs) k (present new)) is
     (appended_joined s h digest admits spelling list more put j k old new here c.self.invariant (did.appended tells) did.made (did.held tells (record { start_is = here.start_is; end_is = here.end_is })) (did.log tells).others applied.beside is grown)
+
+pub returns-in_err-place-clause-images : goal.returns-in_err-place-clause-images
+returns-in_err-place-clause-images g c tells list marks joined =
+    let off = subst (λ (k : Joined g.row.H-Digest.Denot g.row.C-Item-Cfg.Denot). k.items.name ≢ k.tree.log.name) c.self.view_is c.self.invariant.apart in
+    none_stands g.F.Family.shape g.H.Hasher.hash g.H.Digest.Spelled.spelling g.C.Item.Spelled.spelling list (unapplied c.args.batch.now c.args.self.tree.tree.leaves) c.args.self off g.met.F.Family.lawful (g.V.Volume.state c.args.vol.now) marks joined.items
+
+pub returns-in_err-merkle-clause-images : goal.returns-in_err-merkle-clause-images
+returns-in_err-merkle-clause-images g c tells list marks joined =
+    let off = subst (λ (k : Joined g.row.H-Digest.Denot g.row.C-Item-Cfg.Denot). k.items.name ≢ k.tree.log.name) c.self.view_is c.self.invariant.apart in
+    none_stands g.F.Family.shape g.H.Hasher.hash g.H.Digest.Spelled.spelling g.C.Item.Spelled.spelling list (unapplied c.args.batch.now c.args.self.tree.tree.leaves) c.args.self off g.met.F.Family.lawful (g.V.Volume.state c.args.vol.now) marks joined.items
+
+pub returns-in_err-journal-clause-images : goal.returns-in_err-journal-clause-images
+returns-in_err-journal-clause-images g c tells list marks joined =
+    let off = subst (λ (k : Joined g.row.H-Digest.Denot g.row.C-Item-Cfg.Denot). k.items.name ≢ k.tree.log.name) c.self.view_is c.self.invariant.apart in
+    items_grow g.F.Family.shape g.H.Hasher.hash g.H.Digest.Spelled.spelling g.C.Item.Spelled.spelling list (unapplied c.args.batch.now c.args.self.tree.tree.leaves) c.args.self off g.met.F.Family.lawful marks (g.V.Volume.state c.args.vol.now) (g.V.Volume.state c.append_from.new.vol) joined.items
+    ((returns-in_err-journal-clause-appends g c).log tells).images
+
+pub returns-clause-images : goal.returns-clause-images
+returns-clause-images g c tells list marks joined =
+    let off = subst (λ (k : Joined g.row.H-Digest.Denot g.row.C-Item-Cfg.Denot). k.items.name ≢ k.tree.log.name) c.self.view_is c.self.invariant.apart in
+    items_grow g.F.Family.shape g.H.Hasher.hash g.H.Digest.Spelled.spelling g.C.Item.Spelled.spelling list (unapplied c.args.batch.now c.args.self.tree.tree.leaves) c.args.self off g.met.F.Family.lawful marks (g.V.Volume.state c.args.vol.now) (g.V.Volume.state c.append_from.new.vol) joined.items
+    ((returns-clause-appends g c).log tells).images
+
+pub returns-in_err-place-clause-lifted : goal.returns-in_err-place-clause-lifted
+returns-in_err-place-clause-lifted g c =
+    let e = c.in_err-place.field-0.0 in
+    err_and _ (from_tree e) IsLifted c.from_residual.ensures.1 (refused_lifted g.F.Family.shape c.mem.result.now c.batch.inside.nodes e (c.in_err-place.ensures {u = tt}).answer)
+
+pub returns-in_err-merkle-clause-lifted : goal.returns-in_err-merkle-clause-lifted
+returns-in_err-merkle-clause-lifted g c =
+    let e = c.in_err-merkle.field-0.0 in
+    err_and _ (from_tree e) IsLifted c.from_residual-in_err-merkle.ensures.1 (refused_lifted g.F.Family.shape c.self.inside.merkle.tree c.batch.inside.nodes e (c.in_err-merkle.ensures {u = tt}).answer)
+
+pub returns-in_err-journal-clause-lifted : goal.returns-in_err-journal-clause-lifted
+returns-in_err-journal-clause-lifted g c =
+    let e = c.in_err-journal.field-0.0 in
+    err_and _ (from_journal e) IsLifted c.from_residual-in_err-journal.ensures.1 (journal_lifted g.row.F.Denot e)

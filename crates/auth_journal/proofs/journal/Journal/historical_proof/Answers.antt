@@ -14,6 +14,9 @@ use Rattle.merkle_full.specs.Proving.{history_answer, IsProved}
 use Rattle.auth_journal.specs.Joined.{Joined}
 use Rattle.auth_journal.specs.Proving.{range_end}
 use Rattle.auth_journal.specs.Reading.{positions, AreUnread, AreAdmitted}
+use Rattle.auth_journal.specs.Errors.{from_journal, from_tree, IsLifted}
+use Rattle.auth_journal.proofs.DurableLemmas.{err_and}
+use Rattle.auth_journal.proofs.LowerLemmas.{journal_lifted, proof_lifted}
 use Rattle.auth_journal.proofs.ProofLemmas.{moved, tree_refused, log_refused, both_made}
 use Rattle.auth_journal.proofs.journal.Journal.historical_proof.Goals as goal
 
@@ -126,3 +129,13 @@ returns-clause-proves g c =
     both_made g.row.F.Denot tells s h digest admits reads spelling allowed j (present old) n c.args.inactive_peaks a count le lt some sound c.in_ok-proof.proof made did
     (λ told. moved (λ (v : View g.row.C-Item-Cfg.Denot) (l : Log) (x y : ℕ). AreItemsAt (record { log = l; spelling = spelling; admits = allowed v.codec }) (positions x y) made.items) i j old new c.as_u64-first.result a (c.as_u64-first.result + c.min-size.result) b c.self.view_is (same told) c.as_u64-first.ensures to (read.items told))
     (λ told. moved (λ (v : View g.row.C-Item-Cfg.Denot) (l : Log) (x y : ℕ). (list : List g.row.C-Item.Denot) → Spells spelling list l → l.start ≤ x → y ≤ length list → AreAdmitted (allowed v.codec) list x y → made.items ≡ take (y - x) (drop x list)) i j old new c.as_u64-first.result a (c.as_u64-first.result + c.min-size.result) b c.self.view_is (same told) c.as_u64-first.ensures to (read.listed told))
+
+pub returns-in_err-proof-clause-lifted : goal.returns-in_err-proof-clause-lifted
+returns-in_err-proof-clause-lifted g c =
+    let e = c.in_err-proof.field-0.0 in
+    err_and _ (from_tree e) IsLifted c.from_residual.ensures.1 (let did = (c.in_err-proof.ensures {u = tt}).proves in proof_lifted {T = Proof g.row.F.Denot g.row.H-Digest.Denot} c.self.inside.merkle.tree.leaves c.new-2.result c.new-3.result c.new-4.result e did.refused did.fault)
+
+pub returns-in_err-items-clause-lifted : goal.returns-in_err-items-clause-lifted
+returns-in_err-items-clause-lifted g c =
+    let e = c.in_err-items.field-0.0 in
+    err_and _ (from_journal e) IsLifted c.from_residual-in_err-items.ensures.1 (journal_lifted g.row.F.Denot e)

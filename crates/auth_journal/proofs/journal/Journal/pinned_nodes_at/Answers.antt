@@ -1,7 +1,6 @@
 use Rattle.std.proofs.Common.{sym, subst}
 use Rattle.std.specs.Prelude.{Result}
 use Rattle.std.specs.Global.{Vec}
-use Rattle.volume_base.specs.Moments.{present}
 use Rattle.volume_base.specs.Volume.{Reads}
 use Rattle.auth_journal.specs.Joined.{Joined}
 use Rattle.auth_journal.specs.Proving.{ArePeaksAt}
@@ -16,8 +15,8 @@ returns-clause-peaks g c =
     record {
       below = c.pinned_nodes_at.result;
       is = c.lift.ensures;
-      says = subst (λ (j : Joined g.row.H-Digest.Denot g.row.C-Item-Cfg.Denot). ArePeaksAt g.V.Volume.tells g.F.Family.shape g.H.Digest.Spelled.spelling (g.H.Digest.Read.admits tt) (g.H.Digest.Read.reads tt) j.tree (present (g.V.Volume.state c.args.vol.now)) c.args.loc c.pinned_nodes_at.result) c.self.view_is
-          (record { refused = λ e is. (did.answer e is).0; within = did.within; nodes = did.nodes; kept = did.kept; first = did.first });
+      says = subst (λ (j : Joined g.row.H-Digest.Denot g.row.C-Item-Cfg.Denot). ArePeaksAt g.V.Volume.tells g.F.Family.shape g.H.Digest.Spelled.spelling g.H.Digest.Read.admits (g.H.Digest.Read.reads tt) j.tree (g.V.Volume.state c.args.vol.now) c.args.loc c.pinned_nodes_at.result) c.self.view_is
+          (record { refused = λ e is. (did.answer e is).0; within = did.within; counted = did.counted; told = did.told; nodes = did.nodes; kept = did.kept; first = did.first; unread = did.refused });
     }
 
 pub returns-clause-reads : goal.returns-clause-reads

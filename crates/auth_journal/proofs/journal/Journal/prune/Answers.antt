@@ -1,4 +1,4 @@
-use Rattle.std.proofs.Common.{◌≡◌, ◌≢◌, length, min, ℕ, refl, ◌∙◌, ap, subst, arith, Ok, Err}
+use Rattle.std.proofs.Common.{◌≡◌, ◌≢◌, inl, length, min, ℕ, refl, ◌∙◌, ap, subst, arith, Ok, Err}
 use Rattle.std.specs.Prelude.{Result}
 use Rattle.volume_base.specs.Log.{Log, Advances, end_of, pruned_to}
 use Rattle.volume_base.specs.Names.{log_and_map}
@@ -7,15 +7,18 @@ use Rattle.volume_base.proofs.JoinLemmas.{changes_of_writes, changes_joins, went
 use Rattle.volume_base.proofs.NameLemmas.{durable_after}
 use Rattle.journal_base.specs.Blobs.{blob_start}
 use Rattle.journal_base.specs.View.{log_of, prune_point, IsDurable}
+use Rattle.journal_base.specs.Items.{items_of}
+use Rattle.tree_store.specs.declared.error.Error.TheVariants as tree
+use Rattle.auth_journal.specs.Durable.{IsFromTree, IsJournalUnpruned}
 use Rattle.auth_journal.specs.Errors.{IsOutside}
 use Rattle.auth_journal.specs.Joined.{Joined, IsSoundJoin, leaves_of}
 use Rattle.auth_journal.specs.Standing.{all_synced, pruned_below, names_of}
 use Rattle.auth_journal.specs.declared.error.Error.{Error}
 use Rattle.auth_journal.specs.declared.error.Error.TheVariants as joined
 use Rattle.auth_journal.proofs.DurableLemmas.{err_and, err_not_ok, fault_below, images_none}
-use Rattle.auth_journal.proofs.PruneLemmas.{items_advance, images_pruned, images_failed, images_empty, point_below, items_call, tree_call, pruned_moved, cut_full, cut_start, held_pruned, joined_pruned, keeps_behind, changes_done}
+use Rattle.auth_journal.proofs.PruneLemmas.{items_advance, images_pruned, images_failed, images_empty, point_below, items_call, tree_call, pruned_moved, cut_full, cut_start, held_pruned, joined_pruned, keeps_behind, changes_done, nodes_pruned, pins_pruned, unpruned_tree, outside_from_tree}
 use Rattle.auth_journal.proofs.ReadingLemmas.{run_end}
-use Rattle.auth_journal.proofs.StandingLemmas.{names_items, names_tree_and_map}
+use Rattle.auth_journal.proofs.StandingLemmas.{names_items, names_logs, names_tree_and_map}
 use Rattle.auth_journal.proofs.journal.Journal.prune.Goals as goal
 
 pub returns-then-end-eq0-clause-images : goal.returns-then-end-eq0-clause-images
@@ -54,7 +57,7 @@ returns-in_err-cut-clause-names g c tells =
     let d = g.V.Volume.state c.prune_items.new.vol in
     let synced = c.in_ok-synced.ensures {u = tt} in
     let point = prune_point k.items c.args.loc b in
-    names_call_joins (names_of j) a b d (synced.names tells) (names_items j b d (Advances point) (items_call j k k k synced.same (record { items = refl; tree = refl; bagging = refl; failed = refl }) (Advances point) b d (c.in_err-cut.ensures.log tells)))
+    names_call_joins (names_of j) a b d (names_logs j a b (synced.names tells)) (names_items j b d (Advances point) (items_call j k k k synced.same (record { items = refl; tree = refl; bagging = refl; failed = refl }) (Advances point) b d (c.in_err-cut.ensures.log tells)))
 
 pub returns-in_err-cut-clause-images : goal.returns-in_err-cut-clause-images
 returns-in_err-cut-clause-images g c tells list marks joined =
@@ -87,7 +90,7 @@ returns-in_err-pruned-clause-names g c tells =
     let synced = c.in_ok-synced.ensures {u = tt} in
     let did = c.in_ok-cut.ensures {u = tt} in
     let point = prune_point k.items c.args.loc b in
-    names_call_joins (names_of j) a d e (names_call_joins (names_of j) a b d (synced.names tells) (names_items j b d (Advances point) (items_call j k l l synced.same did.cut (Advances point) b d (did.log tells))))
+    names_call_joins (names_of j) a d e (names_call_joins (names_of j) a b d (names_logs j a b (synced.names tells)) (names_items j b d (Advances point) (items_call j k l l synced.same did.cut (Advances point) b d (did.log tells))))
     (names_tree_and_map j d e (tree_call j k l l synced.same did.cut d e (c.in_err-pruned.ensures.names tells)))
 
 pub returns-in_err-pruned-clause-images : goal.returns-in_err-pruned-clause-images
@@ -125,7 +128,7 @@ returns-clause-names g c tells =
     let synced = c.in_ok-synced.ensures {u = tt} in
     let did = c.in_ok-cut.ensures {u = tt} in
     let point = prune_point k.items c.args.loc b in
-    names_call_joins (names_of j) a d e (names_call_joins (names_of j) a b d (synced.names tells) (names_items j b d (Advances point) (items_call j k l l synced.same did.cut (Advances point) b d (did.log tells))))
+    names_call_joins (names_of j) a d e (names_call_joins (names_of j) a b d (names_logs j a b (synced.names tells)) (names_items j b d (Advances point) (items_call j k l l synced.same did.cut (Advances point) b d (did.log tells))))
     (names_tree_and_map j d e (tree_call j k l l synced.same did.cut d e ((c.in_ok-pruned.ensures {u = tt}).names tells)))
 
 pub returns-clause-images : goal.returns-clause-images
@@ -289,3 +292,82 @@ returns-clause-held g c some tells =
     let did = c.in_ok-cut.ensures {u = tt} in
     let last = c.in_ok-pruned.ensures {u = tt} in
     held_pruned c.args.self c.in_ok-synced.synced c.in_ok-cut.cut c.in_ok-pruned.pruned synced.same did.cut d e did.sound.apart (did.held tells) last.items (last.names tells)
+
+pub returns-then-self-clause-errors : goal.returns-then-self-clause-errors
+returns-then-self-clause-errors g c = (tree.Volume, refl, inl (inl tt))
+
+pub returns-in_err-synced-clause-errors : goal.returns-in_err-synced-clause-errors
+returns-in_err-synced-clause-errors g c =
+    let b = g.V.Volume.state c.sync.new.vol in
+    let j = c.args.self in
+    let e = c.in_err-synced.field-0.0 in
+    let why = c.in_err-synced.ensures.errors in
+    let P = IsJournalUnpruned {F = g.row.F.Denot} g.F.Family.shape g.V.Volume.tells j.tree (items_of g.H.Digest.Spelled.spelling g.H.Digest.Read.admits j.tree.log b) (log_of j.items b).start in
+    err_and _ e (IsFromTree P) c.from_residual.ensures.1 (why.0, why.1, inl why.2)
+
+pub returns-in_err-cut-clause-errors : goal.returns-in_err-cut-clause-errors
+returns-in_err-cut-clause-errors g c =
+    let d = g.V.Volume.state c.prune_items.new.vol in
+    let j = c.args.self in
+    let e = c.in_err-cut.field-0.0 in
+    let P = IsJournalUnpruned {F = g.row.F.Denot} g.F.Family.shape g.V.Volume.tells j.tree (items_of g.H.Digest.Spelled.spelling g.H.Digest.Read.admits j.tree.log d) (log_of j.items d).start in
+    err_and _ e (IsFromTree P) c.from_residual-in_err-cut.ensures.1 (outside_from_tree P e c.in_err-cut.ensures.outside (inl (inl tt)) (inl (inl tt)))
+
+pub returns-in_err-pruned-clause-errors : goal.returns-in_err-pruned-clause-errors
+returns-in_err-pruned-clause-errors g c =
+    let s = g.F.Family.shape in
+    let tells = g.V.Volume.tells in
+    let digest = g.H.Digest.Spelled.spelling in
+    let admits = g.H.Digest.Read.admits in
+    let d = g.V.Volume.state c.prune_items.new.vol in
+    let f = g.V.Volume.state c.prune_tree.new.vol in
+    let j = c.args.self in
+    let k = c.in_ok-synced.synced in
+    let l = c.in_ok-cut.cut in
+    let did = c.in_ok-cut.ensures {u = tt} in
+    let e = c.in_err-pruned.field-0.0 in
+    let P = IsJournalUnpruned {F = g.row.F.Denot} s tells j.tree (items_of digest admits j.tree.log f) (log_of j.items f).start in
+    err_and _ e (IsFromTree P) c.from_residual-in_err-pruned.ensures.1
+    (unpruned_tree j k l l (c.in_ok-synced.ensures {u = tt}).same did.cut s tells digest admits d f did.sound.apart did.held c.in_err-pruned.ensures.names e c.in_err-pruned.ensures.errors)
+
+pub returns-clause-nodes : goal.returns-clause-nodes
+returns-clause-nodes g c above tells list joined =
+    let s = g.F.Family.shape in
+    let h = g.H.Hasher.hash in
+    let digest = g.H.Digest.Spelled.spelling in
+    let admits = g.H.Digest.Read.admits tt in
+    let spelling = g.C.Item.Spelled.spelling in
+    let j = c.args.self in
+    let b = g.V.Volume.state c.sync.new.vol in
+    let d = g.V.Volume.state c.prune_items.new.vol in
+    let k = c.in_ok-synced.synced in
+    let l = c.in_ok-cut.cut in
+    let m = c.in_ok-pruned.pruned in
+    let synced = c.in_ok-synced.ensures {u = tt} in
+    let did = c.in_ok-cut.ensures {u = tt} in
+    let last = c.in_ok-pruned.ensures {u = tt} in
+    let was = synced.joined tells list joined in
+    let full = cut_full j k l l synced.same did.cut s h digest admits spelling list c.args.loc b d d was (did.pruned tells) (did.log tells) (did.held tells) did.sound.apart in
+    nodes_pruned j k l m synced.same did.cut s (synced.nodes tells list joined) last.items (λ low. last.start low tells (leaves_of s h spelling list) full) above
+
+pub returns-then-end-eq0-clause-nodes : goal.returns-then-end-eq0-clause-nodes
+returns-then-end-eq0-clause-nodes g c above tells list joined =
+    let j = c.args.self in
+    let a = g.V.Volume.state c.args.vol.now in
+    absurd (omega (arith, above, joined.start_is, joined.end_is, c.if-end-eq0.true, c.bounds-start.ensures.end, ap (λ (k : Joined g.row.H-Digest.Denot g.row.C-Item-Cfg.Denot). k.items.end) c.self.view_is))
+
+pub returns-clause-pins : goal.returns-clause-pins
+returns-clause-pins g c tells =
+    let j = c.args.self in
+    let k = c.in_ok-synced.synced in
+    let l = c.in_ok-cut.cut in
+    let m = c.in_ok-pruned.pruned in
+    let a = g.V.Volume.state c.args.vol.now in
+    let d = g.V.Volume.state c.prune_items.new.vol in
+    let e = g.V.Volume.state c.prune_tree.new.vol in
+    let synced = c.in_ok-synced.ensures {u = tt} in
+    let did = c.in_ok-cut.ensures {u = tt} in
+    pins_pruned j k l m synced.same did.cut a d e ((did.log tells).others.maps j.tree.metadata ∙ (synced.names tells).others.maps j.tree.metadata tt) ((c.in_ok-pruned.ensures {u = tt}).pins tells)
+
+pub returns-in_err-synced-clause-names : goal.returns-in_err-synced-clause-names
+returns-in_err-synced-clause-names g c tells = names_logs c.args.self (g.V.Volume.state c.args.vol.now) (g.V.Volume.state c.sync.new.vol) (c.in_err-synced.ensures.names tells)

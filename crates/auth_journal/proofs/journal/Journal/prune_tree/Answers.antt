@@ -1,19 +1,22 @@
 use Rattle.volume_base.proofs.JoinLemmas.{went_none, changes_joins}
 use Rattle.auth_journal.specs.declared.error.Error.TheVariants as joined
 use Rattle.tree_store.specs.declared.error.Error.TheVariants as tree
-use Rattle.std.proofs.Common.{◌≡◌, ◌≤◌, Err, ℕ, max, refl, sym, ◌∙◌, ap, subst, arith}
+use Rattle.std.proofs.Common.{◌≡◌, ◌<◌, ◌≤◌, Err, ℕ, max, length, refl, sym, ◌∙◌, ap, subst, arith}
 use Rattle.volume_base.specs.Moments.{present}
 use Rattle.merkle_full.specs.Flushing.{AllStand, IsSameTree}
-use Rattle.merkle_full.specs.Full.{Rests}
+use Rattle.journal_base.specs.Blobs.{blob_start}
+use Rattle.journal_base.specs.Items.{items_of}
+use Rattle.tree_shape.specs.Shape.{made}
+use Rattle.merkle_full.specs.Full.{Full, Rests}
 use Rattle.merkle_full.specs.Lists.{IsFullOf}
-use Rattle.merkle_full.specs.Pruning.{at_boundary, StandsWhilePruned}
+use Rattle.merkle_full.specs.Pruning.{at_boundary, StandsWhilePruned, KeepsPins}
 use Rattle.merkle_full.proofs.PruneRun.{can_prune}
-use Rattle.auth_journal.specs.Durable.{IsPrunedTo}
+use Rattle.auth_journal.specs.Durable.{IsPrunedTo, IsFromTree, IsTreeUnpruned}
 use Rattle.auth_journal.specs.Errors.{IsOutside, from_tree}
 use Rattle.auth_journal.specs.Joined.{Joined}
 use Rattle.auth_journal.proofs.DurableLemmas.{err_and, err_not_ok, fault_below}
 use Rattle.auth_journal.proofs.ErrorLemmas.{tree_outside, volume_from_tree}
-use Rattle.auth_journal.proofs.PruneLemmas.{changes_done, not_failed, same_made, pruned_same, pruned_rests}
+use Rattle.auth_journal.proofs.PruneLemmas.{changes_done, not_failed, same_made, pruned_same, pruned_rests, why_unpruned}
 use Rattle.auth_journal.proofs.journal.Journal.prune_tree.Goals as goal
 
 pub returns-in_err-merkle-clause-outside : goal.returns-in_err-merkle-clause-outside
@@ -110,3 +113,40 @@ returns-clause-changes g c sound =
     let b = g.V.Volume.state c.prune.new.vol in
     let failed = c.self.invariant.tree (ap (λ (k : Joined g.row.H-Digest.Denot g.row.C-Item-Cfg.Denot). k.failed) c.self.view_is ∙ sound) in
     changes_done tells tree.Volume joined.Volume a a b c.in_ok-merkle.merkle _ (went_none tells a) ((c.in_ok-merkle.ensures {u = tt}).changes failed)
+
+pub returns-clause-start : goal.returns-clause-start
+returns-clause-start g c above tells all full =
+    let s = g.F.Family.shape in
+    let h = g.H.Hasher.hash in
+    let digest = g.H.Digest.Spelled.spelling in
+    let admits = g.H.Digest.Read.admits tt in
+    let a = g.V.Volume.state c.args.vol.now in
+    let at : c.new.result ≡ (g.C.Contiguous.view c.self.inside.journal).start = c.new.ensures ∙ c.bounds-start.ensures.start in
+    let t = c.self.inside.merkle in
+    let u = c.in_ok-merkle.merkle in
+    let here = subst (λ (k : Joined g.row.H-Digest.Denot g.row.C-Item-Cfg.Denot). IsFullOf s h digest admits all k.tree (present a)) (sym c.self.view_is) full in
+    let low : t.boundary < c.new.result = omega (arith, above, at, ap (λ (k : Joined g.row.H-Digest.Denot g.row.C-Item-Cfg.Denot). k.items.start) c.self.view_is, ap (λ (k : Joined g.row.H-Digest.Denot g.row.C-Item-Cfg.Denot). k.tree.boundary) c.self.view_is) in
+    subst (λ (k : Joined g.row.H-Digest.Denot g.row.C-Item-Cfg.Denot). u.log.start ≡ max k.tree.log.start (blob_start k.tree.log.blob (length (made s k.items.start)))) c.self.view_is
+    (subst (λ (n : ℕ). u.log.start ≡ max t.log.start (blob_start t.log.blob (length (made s n)))) at ((c.in_ok-merkle.ensures {u = tt}).start low tells h all here))
+
+pub returns-clause-pins : goal.returns-clause-pins
+returns-clause-pins g c tells =
+    let a = g.V.Volume.state c.args.vol.now in
+    let b = g.V.Volume.state c.prune.new.vol in
+    subst (λ (k : Joined g.row.H-Digest.Denot g.row.C-Item-Cfg.Denot). KeepsPins (a.map k.tree.metadata) (b.map k.tree.metadata)) c.self.view_is ((c.in_ok-merkle.ensures {u = tt}).pins tells)
+
+pub returns-in_err-merkle-clause-errors : goal.returns-in_err-merkle-clause-errors
+returns-in_err-merkle-clause-errors g c =
+    let s = g.F.Family.shape in
+    let tells = g.V.Volume.tells in
+    let digest = g.H.Digest.Spelled.spelling in
+    let admits = g.H.Digest.Read.admits in
+    let b = g.V.Volume.state c.prune.new.vol in
+    let at : c.new.result ≡ (g.C.Contiguous.view c.self.inside.journal).start = c.new.ensures ∙ c.bounds-start.ensures.start in
+    let m = c.self.inside.merkle in
+    let e = c.in_err-merkle.field-0.0 in
+    let did = c.in_err-merkle.ensures {u = tt} in
+    let why = why_unpruned {T = Full g.row.H-Digest.Denot} s tells m (items_of digest admits m.log b) c.new.result e (λ failed. (did.kept failed).0) (λ sound d answer. (did.refused sound d answer).0) did.errors in
+    let P = λ (k : Joined g.row.H-Digest.Denot g.row.C-Item-Cfg.Denot). IsTreeUnpruned {F = g.row.F.Denot} s tells k.tree (items_of digest admits k.tree.log b) k.items.start in
+    err_and _ (from_tree e) (IsFromTree (P c.args.self)) c.from_residual.ensures.1
+    (e, refl, subst (λ (k : Joined g.row.H-Digest.Denot g.row.C-Item-Cfg.Denot). P k e) c.self.view_is (subst (λ (n : ℕ). IsTreeUnpruned s tells m (items_of digest admits m.log b) n e) at why))

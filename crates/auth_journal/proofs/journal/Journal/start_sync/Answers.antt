@@ -11,12 +11,12 @@ use Rattle.merkle_full.specs.Flushing.{IsOfFlush}
 use Rattle.auth_journal.specs.Durable.{IsFromTree, sync_of, outcome}
 use Rattle.auth_journal.specs.Errors.{IsOutside, from_journal, from_tree}
 use Rattle.auth_journal.specs.Joined.{Joined, IsSoundJoin, IsJoinedOf, leaves_of}
-use Rattle.auth_journal.specs.Standing.{all_synced, names_of, StepsStanding}
+use Rattle.auth_journal.specs.Standing.{all_synced, logs_of, StepsStanding}
 use Rattle.auth_journal.specs.declared.error.Error.{Error}
 use Rattle.auth_journal.specs.declared.error.Error.TheVariants as joined
 use Rattle.auth_journal.proofs.DurableLemmas.{err_and, log_fails, tree_still, items_durable, run_synced, images_none, images_synced, images_unsynced}
 use Rattle.auth_journal.proofs.ErrorLemmas.{log_outside, tree_outside}
-use Rattle.auth_journal.proofs.StandingLemmas.{names_items, names_tree}
+use Rattle.auth_journal.proofs.StandingLemmas.{logs_items, logs_tree}
 use Rattle.auth_journal.proofs.StartedLemmas.{outcome_err, outcome_fails, sync_fails, sync_done, joined_started, writes_refused, writes_started}
 use Rattle.auth_journal.proofs.journal.Journal.start_sync.Goals as goal
 
@@ -62,8 +62,8 @@ returns-in_err-merkle-in-Done-clause-names g c tells =
     let b = g.V.Volume.state c.start_sync.new.vol in
     let d = g.V.Volume.state c.start_sync-in-Done.new.vol in
     let j : Joined g.row.H-Digest.Denot g.row.C-Item-Cfg.Denot = record { items = g.C.Contiguous.view c.self.inside.journal; tree = c.self.inside.merkle; bagging = c.self.inside.hasher; failed = c.self.inside.failed } in
-    subst (λ (k : Joined g.row.H-Digest.Denot g.row.C-Item-Cfg.Denot). NamesCall (names_of k) a d) c.self.view_is
-    (names_call_joins (names_of j) a b d (names_items j a b Stays ((c.in_ok-journal.ensures {u = tt}).log g.met.C.Backing.is_one_log tells)) (names_tree j b d ((c.in_err-merkle-in-Done.ensures {u = tt}).names tells)))
+    subst (λ (k : Joined g.row.H-Digest.Denot g.row.C-Item-Cfg.Denot). NamesCall (logs_of k) a d) c.self.view_is
+    (names_call_joins (logs_of j) a b d (logs_items j a b Stays ((c.in_ok-journal.ensures {u = tt}).log g.met.C.Backing.is_one_log tells)) (logs_tree j b d ((c.in_err-merkle-in-Done.ensures {u = tt}).names tells)))
 
 pub returns-in_err-merkle-in-Done-clause-images : goal.returns-in_err-merkle-in-Done-clause-images
 returns-in_err-merkle-in-Done-clause-images g c tells list marks joined =
@@ -147,8 +147,8 @@ returns-in_ok-merkle-in-Done-clause-names g c tells =
     let b = g.V.Volume.state c.start_sync.new.vol in
     let d = g.V.Volume.state c.start_sync-in-Done.new.vol in
     let j : Joined g.row.H-Digest.Denot g.row.C-Item-Cfg.Denot = record { items = g.C.Contiguous.view c.self.inside.journal; tree = c.self.inside.merkle; bagging = c.self.inside.hasher; failed = c.self.inside.failed } in
-    subst (λ (k : Joined g.row.H-Digest.Denot g.row.C-Item-Cfg.Denot). NamesCall (names_of k) a d) c.self.view_is
-    (names_call_joins (names_of j) a b d (names_items j a b Stays ((c.in_ok-journal.ensures {u = tt}).log g.met.C.Backing.is_one_log tells)) (names_tree j b d ((c.in_ok-merkle-in-Done.ensures {u = tt}).names tells)))
+    subst (λ (k : Joined g.row.H-Digest.Denot g.row.C-Item-Cfg.Denot). NamesCall (logs_of k) a d) c.self.view_is
+    (names_call_joins (logs_of j) a b d (logs_items j a b Stays ((c.in_ok-journal.ensures {u = tt}).log g.met.C.Backing.is_one_log tells)) (logs_tree j b d ((c.in_ok-merkle-in-Done.ensures {u = tt}).names tells)))
 
 pub returns-in_ok-merkle-in-Done-clause-images : goal.returns-in_ok-merkle-in-Done-clause-images
 returns-in_ok-merkle-in-Done-clause-images g c tells list marks joined =
@@ -209,7 +209,7 @@ returns-in_err-journal-clause-names g c tells =
     let a = g.V.Volume.state c.args.vol.now in
     let b = g.V.Volume.state c.start_sync.new.vol in
     let j : Joined g.row.H-Digest.Denot g.row.C-Item-Cfg.Denot = record { items = g.C.Contiguous.view c.self.inside.journal; tree = c.self.inside.merkle; bagging = c.self.inside.hasher; failed = c.self.inside.failed } in
-    subst (λ (k : Joined g.row.H-Digest.Denot g.row.C-Item-Cfg.Denot). NamesCall (names_of k) a b) c.self.view_is (names_items j a b Stays ((c.in_err-journal.ensures {u = tt}).log g.met.C.Backing.is_one_log tells))
+    subst (λ (k : Joined g.row.H-Digest.Denot g.row.C-Item-Cfg.Denot). NamesCall (logs_of k) a b) c.self.view_is (logs_items j a b Stays ((c.in_err-journal.ensures {u = tt}).log g.met.C.Backing.is_one_log tells))
 
 pub returns-in_err-merkle-in-Done-clause-writes : goal.returns-in_err-merkle-in-Done-clause-writes
 returns-in_err-merkle-in-Done-clause-writes g c sound =
@@ -235,4 +235,36 @@ returns-in-Failed-clause-names g c tells =
     let a = g.V.Volume.state c.args.vol.now in
     let b = g.V.Volume.state c.start_sync.new.vol in
     let j : Joined g.row.H-Digest.Denot g.row.C-Item-Cfg.Denot = record { items = g.C.Contiguous.view c.self.inside.journal; tree = c.self.inside.merkle; bagging = c.self.inside.hasher; failed = c.self.inside.failed } in
-    subst (λ (k : Joined g.row.H-Digest.Denot g.row.C-Item-Cfg.Denot). NamesCall (names_of k) a b) c.self.view_is (names_items j a b Stays ((c.in_ok-journal.ensures {u = tt}).log g.met.C.Backing.is_one_log tells))
+    subst (λ (k : Joined g.row.H-Digest.Denot g.row.C-Item-Cfg.Denot). NamesCall (logs_of k) a b) c.self.view_is (logs_items j a b Stays ((c.in_ok-journal.ensures {u = tt}).log g.met.C.Backing.is_one_log tells))
+
+pub returns-in_ok-merkle-in-Done-clause-nodes : goal.returns-in_ok-merkle-in-Done-clause-nodes
+returns-in_ok-merkle-in-Done-clause-nodes g c tells list joined =
+    let s = g.F.Family.shape in
+    let h = g.H.Hasher.hash in
+    let digest = g.H.Digest.Spelled.spelling in
+    let admits = g.H.Digest.Read.admits tt in
+    let spelling = g.C.Item.Spelled.spelling in
+    let a = g.V.Volume.state c.args.vol.now in
+    let b = g.V.Volume.state c.start_sync.new.vol in
+    let j : Joined g.row.H-Digest.Denot g.row.C-Item-Cfg.Denot = record { items = g.C.Contiguous.view c.self.inside.journal; tree = c.self.inside.merkle; bagging = c.self.inside.hasher; failed = c.self.inside.failed } in
+    let here = subst (λ (i : Joined g.row.H-Digest.Denot g.row.C-Item-Cfg.Denot). IsJoinedOf s h digest admits spelling list i (present a)) (sym c.self.view_is) joined in
+    let synced = (c.in_ok-journal.ensures {u = tt}).log g.met.C.Backing.is_one_log tells in
+    let tree = tree_still s h digest spelling list j c.self.invariant admits a b synced.others here.tree in
+    (c.in_ok-merkle-in-Done.ensures {u = tt}).start tells h (leaves_of s h spelling list) tree ∙ ap (λ (i : Joined g.row.H-Digest.Denot g.row.C-Item-Cfg.Denot). i.tree.log.start) c.self.view_is
+
+pub returns-in_ok-merkle-in-Done-clause-items : goal.returns-in_ok-merkle-in-Done-clause-items
+returns-in_ok-merkle-in-Done-clause-items g c sound tells =
+    let b = g.V.Volume.state c.start_sync.new.vol in
+    let d = g.V.Volume.state c.start_sync-in-Done.new.vol in
+    let j : Joined g.row.H-Digest.Denot g.row.C-Item-Cfg.Denot = record { items = g.C.Contiguous.view c.self.inside.journal; tree = c.self.inside.merkle; bagging = c.self.inside.hasher; failed = c.self.inside.failed } in
+    subst (λ (k : Joined g.row.H-Digest.Denot g.row.C-Item-Cfg.Denot). IsDurable k.items d) c.self.view_is
+    (items_durable j c.self.invariant b d ((c.in_ok-merkle-in-Done.ensures {u = tt}).names tells) ((c.in_ok-journal.ensures {u = tt}).durable c.in-Done.is tells))
+
+pub returns-in-Failed-clause-nodes : goal.returns-in-Failed-clause-nodes
+returns-in-Failed-clause-nodes g c tells list joined = ap (λ (i : Joined g.row.H-Digest.Denot g.row.C-Item-Cfg.Denot). i.tree.log.start) c.self.view_is
+
+pub returns-in-Failed-clause-items : goal.returns-in-Failed-clause-items
+returns-in-Failed-clause-items g c sound tells =
+    let failed = ap (λ v. v.failed) (c.in_ok-journal.ensures {u = tt}).made in
+    let is = ap is_failed c.in-Failed.is in
+    absurd cc

@@ -12,12 +12,12 @@ use Rattle.merkle_full.specs.Flushing.{IsOfFlush}
 use Rattle.auth_journal.specs.Durable.{IsFromTree}
 use Rattle.auth_journal.specs.Errors.{IsOutside, from_journal, from_tree}
 use Rattle.auth_journal.specs.Joined.{Joined, IsSoundJoin, IsJoinedOf, leaves_of}
-use Rattle.auth_journal.specs.Standing.{all_synced, names_of, StepsStanding}
+use Rattle.auth_journal.specs.Standing.{all_synced, logs_of, StepsStanding}
 use Rattle.auth_journal.specs.declared.error.Error.{Error}
 use Rattle.auth_journal.specs.declared.error.Error.TheVariants as joined
 use Rattle.auth_journal.proofs.DurableLemmas.{err_and, err_not_ok, log_fails, tree_still, joined_behind, items_durable, run_synced, images_synced, images_none, images_unsynced, fault_below, writes_done}
 use Rattle.auth_journal.proofs.ErrorLemmas.{log_outside, tree_outside, volume_from_tree}
-use Rattle.auth_journal.proofs.StandingLemmas.{names_items, names_tree}
+use Rattle.auth_journal.proofs.StandingLemmas.{logs_items, logs_tree}
 use Rattle.auth_journal.proofs.journal.Journal.sync.Goals as goal
 
 pub returns-then-self-clause-errors : goal.returns-then-self-clause-errors
@@ -62,8 +62,8 @@ returns-in_err-merkle-clause-names g c tells =
     let b = g.V.Volume.state c.sync.new.vol in
     let d = g.V.Volume.state c.sync-2.new.vol in
     let j : Joined g.row.H-Digest.Denot g.row.C-Item-Cfg.Denot = record { items = g.C.Contiguous.view c.self.inside.journal; tree = c.self.inside.merkle; bagging = c.self.inside.hasher; failed = c.self.inside.failed } in
-    subst (λ (k : Joined g.row.H-Digest.Denot g.row.C-Item-Cfg.Denot). NamesCall (names_of k) a d) c.self.view_is
-    (names_call_joins (names_of j) a b d (names_items j a b Stays ((c.in_ok-journal.ensures {u = tt}).log g.met.C.Backing.is_one_log tells)) (names_tree j b d ((c.in_err-merkle.ensures {u = tt}).names tells)))
+    subst (λ (k : Joined g.row.H-Digest.Denot g.row.C-Item-Cfg.Denot). NamesCall (logs_of k) a d) c.self.view_is
+    (names_call_joins (logs_of j) a b d (logs_items j a b Stays ((c.in_ok-journal.ensures {u = tt}).log g.met.C.Backing.is_one_log tells)) (logs_tree j b d ((c.in_err-merkle.ensures {u = tt}).names tells)))
 
 pub returns-in_err-merkle-clause-images : goal.returns-in_err-merkle-clause-images
 returns-in_err-merkle-clause-images g c tells list marks joined =
@@ -120,8 +120,8 @@ returns-clause-names g c tells =
     let b = g.V.Volume.state c.sync.new.vol in
     let d = g.V.Volume.state c.sync-2.new.vol in
     let j : Joined g.row.H-Digest.Denot g.row.C-Item-Cfg.Denot = record { items = g.C.Contiguous.view c.self.inside.journal; tree = c.self.inside.merkle; bagging = c.self.inside.hasher; failed = c.self.inside.failed } in
-    subst (λ (k : Joined g.row.H-Digest.Denot g.row.C-Item-Cfg.Denot). NamesCall (names_of k) a d) c.self.view_is
-    (names_call_joins (names_of j) a b d (names_items j a b Stays ((c.in_ok-journal.ensures {u = tt}).log g.met.C.Backing.is_one_log tells)) (names_tree j b d ((c.in_ok-merkle.ensures {u = tt}).names tells)))
+    subst (λ (k : Joined g.row.H-Digest.Denot g.row.C-Item-Cfg.Denot). NamesCall (logs_of k) a d) c.self.view_is
+    (names_call_joins (logs_of j) a b d (logs_items j a b Stays ((c.in_ok-journal.ensures {u = tt}).log g.met.C.Backing.is_one_log tells)) (logs_tree j b d ((c.in_ok-merkle.ensures {u = tt}).names tells)))
 
 pub returns-clause-images : goal.returns-clause-images
 returns-clause-images g c tells list marks joined =
@@ -186,7 +186,7 @@ returns-in_err-journal-clause-names g c tells =
     let a = g.V.Volume.state c.args.vol.now in
     let b = g.V.Volume.state c.sync.new.vol in
     let j : Joined g.row.H-Digest.Denot g.row.C-Item-Cfg.Denot = record { items = g.C.Contiguous.view c.self.inside.journal; tree = c.self.inside.merkle; bagging = c.self.inside.hasher; failed = c.self.inside.failed } in
-    subst (λ (k : Joined g.row.H-Digest.Denot g.row.C-Item-Cfg.Denot). NamesCall (names_of k) a b) c.self.view_is (names_items j a b Stays ((c.in_err-journal.ensures {u = tt}).log g.met.C.Backing.is_one_log tells))
+    subst (λ (k : Joined g.row.H-Digest.Denot g.row.C-Item-Cfg.Denot). NamesCall (logs_of k) a b) c.self.view_is (logs_items j a b Stays ((c.in_err-journal.ensures {u = tt}).log g.met.C.Backing.is_one_log tells))
 
 pub returns-in_err-merkle-clause-writes : goal.returns-in_err-merkle-clause-writes
 returns-in_err-merkle-clause-writes g c sound =
@@ -199,3 +199,18 @@ returns-in_err-merkle-clause-writes g c sound =
     let is = c.from_residual-in_err-merkle.ensures.1 in
     writes_joins g.V.Volume.tells journal.Volume tree.Volume joined.Volume a b d _ (Err e) result ((c.in_ok-journal.ensures {u = tt}).writes (c.self.invariant.items none)) ((c.in_err-merkle.ensures {u = tt}).writes (c.self.invariant.tree none))
     (fault_below from_tree joined.Volume tree.Volume result e volume_from_tree is) (λ kept. err_not_ok result _ _ is)
+
+pub returns-clause-nodes : goal.returns-clause-nodes
+returns-clause-nodes g c tells list joined =
+    let s = g.F.Family.shape in
+    let h = g.H.Hasher.hash in
+    let digest = g.H.Digest.Spelled.spelling in
+    let admits = g.H.Digest.Read.admits tt in
+    let spelling = g.C.Item.Spelled.spelling in
+    let a = g.V.Volume.state c.args.vol.now in
+    let b = g.V.Volume.state c.sync.new.vol in
+    let j : Joined g.row.H-Digest.Denot g.row.C-Item-Cfg.Denot = record { items = g.C.Contiguous.view c.self.inside.journal; tree = c.self.inside.merkle; bagging = c.self.inside.hasher; failed = c.self.inside.failed } in
+    let here = subst (λ (i : Joined g.row.H-Digest.Denot g.row.C-Item-Cfg.Denot). IsJoinedOf s h digest admits spelling list i (present a)) (sym c.self.view_is) joined in
+    let synced = (c.in_ok-journal.ensures {u = tt}).log g.met.C.Backing.is_one_log tells in
+    let tree = tree_still s h digest spelling list j c.self.invariant admits a b synced.others here.tree in
+    (c.in_ok-merkle.ensures {u = tt}).start tells h (leaves_of s h spelling list) tree ∙ ap (λ (i : Joined g.row.H-Digest.Denot g.row.C-Item-Cfg.Denot). i.tree.log.start) c.self.view_is
