@@ -27,6 +27,7 @@ use Rattle.tree_store.specs.declared.error.Error as tree_error
 use Rattle.tree_store.specs.declared.error.Error.TheVariants as tree
 use Rattle.merkle_full.specs.Flushing.{AllStand, AllKeepStanding, IsOfFlush}
 use Rattle.merkle_full.specs.Full.{Full, IsBeside}
+use Rattle.merkle_full.specs.Lifted as nodes
 use Rattle.merkle_full.specs.Lists.{IsFullOf}
 use Rattle.merkle_full.proofs.StandLemmas.{pair_idle}
 use Rattle.auth_journal.specs.Aligning.{NotAligned}
@@ -85,6 +86,19 @@ pub flush_lifted : {F D : Type 0} (s : Shape) (t : Full D) (e : tree_error.Error
 flush_lifted s t e (inl out) = outside_lifted (from_tree e) (tree_outside e out)
 flush_lifted s t e (inr (inl why)) = subst (λ (d : tree_error.Error _). IsLifted (from_tree d)) (sym why.4) tt
 flush_lifted s t e (inr (inr is)) = subst (λ (d : tree_error.Error _). IsLifted (from_tree d)) (sym is) refl
+
+pub tree_lifted : {F : Type 0} (e : tree_error.Error F) → nodes.IsLifted e → IsLifted (from_tree e)
+tree_lifted tree.Volume o = tt
+tree_lifted tree.Memory o = tt
+tree_lifted (tree.Journal journal.Volume) o = absurd o
+tree_lifted (tree.Journal journal.Memory) o = absurd o
+tree_lifted (tree.Journal (journal.ItemPruned p)) o = refl
+tree_lifted (tree.Journal (journal.ItemOutOfRange p)) o = refl
+tree_lifted (tree.Journal (journal.Corruption p)) o = refl
+tree_lifted (tree.Journal journal.SizeOverflow) o = refl
+tree_lifted (tree.Journal journal.EmptyAppend) o = refl
+tree_lifted (tree.Journal (journal.Tree cause)) o = refl
+tree_lifted _ o = tt
 
 -- ---- a tree that is brought to the end of its log
 

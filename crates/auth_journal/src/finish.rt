@@ -17,6 +17,7 @@ impl<F: Family, C: Backing, H: Hasher> Recovery<F, C, H> {
     ghost use Rattle.volume_base.specs.Volume.{Follows, Changes};
     ghost use Rattle.merkle_full.specs.Full.{IsSeated, Rests};
     ghost use Rattle.auth_journal.specs.Aligning.{NotAligned};
+    ghost use Rattle.auth_journal.specs.Errors.{IsLifted};
     ghost use Rattle.auth_journal.specs.Joined.{IsJoinedOf, leaves_of};
     ghost use Rattle.auth_journal.specs.Opening.{IsReadyIn, IsOpenedFrom, StandsWhileOpened};
     ghost use Rattle.auth_journal.specs.Reading.{AreReadable};
@@ -55,6 +56,8 @@ impl<F: Family, C: Backing, H: Hasher> Recovery<F, C, H> {
         ensures refused { let items = items_of C.Item.spelling C.Item.admits self.items (V.state vol.old) in
             V.tells → IsReadyIn self (V.state vol.old) →
             IfErr result (NotAligned V.tells items self.tree.tree.leaves self.end) }
+        // Whatever the volume tells, and whatever it holds.
+        ensures lifted { IfErr result IsLifted }
         ensures names { let names = two_logs_and_map self.items.name self.tree.log.name self.tree.metadata in
             V.tells → NamesCall names (V.state vol.old) (V.state vol.new) }
         // An image of the log loses at most what is behind the end.

@@ -19,6 +19,7 @@ impl<F: Family, C: Backing, H: Hasher> Journal<F, C, H> {
     ghost use Rattle.volume_base.specs.Names.{two_logs_and_map, NamesCall};
     ghost use Rattle.volume_base.specs.Volume.{Follows, Changes};
     ghost use Rattle.merkle_full.specs.Full.{Rests, IsSeated};
+    ghost use Rattle.auth_journal.specs.Errors.{IsLifted};
     ghost use Rattle.auth_journal.specs.Joined.{IsJoinedOf, leaves_of};
     ghost use Rattle.auth_journal.specs.Opening.{OpensUpTo, NotOpened, ShrinksToEnd};
     ghost use Rattle.auth_journal.specs.Searching.{EndsAt};
@@ -74,6 +75,8 @@ impl<F: Family, C: Backing, H: Hasher> Journal<F, C, H> {
             let log = (V.state vol.old).log (string_bytes merkle_cfg.nodes) in
             V.tells → IfErr result
             (NotOpened V.tells H.Digest.spelling (H.Digest.Read.admits tt) F.shape map log items says max_size) }
+        // Whatever the volume tells, and whatever it holds.
+        ensures lifted { IfErr result IsLifted }
         ensures names { let names = two_logs_and_map (C.config journal_cfg).name (string_bytes merkle_cfg.nodes)
             (string_bytes merkle_cfg.metadata) in V.tells → NamesCall names (V.state vol.old) (V.state vol.new) }
         // An image of the log loses at most what is behind the end.
@@ -157,6 +160,8 @@ impl<F: Family, C: Backing, H: Hasher> Journal<F, C, H> {
             let log = (V.state vol.old).log (string_bytes merkle_cfg.nodes) in
             V.tells → IfErr result
             (NotOpened V.tells H.Digest.spelling (H.Digest.Read.admits tt) F.shape map log items says None) }
+        // Whatever the volume tells, and whatever it holds.
+        ensures lifted { IfErr result IsLifted }
         ensures names { let names = two_logs_and_map (C.config journal_cfg).name (string_bytes merkle_cfg.nodes)
             (string_bytes merkle_cfg.metadata) in V.tells → NamesCall names (V.state vol.old) (V.state vol.new) }
         // An image of the log loses at most what is behind the end.
@@ -239,6 +244,8 @@ impl<F: Family, C: Backing, H: Hasher> Journal<F, C, H> {
             let log = (V.state vol.old).log (string_bytes merkle_cfg.nodes) in
             V.tells → IfErr result
             (NotOpened V.tells H.Digest.spelling (H.Digest.Read.admits tt) F.shape map log items says (Some max_size)) }
+        // Whatever the volume tells, and whatever it holds.
+        ensures lifted { IfErr result IsLifted }
         ensures names { let names = two_logs_and_map (C.config journal_cfg).name (string_bytes merkle_cfg.nodes)
             (string_bytes merkle_cfg.metadata) in V.tells → NamesCall names (V.state vol.old) (V.state vol.new) }
         // An image of the log loses at most what is behind the end.

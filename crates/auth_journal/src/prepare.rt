@@ -20,6 +20,7 @@ impl<F: Family, C: Backing, H: Hasher> Journal<F, C, H> {
     ghost use Rattle.volume_base.specs.Volume.{LogCall, Changes};
     ghost use Rattle.merkle_full.specs.Opening.{stored_in};
     ghost use Rattle.merkle_full.specs.Preparing.{cap_of, log_kept, Opens, IsNamed};
+    ghost use Rattle.auth_journal.specs.Errors.{IsLifted};
     ghost use Rattle.auth_journal.specs.Joined.{leaves_of};
     ghost use Rattle.auth_journal.specs.Opening.{IsReadyIn, NotReady};
     ghost use Rattle.auth_journal.specs.Searching.{EndsAt};
@@ -67,6 +68,8 @@ impl<F: Family, C: Backing, H: Hasher> Journal<F, C, H> {
             let log = (V.state vol.old).log (string_bytes merkle_cfg.nodes) in
             V.tells → IfErr result
             (NotReady H.Digest.spelling (H.Digest.Read.admits tt) F.shape map log items says max_size) }
+        // Whatever the volume tells, and whatever it holds.
+        ensures lifted { IfErr result IsLifted }
         // Before an end is found that a tree may have nothing is written.
         ensures searched { let items = items_of C.Item.spelling C.Item.admits (C.config journal_cfg) (V.state vol.old) in
             let says = FnReturnsAt P.Fn predicate in V.tells → ((V.state vol.new).clock ≡ (V.state vol.old).clock)

@@ -25,6 +25,7 @@ use Rattle.auth_journal.specs.Standing.{NamesStand, NamesKeepStanding}
 use Rattle.auth_journal.specs.declared.error.Error.TheVariants as joined
 use Rattle.auth_journal.proofs.AlignLemmas.{changes_same}
 use Rattle.auth_journal.proofs.OpeningLemmas.{seen_items, keeps_behind}
+use Rattle.auth_journal.specs.Errors.{IsLifted}
 use Rattle.auth_journal.proofs.journal.Journal.open_under.Goals as goal
 
 pub returns-clause-named : goal.returns-clause-named
@@ -567,3 +568,13 @@ returns-clause-images g c told list marks low run long has =
     (subst (λ n. NamesKeepStanding s h digest spelling list marks r.items.name n metadata s1 s2) did.named.1.nodes_is
     (subst (λ n. NamesKeepStanding s h digest spelling list marks r.items.name r.tree.log.name n s1 s2) did.named.1.metadata_is step)) in
     keeps_joins Left (names_back (two_logs_and_map first.name nodes metadata)) Stands s0 s1 s2 ab (bc (now_after Left Stands s0 s1 ab))
+
+pub returns-in_err-recovery-clause-lifted : goal.returns-in_err-recovery-clause-lifted
+returns-in_err-recovery-clause-lifted g c =
+    let e = c.in_err-recovery.field-0.0 in
+    err_same _ e IsLifted c.from_residual.ensures.1 c.in_err-recovery.ensures.lifted
+
+pub returns-in_err-opened-clause-lifted : goal.returns-in_err-opened-clause-lifted
+returns-in_err-opened-clause-lifted g c =
+    let e = c.in_err-opened.field-0.0 in
+    err_same _ e IsLifted c.from_residual-in_err-opened.ensures.1 c.in_err-opened.ensures.lifted

@@ -19,6 +19,9 @@ use Rattle.auth_journal.specs.declared.error.Error.TheVariants as joined
 use Rattle.tree_store.specs.declared.error.Error.TheVariants as tree
 use Rattle.volume_base.specs.declared.error.JournalError.TheVariants as journal
 use Rattle.volume_base.proofs.CallLemmas.{log_call_read, log_call_after_read}
+use Rattle.auth_journal.specs.Errors.{IsLifted}
+use Rattle.auth_journal.proofs.DurableLemmas.{err_and}
+use Rattle.auth_journal.proofs.OpenedLemmas.{log_lifted, tree_lifted}
 use Rattle.auth_journal.proofs.journal.Journal.prepare.Goals as goal
 
 pub returns-in_err-journal-clause-refused : goal.returns-in_err-journal-clause-refused
@@ -417,3 +420,18 @@ returns-clause-searched g c told =
     let held = seen_held first view s0 s1 seen.made logs (seen.start told) (seen.end told) in
     let end = c.in_ok-end.end in
     inr (end, seen_items (λ i. EndsAt i says cap end) spelling admits first view s0 s1 seen.made logs ((c.in_ok-end.ensures {u = tt}).found told held), omega (arith, c.if-end-gt-MAX_LEAVES.false))
+
+pub returns-in_err-journal-clause-lifted : goal.returns-in_err-journal-clause-lifted
+returns-in_err-journal-clause-lifted g c =
+    let e = c.in_err-journal.field-0.0 in
+    err_and _ (from_journal e) IsLifted c.from_residual.ensures.1 (log_lifted g.row.F.Denot e)
+
+pub returns-in_err-end-clause-lifted : goal.returns-in_err-end-clause-lifted
+returns-in_err-end-clause-lifted g c =
+    let e = c.in_err-end.field-0.0 in
+    err_and _ (from_journal e) IsLifted c.from_residual-in_err-end.ensures.1 (log_lifted g.row.F.Denot e)
+
+pub returns-in_err-merkle-clause-lifted : goal.returns-in_err-merkle-clause-lifted
+returns-in_err-merkle-clause-lifted g c =
+    let e = c.in_err-merkle.field-0.0 in
+    err_and _ (from_tree e) IsLifted c.from_residual-in_err-merkle.ensures.1 (tree_lifted e c.in_err-merkle.ensures.errors)

@@ -27,6 +27,9 @@ use Rattle.auth_journal.proofs.OpenedLemmas.{Left, Stands, opened_as, cut_keeps,
 use Rattle.auth_journal.proofs.ReadingLemmas.{run_end}
 use Rattle.auth_journal.proofs.StandingLemmas.{tree_beside}
 use Rattle.auth_journal.proofs.OpeningLemmas.{prepared_later, start_not, aligned_cut, readable_cut, names_of_tree, names_of_nodes, log_keeps_beside, keeps_cut, finish_joined, leaves_take}
+use Rattle.auth_journal.specs.Errors.{from_journal, from_tree, IsLifted}
+use Rattle.auth_journal.proofs.DurableLemmas.{err_and}
+use Rattle.auth_journal.proofs.OpenedLemmas.{log_lifted, tree_lifted}
 use Rattle.auth_journal.proofs.recovery.Recovery.finish.Goals as goal
 
 pub returns-clause-from : goal.returns-clause-from
@@ -728,3 +731,18 @@ returns-clause-images g c told list marks =
     (λ top. subst (λ (ds : List g.row.H-Digest.Denot). AllStand s h digest ds marks.node_durable top (opened_as r).tree s2 → AllKeepStanding s h digest ds marks.node_durable top (opened_as r).tree s2 s3) split
     (named_keeps s h digest (leaves_of s h spelling (take (max t.tree.leaves r.end) (take r.end list)) ++ drop r.end all) marks.node_durable top (opened_as r).tree t s2 s3 node opened.from.metadata
     (caught.images told (take r.end list) (drop r.end all) marks.node_durable top here.run here.long here.full))))
+
+pub returns-in_err-journal-clause-lifted : goal.returns-in_err-journal-clause-lifted
+returns-in_err-journal-clause-lifted g c =
+    let e = c.in_err-journal.field-0.0 in
+    err_and _ (from_journal e) IsLifted c.from_residual.ensures.1 (log_lifted g.row.F.Denot e)
+
+pub returns-in_err-opened-clause-lifted : goal.returns-in_err-opened-clause-lifted
+returns-in_err-opened-clause-lifted g c =
+    let e = c.in_err-opened.field-0.0 in
+    err_and _ (from_tree e) IsLifted c.from_residual-in_err-opened.ensures.1 (tree_lifted e c.in_err-opened.ensures.errors)
+
+pub returns-in_err-merkle-clause-lifted : goal.returns-in_err-merkle-clause-lifted
+returns-in_err-merkle-clause-lifted g c =
+    let e = c.in_err-merkle.field-0.0 in
+    err_and _ e IsLifted c.from_residual-in_err-merkle.ensures.1 c.in_err-merkle.ensures.lifted
