@@ -1,11 +1,11 @@
 -- What a crash leaves of a journal while items are put behind its own.
-use Rattle.std.proofs.Common.{◌≡◌, ◌≢◌, inl, inr, ℕ, List, ◌++◌, length, map, refl, sym, ◌∙◌, ap, subst}
+use Rattle.std.proofs.Common.{◌≡◌, ◌≢◌, inl, inr, ℕ, List, ◌++◌, length, map, refl, sym, ap, subst}
 use Rattle.std.proofs.lemmas.List.{map-append}
-use Rattle.std.specs.Prelude.{◌⊎◌, Result}
+use Rattle.std.specs.Prelude.{Result}
 use Rattle.volume_base.specs.Bounds.{IsPartOf}
 use Rattle.volume_base.specs.Log.{Log, Grows}
 use Rattle.volume_base.specs.Moments.{Image, NamesLeft, Now, Keeps}
-use Rattle.volume_base.specs.Volume.{State, Map, LogMoves}
+use Rattle.volume_base.specs.Volume.{State, LogMoves}
 use Rattle.volume_base.proofs.BoundLemmas.{part_grows}
 use Rattle.volume_base.proofs.ImageLemmas.{with_log, with_log_here, with_log_other}
 use Rattle.volume_base.proofs.NameLemmas.{names_move_log}

@@ -1,9 +1,8 @@
 -- Errors of a journal: that they are lifted, and what stands for them where it is used as a log of items.
-use Rattle.std.proofs.Common.{◌≡◌, ◌⊎◌, inl, inr, ℕ, zero, suc, ◌<◌, arith, List, ◌+◌, ◌^◌, Bool, true, false, Ok, Err, Option, Some, None, refl, sym, ◌∙◌, ap, subst}
+use Rattle.std.proofs.Common.{◌≡◌, ◌⊎◌, inl, inr, ℕ, zero, suc, ◌<◌, arith, List, ◌+◌, ◌^◌, Bool, true, false, Ok, Err, Some, refl, sym, ◌∙◌, ap, subst}
 use Rattle.std.specs.Prelude.{Result, IsErrOf, IsSome, nat_le, if◌then◌else◌}
 use Rattle.tree_verification.specs.Ranges.{range_answer}
 use Rattle.merkle_full.specs.Proving.{history_answer}
-use Rattle.merkle_full.specs.Pruning as tree_pruning
 use Rattle.merkle_full.specs.Reading.{IsUnreadAt, IsUnreadAmong}
 use Rattle.journal_base.specs.Items.{Items}
 use Rattle.tree_core.specs.Tree.{prune_answer}

@@ -1,15 +1,14 @@
 -- A journal as a log of items.
-use Rattle.std.proofs.Common.{◌≡◌, ◌⊎◌, Some, inl, inr, min, max, ℕ, ◌+◌, ◌<◌, ◌≤◌, Bool, true, false, List, length, Ok, Err, refl, sym, ◌∙◌, ap, subst, arith}
+use Rattle.std.proofs.Common.{◌≡◌, ◌⊎◌, Some, inl, inr, min, max, ℕ, ◌<◌, ◌≤◌, Bool, List, length, Ok, Err, refl, sym, ◌∙◌, ap, subst, arith}
 use Rattle.std.proofs.lemmas.Bool.{cases_lt}
 use Rattle.std.specs.Prelude.{◌↔◌, Result, IsErrOf, IsTrue}
 use Rattle.volume_base.specs.Log.{Log, end_of, pruned_to}
 use Rattle.volume_base.specs.Volume.{State, Writes, Changes}
 use Rattle.volume_base.specs.declared.error.JournalError.{JournalError}
 use Rattle.volume_base.specs.declared.error.JournalError.TheVariants as journal
-use Rattle.volume_base.proofs.JoinLemmas.{went_none, changes_joins}
 use Rattle.journal_base.specs.Items.{Spells}
 use Rattle.journal_base.specs.Tickets as tickets
-use Rattle.journal_base.specs.View.{View, SameButBounds, IsHeld, after_sync, at_bounds, log_of, prune_point}
+use Rattle.journal_base.specs.View.{SameButBounds, IsHeld, after_sync, at_bounds, log_of, prune_point}
 use Rattle.journal_base.specs.declared.ticket.SyncTicket.{SyncTicket}
 use Rattle.journal_base.specs.declared.ticket.SyncTicket.TheVariants.{Done, Failed}
 use Rattle.journal_base.proofs.ItemLemmas.{spells_pruned}

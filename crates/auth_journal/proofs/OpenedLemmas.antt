@@ -1,12 +1,10 @@
 -- What the opening of a journal reads, and what it leaves of its logs and its map at each moment.
-use Rattle.std.proofs.Common.{◌≡◌, ◌≢◌, ⊎_elim, inl, inr, ℕ, zero, suc, ◌+◌, ◌-◌, ◌<◌, ◌≤◌, ◌^◌, max, min, List, [], ◌∷◌, ◌++◌, length, map, take, drop, Some, refl, sym, ◌∙◌, ap, subst, false, arith}
-use Rattle.std.specs.Prelude.{IfErr, Result, Ok, Err}
-use Rattle.std.specs.Result.{IsErrAnd}
+use Rattle.std.proofs.Common.{◌≡◌, ⊎_elim, inl, inr, ℕ, zero, suc, ◌+◌, ◌-◌, ◌<◌, ◌≤◌, max, min, List, [], ◌∷◌, ◌++◌, length, map, take, drop, refl, sym, ◌∙◌, ap, subst, false, arith}
 use Rattle.std.specs.List.{range_with_len}
 use Rattle.std.proofs.lemmas.Bool.{cases_lt}
 use Rattle.std.proofs.lemmas.List.{take_all, length-take, take-append-drop}
 use Rattle.volume_base.specs.Bounds.{IsPartOf}
-use Rattle.volume_base.specs.Log.{Log, end_of, cut_to, Shrinks}
+use Rattle.volume_base.specs.Log.{Log, end_of, Shrinks}
 use Rattle.volume_base.specs.Moments.{Image, LeftAt, NamesLeft, Now, Keeps, PairHas, PairKeeps, present}
 use Rattle.volume_base.specs.Names.{Names, log_alone, log_and_map, NamesCall}
 use Rattle.volume_base.specs.Volume.{State, Map, PastStays, LogMoves}
@@ -19,7 +17,7 @@ use Rattle.volume_base.proofs.NameLemmas.{names_move_log}
 use Rattle.volume_base.proofs.TurnLemmas.{names_back, now_after, keeps_joins}
 use Rattle.journal_base.specs.Items.{Items, Holds, Spells}
 use Rattle.journal_base.specs.Reads.{AreItemsAt}
-use Rattle.journal_base.specs.View.{View, log_of, IsHeld}
+use Rattle.journal_base.specs.View.{View, log_of}
 use Rattle.tree_shape.specs.Hashing.{Hashing}
 use Rattle.tree_shape.specs.Shape.{Shape}
 use Rattle.tree_store.specs.Stored.{TreeStands}

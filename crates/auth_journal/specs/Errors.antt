@@ -1,5 +1,5 @@
 -- What the errors of the layers below become.
-use Rattle.std.specs.Prelude.{◌≡◌, ℕ, ◌^◌, ◌+◌, ◌⊎◌, Option, Some, None, IsSome, Result, Ok, Err}
+use Rattle.std.specs.Prelude.{◌≡◌, Option, Some, None, IsSome, Result, Ok, Err}
 use Rattle.volume_base.specs.declared.error.JournalError.{JournalError}
 use Rattle.volume_base.specs.declared.error.JournalError.TheVariants as journal
 use Rattle.volume_base.specs.declared.error.TreeCause.TheVariants as cause

@@ -1,21 +1,15 @@
-use Rattle.std.proofs.Common.{◌≡◌, ◌∷◌, [], ◌++◌, ◌^◌, ◌+◌, ℕ, List, Err, Some, length, map, refl, sym, ◌∙◌, ap, subst, arith}
-use Rattle.std.specs.Prelude.{IsErrOf}
-use Rattle.volume_base.specs.Log.{Log, end_of, appended}
+use Rattle.std.proofs.Common.{◌≡◌, ◌∷◌, [], ◌++◌, ◌^◌, ℕ, List, Err, Some, refl, sym, ◌∙◌, ap, subst, arith}
+use Rattle.volume_base.specs.Log.{Log}
 use Rattle.volume_base.specs.declared.error.JournalError.{JournalError}
 use Rattle.volume_base.specs.declared.error.JournalError.TheVariants as journal
-use Rattle.volume_base.specs.declared.error.TreeCause.TheVariants as cause
 use Rattle.journal_base.specs.Answers.{IsOfSize}
 use Rattle.journal_base.specs.Items.{Spells}
 use Rattle.journal_base.specs.View.{log_of}
 use Rattle.journal_base.proofs.ItemLemmas.{spells_appended}
-use Rattle.auth_journal.specs.Errors.{lowered}
 use Rattle.auth_journal.specs.Joined.{Joined}
-use Rattle.auth_journal.specs.declared.error.Error.{Error}
-use Rattle.auth_journal.specs.declared.error.Error.TheVariants as joined
-use Rattle.auth_journal.proofs.LowerLemmas.{IsAppendFailure, one_fails, append_lowers, append_lowered, own_lowered, size_some, size_of, volume_of_size, unwritten_lowered, full_lowered}
+use Rattle.auth_journal.proofs.LowerLemmas.{one_fails, append_lowers, append_lowered, own_lowered, size_some, size_of, volume_of_size, unwritten_lowered, full_lowered}
 use Rattle.auth_journal.proofs.MutableLemmas.{same_view, held_view, writes_done, writes_lowered}
 use Rattle.auth_journal.proofs.mutable.JournalMutable.append.Goals as goal
-
 
 pub lower-requires : goal.lower-requires
 lower-requires g c =

@@ -1,16 +1,12 @@
-use Rattle.std.proofs.Common.{◌≡◌, ◌⊎◌, inl, inr, ◌^◌, ◌+◌, ◌-◌, ◌<◌, ◌++◌, ℕ, List, Err, Some, length, map, refl, sym, ◌∙◌, ap, subst, arith}
-use Rattle.std.specs.Prelude.{IsErrOf}
-use Rattle.volume_base.specs.Log.{Log, end_of, appended}
+use Rattle.std.proofs.Common.{◌≡◌, ◌⊎◌, inl, inr, ◌^◌, ◌+◌, ◌-◌, ◌<◌, ◌++◌, ℕ, Err, Some, length, refl, sym, ◌∙◌, ap, subst}
+use Rattle.volume_base.specs.Log.{Log, end_of}
 use Rattle.volume_base.specs.declared.error.JournalError.{JournalError}
 use Rattle.volume_base.specs.declared.error.JournalError.TheVariants as journal
-use Rattle.volume_base.specs.declared.error.TreeCause.TheVariants as cause
 use Rattle.journal_base.specs.Answers.{IsOfAppend}
 use Rattle.journal_base.specs.Items.{Spells}
 use Rattle.journal_base.specs.View.{log_of}
 use Rattle.journal_base.proofs.ItemLemmas.{spells_appended}
-use Rattle.auth_journal.specs.Errors.{lowered}
 use Rattle.auth_journal.specs.Joined.{Joined}
-use Rattle.auth_journal.specs.declared.error.Error.TheVariants as joined
 use Rattle.auth_journal.proofs.LowerLemmas.{several_fail, append_lowers, append_lowered, own_lowered, several_some, several_of, size_of_append, unwritten_lowered, past_lowered, own_stays, positive}
 use Rattle.auth_journal.proofs.MutableLemmas.{same_view, held_view, writes_done, writes_lowered}
 use Rattle.auth_journal.proofs.mutable.JournalMutable.append_many.Goals as goal

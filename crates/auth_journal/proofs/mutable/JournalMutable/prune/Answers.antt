@@ -1,4 +1,4 @@
-use Rattle.std.proofs.Common.{◌≡◌, ◌⊎◌, inl, inr, ◌<◌, ℕ, Err, refl, sym, ◌∙◌, ap, subst}
+use Rattle.std.proofs.Common.{◌≡◌, inl, ◌<◌, ℕ, Err, ◌∙◌, ap, subst}
 use Rattle.journal_base.specs.Items.{items_of}
 use Rattle.volume_base.specs.Log.{pruned_to}
 use Rattle.journal_base.specs.View.{log_of, prune_point}
@@ -69,7 +69,7 @@ pub returns-in-Ok-clause-told : goal.returns-in-Ok-clause-told
 returns-in-Ok-clause-told g c =
     moved_same c.has_moved-moved.result _ _ _ _ c.args.self.items.start c.in-Ok.pruned.items.start c.args.self.tree.boundary c.in-Ok.pruned.tree.boundary
     (c.bounds-start.ensures.start ∙ ap (λ (k : Joined g.row.H-Digest.Denot g.row.C-Item-Cfg.Denot). k.items.start) c.self.view_is) (c.as_u64.ensures ∙ c.in-Ok.ensures.start)
-    (c.as_u64-2.ensures ∙ c.bounds-boundary.ensures.start ∙ ap (λ (k : Joined g.row.H-Digest.Denot g.row.C-Item-Cfg.Denot). k.tree.boundary) c.self.view_is) (c.as_u64-3.ensures ∙ c.bounds-now.ensures.start ∙ ap (λ (k : Joined g.row.H-Digest.Denot g.row.C-Item-Cfg.Denot). k.tree.boundary) c.pruned.view_is)
+    (c.as_u64-in-Ok.ensures ∙ c.bounds-boundary.ensures.start ∙ ap (λ (k : Joined g.row.H-Digest.Denot g.row.C-Item-Cfg.Denot). k.tree.boundary) c.self.view_is) (c.as_u64-in-Ok-2.ensures ∙ c.bounds-now.ensures.start ∙ ap (λ (k : Joined g.row.H-Digest.Denot g.row.C-Item-Cfg.Denot). k.tree.boundary) c.pruned.view_is)
     c.has_moved-moved.ensures
 
 pub returns-in-Ok-clause-moved_true : goal.returns-in-Ok-clause-moved_true

@@ -32,3 +32,6 @@ returns-in-Err-clause-outside g c tells list joined = outside_lowered c.in-Err.e
 pub returns-in-Err-clause-writes : goal.returns-in-Err-clause-writes
 returns-in-Err-clause-writes g c sound =
     writes_lowered {S = Joined g.row.H-Digest.Denot g.row.C-Item-Cfg.Denot} g.V.Volume.tells (g.V.Volume.state c.args.vol.now) (g.V.Volume.state c.sync.new.vol) c.in-Err.error c.lower.result c.lower.ensures (c.in-Err.ensures.writes sound)
+
+pub returns-in-Ok-clause-durable : goal.returns-in-Ok-clause-durable
+returns-in-Ok-clause-durable g c tells = (c.in-Ok.ensures.durable tells).0

@@ -1,4 +1,4 @@
-use Rattle.std.proofs.Common.{◌≡◌, ◌<◌, ◌≤◌, None, length, sym, ◌∙◌, ap, arith}
+use Rattle.std.proofs.Common.{arith}
 use Rattle.auth_journal.proofs.OverLemmas.{over_past}
 use Rattle.auth_journal.proofs.over.OverReadable.get_node.Goals as goal
 
