@@ -1,0 +1,23 @@
+//! Prints at which end a journal is opened, under each cap, of logs of five items of which some match; and of a small history of
+//! which each call of the volume fails in turn, how what a crash leaves is opened again.
+#![tactic(auto)]
+
+mod error;
+mod failing;
+mod images;
+mod rows;
+mod stores;
+
+use crate::error::TableError;
+use crate::failing::print_history;
+use crate::rows::print_rows;
+use codec_base::Bytes;
+use journal_base::{FixedJournal, VariableJournal};
+use tree_core::{Mmb, Mmr};
+
+fn main(rt: HostRuntime) -> Result<(), TableError> {
+    print_rows::<Mmr, FixedJournal<u64>>(&rt, rt.alloc(), "mmr fixed")?;
+    print_rows::<Mmb, VariableJournal<Bytes>>(&rt, rt.alloc(), "mmb variable")?;
+    print_history::<Mmr, FixedJournal<u64>>(&rt, rt.alloc(), "mmr fixed")?;
+    print_history::<Mmb, VariableJournal<Bytes>>(&rt, rt.alloc(), "mmb variable")
+}
