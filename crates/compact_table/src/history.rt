@@ -1,4 +1,6 @@
 //! A history of three batches.
+ghost use Rattle.std.specs.Prelude.{◌<◌, ◌-◌, ◌^◌, length};
+
 use crate::error::TableError;
 use crate::kinds::{Keyed, Kind};
 use crate::texts::{Db, print_digests, print_operation, print_proof, print_state};
@@ -39,6 +41,7 @@ fn sealed<F: Family, O: Kind<F>>(
 ) -> Result<BatchId, TableError>
 where
     O::Value: Drop,
+    requires { length pool.old < 2 ^ 64 - 1 }
 {
     let mut batch = db.new_batch()?;
     for number in from..to {

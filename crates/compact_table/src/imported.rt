@@ -35,6 +35,39 @@ fn copied(alloc: Global, digests: &ListOf<Sha256Digest>) -> Result<Vec<Sha256Dig
     Ok(out)
 }
 
+/// The commit and the nodes of an answer, which are printed.
+fn taken<F: Family, O: Kind<F>>(
+    rt: &impl Print,
+    alloc: Global,
+    size: u64,
+    response: Response<F, O, Sha256Digest>,
+) -> Result<ServedCommit<O>, TableError>
+where
+    O::Value: Drop,
+{
+    match response {
+        Response::Boundary {
+            proof,
+            op,
+            pinned_nodes,
+        } => {
+            print!(rt; "  served at {size}:")?;
+            print_operation(rt, alloc, &op)?;
+            println!(rt; "")?;
+            print_proof(rt, alloc, &proof)?;
+            let pins = copied(alloc, &pinned_nodes)?;
+            print!(rt; "    pins:")?;
+            print_digests(rt, alloc, pins.as_slice())?;
+            Ok(ServedCommit { commit: op, pins })
+        }
+        Response::Operations { proof, operations } => {
+            drop(proof);
+            drop(operations);
+            Err(TableError::Database)
+        }
+    }
+}
+
 /// What is served of a state: the commit and the nodes, which are printed; or nothing.
 fn served<F: Family, O: Kind<F>>(
     rt: &impl Print,
@@ -46,29 +79,15 @@ fn served<F: Family, O: Kind<F>>(
 where
     O::Value: Drop,
 {
-    let found = match db.serve(vol, boundary(size)?) {
-        Ok(
-            Response::Boundary {
-                proof,
-                op,
-                pinned_nodes,
-            },
-        ) => {
-            print!(rt; "  served at {size}:")?;
-            print_operation(rt, alloc, &op)?;
-            println!(rt; "")?;
-            print_proof(rt, alloc, &proof)?;
-            let pins = copied(alloc, &pinned_nodes)?;
-            print!(rt; "    pins:")?;
-            print_digests(rt, alloc, pins.as_slice())?;
-            Some(ServedCommit { commit: op, pins })
-        }
-        _ => {
+    let request = boundary(size)?;
+    let answered = db.serve(vol, request);
+    match answered.ok() {
+        Some(response) => Ok(Some(taken(rt, alloc, size, response)?)),
+        None => {
             println!(rt; "  nothing served at {size}")?;
-            None
+            Ok(None)
         }
-    };
-    Ok(found)
+    }
 }
 
 /// Prints what is opened of an imported database when it is written, and builds on it.
@@ -113,13 +132,12 @@ fn print_refused<F: Family, O: Kind<F>>(
 where
     O::Value: Drop,
 {
-    match db.prune(vol, Location::new(1)) {
-        Err(Error::DataCorrupted(DataFault::ImportNotApplied)) => {
+    match db.prune(vol, Location::new(1)).err() {
+        Some(Error::DataCorrupted(DataFault::ImportNotApplied)) => {
             println!(rt; "  a prune is refused: import not applied")?;
             Ok(())
         }
-        Err(error) => Err(error.into()),
-        Ok(_) => Err(TableError::Database),
+        _ => Err(TableError::Database),
     }
 }
 
