@@ -1,5 +1,5 @@
 -- Proofs of the leaves of a list, and why one isn't made.
-use Rattle.std.specs.Prelude.{◌≡◌, ℕ, ◌+◌, ◌^◌, nat_le, nat_lt, List, length, map, take, Option, Result, Ok, Err, IfOk, IfErr, if◌then◌else◌}
+use Rattle.std.specs.Prelude.{◌≡◌, ℕ, ◌+◌, ◌^◌, nat_le, nat_lt, List, length, map, take, Option, Some, Result, Ok, Err, IfOk, IfErr, if◌then◌else◌}
 use Rattle.tree_shape.specs.Hashing.{Hashing}
 use Rattle.tree_shape.specs.Shape.{Shape}
 use Rattle.tree_shape.specs.Pins.{position_of}
@@ -42,6 +42,10 @@ IsProofIn {D = D} s told n inactive met proof =
 abbrev pub IsProofAt : {F D : Type 0} → Shape → (ℕ → Option D) → ℕ → ℕ → ℕ → Opened → Proof F D → Type 0
 IsProofAt {D = D} s told m n inactive met proof =
     (h : Hashing D) (all : List D) → IsTreeOf s h all m told → proof ≡ proof_of s h (take n all) inactive met
+
+-- its digests are what is told where the nodes of the cover stand
+abbrev pub TakesFrom : {F D : Type 0} → Shape → (ℕ → Option D) → ℕ → Opened → Proof F D → Type 0
+TakesFrom s told n met proof = map Some proof.digests ≡ map told (cover_positions s met n)
 
 -- what a proof from memory that tells these nodes of a tree of n leaves answers: the refusal that no read decides, or
 -- else the proof, or the first node of the cover that isn't there

@@ -5,7 +5,7 @@ ghost use Rattle.volume_base.specs.Moments.{present};
 ghost use Rattle.tree_store.specs.declared.error.Error.{Error};
 ghost use Rattle.tree_store.specs.Stores.{IsReadRefusal, IsOutsideOr};
 ghost use Rattle.tree_proof.specs.Cover.{meets};
-ghost use Rattle.tree_verification.specs.Ranges.{cover_positions, range_answer, HasForm, IsProofIn, IsProofAt};
+ghost use Rattle.tree_verification.specs.Ranges.{cover_positions, range_answer, HasForm, TakesFrom, IsProofIn, IsProofAt};
 
 use crate::bounds::check_range;
 use crate::walk::find_cover;
@@ -33,6 +33,9 @@ pub(crate) fn prove<F: Family, S: Storage<F>, V: Volume, W: Wanted>(
         IfOk result (λ proof. V.tells → S.held store.now image →
         IsProofAt F.shape (S.told store.now image) (S.leaves store.now) leaves inactive_peaks
         (W.met wanted.now) proof) }
+    ensures told { let image = present (V.state vol.old) in
+        IfOk result (λ proof. V.tells → S.held store.now image →
+        TakesFrom F.shape (S.told store.now image) leaves (W.met wanted.now) proof) }
     ensures fault { IfErr result IsReadRefusal }
     ensures outside { let image = present (V.state vol.old) in
         V.tells → S.held store.now image →
@@ -68,6 +71,10 @@ pub fn historical_range_proof<F: Family, S: Storage<F>, V: Volume>(
     ensures proof { let image = present (V.state vol.old) in
         IfOk result (λ proof. V.tells → S.held store.now image →
         IsProofAt F.shape (S.told store.now image) (S.leaves store.now) leaves inactive_peaks (meets start end) proof) }
+    // Its digests are what the store tells, whichever list the tree is of.
+    ensures told { let image = present (V.state vol.old) in
+        IfOk result (λ proof. V.tells → S.held store.now image →
+        TakesFrom F.shape (S.told store.now image) leaves (meets start end) proof) }
     ensures fault { range_answer {F = F} (S.leaves store.now) leaves start end ≡ Ok tt → IfErr result IsReadRefusal }
     ensures outside { let image = present (V.state vol.old) in
         range_answer {F = F} (S.leaves store.now) leaves start end ≡ Ok tt → V.tells → S.held store.now image →
@@ -104,6 +111,10 @@ pub fn range_proof<F: Family, S: Storage<F>, V: Volume>(
     ensures proof { let image = present (V.state vol.old) in
         IfOk result (λ proof. V.tells → S.held store.now image →
         IsProofIn F.shape (S.told store.now image) (S.leaves store.now) inactive_peaks (meets start end) proof) }
+    // Its digests are what the store tells, whichever list the tree is of.
+    ensures told { let image = present (V.state vol.old) in
+        IfOk result (λ proof. V.tells → S.held store.now image →
+        TakesFrom F.shape (S.told store.now image) (S.leaves store.now) (meets start end) proof) }
     ensures fault { let leaves = S.leaves store.now in
         range_answer {F = F} leaves leaves start end ≡ Ok tt → IfErr result IsReadRefusal }
     ensures outside { let image = present (V.state vol.old) in

@@ -5,7 +5,7 @@ ghost use Rattle.volume_base.specs.Moments.{present};
 ghost use Rattle.tree_store.specs.declared.error.Error.{Error};
 ghost use Rattle.tree_store.specs.Stores.{IsReadRefusal, IsOutsideOr};
 ghost use Rattle.tree_proof.specs.Cover.{holds_one};
-ghost use Rattle.tree_verification.specs.Ranges.{cover_positions, HasForm, IsProofIn};
+ghost use Rattle.tree_verification.specs.Ranges.{cover_positions, HasForm, TakesFrom, IsProofIn};
 ghost use Rattle.tree_verification.specs.Several.{several_answer};
 
 use crate::order::{check_order, check_within};
@@ -36,6 +36,10 @@ pub fn multi_proof<F: Family, S: Storage<F>, V: Volume>(
         IfOk result (λ proof. V.tells → S.held store.now image →
         IsProofIn F.shape (S.told store.now image) (S.leaves store.now) inactive_peaks
         (holds_one locations.now) proof) }
+    // Its digests are what the store tells, whichever list the tree is of.
+    ensures told { let image = present (V.state vol.old) in
+        IfOk result (λ proof. V.tells → S.held store.now image →
+        TakesFrom F.shape (S.told store.now image) (S.leaves store.now) (holds_one locations.now) proof) }
     ensures fault { several_answer {F = F} (S.leaves store.now) locations.now ≡ Ok tt → IfErr result IsReadRefusal }
     ensures outside { let image = present (V.state vol.old) in
         let leaves = S.leaves store.now in

@@ -32,3 +32,8 @@ returns-clause-proof g c tells held h all tree =
     let told = g.S.Storage.told c.args.store.now (present (g.V.Volume.state c.args.vol.now)) in
     told-proof s h all (g.S.Storage.leaves c.args.store.now) told c.args.leaves c.args.inactive_peaks (g.W.Wanted.met c.args.wanted.now) _ g.met.F.Family.lawful c.requires.stored c.new.ensures refl
     (ap (map Some) c.from_vec.ensures ∙ c.in_ok-digests.ensures.nodes tells held ∙ ap (map told) (c.deref.ensures.value ∙ c.in_ok-positions.ensures)) tree
+
+pub returns-clause-told : goal.returns-clause-told
+returns-clause-told g c tells held =
+    let told = g.S.Storage.told c.args.store.now (present (g.V.Volume.state c.args.vol.now)) in
+    ap (map Some) c.from_vec.ensures ∙ c.in_ok-digests.ensures.nodes tells held ∙ ap (map told) (c.deref.ensures.value ∙ c.in_ok-positions.ensures)
