@@ -1,6 +1,7 @@
 -- Proofs made of what memory and log tell.
-use Rattle.std.proofs.Common.{◌≡◌, inl, inr, ℕ, ◌^◌, ◌<◌, ◌≤◌, Bool, true, false, List, length, Some, Option, Ok, Err, refl, sym, ◌∙◌, ap, arith}
-use Rattle.std.specs.Prelude.{◌||◌, nat_le, slice_get, is_some, Result, IfOk, IfErr, OnOk}
+use Rattle.std.proofs.Common.{◌≡◌, inl, inr, ℕ, ◌^◌, ◌<◌, ◌≤◌, Bool, true, false, List, length, map, Some, Option, Ok, Err, refl, sym, ◌∙◌, ap, subst, arith}
+use Rattle.std.specs.Prelude.{◌||◌, nat_le, slice_get, is_some, IsSome, Result, IfOk, IfErr, OnOk}
+use Rattle.std.specs.Option.{option_map}
 use Rattle.std.proofs.lemmas.Bool.Decides.{leb_tells}
 use Rattle.std.proofs.lemmas.Option.{slice_get-map}
 use Rattle.codec_base.specs.Codec.{Reading, IsLawful}
@@ -12,11 +13,12 @@ use Rattle.tree_shape.specs.Kept.{KeepsPeaks}
 use Rattle.tree_shape.specs.Needed.{IsNeeded}
 use Rattle.tree_shape.specs.Pins.{position_of}
 use Rattle.tree_shape.proofs.NeededLemmas.{made_le, needed_from}
-use Rattle.tree_proof.specs.Cover.{meets, cover}
+use Rattle.tree_proof.specs.Cover.{Opened, meets, cover}
+use Rattle.tree_proof.specs.declared.proof.Proof.{Proof}
 use Rattle.tree_store.specs.Stores.{IsOutside, IsOutsideOr}
 use Rattle.tree_store.specs.declared.error.Error.{Error}
 use Rattle.tree_store.specs.declared.error.Error.TheVariants.{RangeOutOfBounds, ElementPruned, Volume, Memory}
-use Rattle.tree_verification.specs.Ranges.{cover_positions, range_answer}
+use Rattle.tree_verification.specs.Ranges.{cover_positions, range_answer, TakesFrom}
 use Rattle.tree_verification.proofs.CoverLemmas.{cover-below}
 use Rattle.tree_verification.proofs.NeededLemmas.{cover-needed}
 use Rattle.tree_core.specs.Pruned.{is_peak_at, keeps}
@@ -75,6 +77,15 @@ module _ {D : Type 0} (s : Shape) (h : Hashing D) (spelling : D → List ℕ) (a
       ] in
       needed_told s h spelling admits all t image reads lawful full kept p (omega (arith, below, made_le s n t.tree.leaves few)) keeps_it
 
+-- each node of a cover from which digests are taken is told
+pub taken_there : {F D : Type 0} (s : Shape) (told : ℕ → Option D) (n : ℕ) (met : Opened) (proof : Proof F D) → TakesFrom s told n met proof → (i p : ℕ) → slice_get (cover_positions s met n) i ≡ Some p → IsSome (told p)
+taken_there s told n met proof is i p at =
+    let here : option_map Some (slice_get proof.digests i) ≡ Some (told p) =
+    sym (slice_get-map Some proof.digests i) ∙ ap (λ (l : List (Option _)). slice_get l i) is ∙ slice_get-map told (cover_positions s met n) i ∙ ap (option_map told) at in
+    let m = mapped_some Some (slice_get proof.digests i) (told p) here in
+    let some : IsSome (Some m.0) = refl in
+    subst (λ (o : Option _). IsSome o) (sym m.2) some
+
 -- where each is told, only the outside refuses
 pub outside_told : {F D : Type 0} (told : ℕ → Option D) (ps : List ℕ) (e : Error F) → ((i p : ℕ) → slice_get ps i ≡ Some p → is_some (told p) ≡ true) → IsOutsideOr told ps e → IsOutside e
 outside_told told ps (ElementPruned p) there absent = absurd (let some = there absent.index p absent.here in let none = ap is_some absent.absent in cc)
@@ -105,6 +116,7 @@ module _ {F D : Type 0} (tells : Type 0) (s : Shape) (spelling : D → List ℕ)
     refused = λ d same. ap (λ (x : Error F). Err x) (same_err answer e d is same);
     within = tt;
     form = tt;
+    told = tt;
     list = tt;
     kept = λ ok. absurd (no_ok answer e ok is);
     first = λ ok. absurd (no_ok answer e ok is);

@@ -38,6 +38,7 @@ returns-clause-proves g c =
       refused = λ e is. did.refused e (sym same ∙ is);
       within = on_answer c.historical_range_proof.result _ _ (λ ok. same ∙ ok) did.within;
       form = did.form;
+      told = did.told;
       list = ok_gives _ _ (λ proof is tells h all full.
           is tells (held_of_full s h sp ad all t image full kept.sound.within) h all (told_tree s h sp ad all t image (g.D.Read.reads tt) (g.met.D.Read.lawful tt) full)) c.historical_range_proof.result did.proof;
       kept = λ ok from tells h all full.
