@@ -1,6 +1,6 @@
 -- The map of a boundary that moves.
 use Rattle.std.proofs.Common.{◌≡◌, Ordering, Less, Equal, Greater, inl, inr, ℕ, zero, suc, ◌*◌, ◌<◌, ◌≤◌, Bool, true, false, cond, List, [], ◌∷◌, length, map, take, Some, refl, sym, ◌∙◌, ap, subst, arith}
-use Rattle.std.specs.Prelude.{◌⊎◌, ◌^◌, slice_get, IsSome, is_some}
+use Rattle.std.specs.Prelude.{◌≢◌, ◌⊎◌, ◌^◌, slice_get, IsSome, is_some}
 use Rattle.std.specs.Int.{w64, from_be_bytes, to_be_bytes}
 use Rattle.std.specs.Option.{option_map}
 use Rattle.std.specs.Ordering.{nat_cmp, eq_by_cmp, is_eq}
@@ -21,7 +21,7 @@ use Rattle.tree_shape.proofs.NeededLemmas.{made_le}
 use Rattle.tree_store.specs.Stored.{node_key, boundary_key, IsMapOf}
 use Rattle.tree_store.proofs.StoreLemmas.{get-take}
 use Rattle.merkle_full.specs.Pinning.{IsPinAt}
-use Rattle.merkle_full.specs.Pruning.{with_pins, pinned_map, KeepsPins}
+use Rattle.merkle_full.specs.Pruning.{with_pins, pinned_map, KeepsPins, KeepsOthers}
 use Rattle.merkle_full.proofs.PeakLemmas.{pin_below, pin_of_peak}
 use Rattle.merkle_full.proofs.RepinLemmas.{pin_node}
 use Rattle.merkle_full.proofs.ListLemmas.{mapped_some, taken}
@@ -100,6 +100,23 @@ pins_have spelling m (p ∷ ps) (d ∷ ds) key has = pins_have spelling (finmap.
 
 pub pinned_keeps : {D : Type 0} (spelling : D → List ℕ) (m : Map) (ps : List ℕ) (ds : List D) (boundary : ℕ) → KeepsPins m (pinned_map spelling m ps ds boundary)
 pinned_keeps spelling m ps ds boundary p has = put_has (with_pins spelling m ps ds) boundary_key (eight_bytes boundary) (node_key p) (pins_have spelling m ps ds (node_key p) has)
+
+-- of another key there stays what was there
+other_stays : (m : Map) (k v q : List ℕ) → q ≢ k → finmap.get (finmap.insert m k v) q ≡ finmap.get m q
+other_stays m k v q not = put_get m k v q ∙ by (same_key q k) refl
+  where
+    by : (t : Bool) → same_key q k ≡ t → cond t (Some v) (finmap.get m q) ≡ finmap.get m q
+    by true is = absurd (not (key_is q k is))
+    by false is = refl
+
+others_stay : {D : Type 0} (spelling : D → List ℕ) (m : Map) (ps : List ℕ) (ds : List D) (key : List ℕ) → ((i p : ℕ) → slice_get ps i ≡ Some p → key ≢ node_key p) → finmap.get (with_pins spelling m ps ds) key ≡ finmap.get m key
+others_stay spelling m [] ds key not = refl
+others_stay spelling m (p ∷ ps) [] key not = refl
+others_stay spelling m (p ∷ ps) (d ∷ ds) key not =
+    others_stay spelling (finmap.insert m (node_key p) (spelling d)) ps ds key (λ i q at. not (suc i) q at) ∙ other_stays m (node_key p) (spelling d) key (not 0 p refl)
+
+pub pinned_others : {D : Type 0} (spelling : D → List ℕ) (m : Map) (ps : List ℕ) (ds : List D) (boundary : ℕ) → KeepsOthers ps m (pinned_map spelling m ps ds boundary)
+pinned_others spelling m ps ds boundary key apart not = other_stays (with_pins spelling m ps ds) boundary_key (eight_bytes boundary) key apart ∙ others_stay spelling m ps ds key not
 
 pub pins_all : {D : Type 0} (spelling : D → List ℕ) (m : Map) (ps : List ℕ) (ds : List D) (i p : ℕ) → length ps ≡ length ds → slice_get ps i ≡ Some p → IsSome (finmap.get (with_pins spelling m ps ds) (node_key p))
 pins_all spelling m [] ds i p l at = absurd cc

@@ -21,7 +21,7 @@ use Rattle.tree_core.specs.Tree.{node_at, rests, prune_answer}
 use Rattle.merkle_full.specs.Flushing.{IsSameTree, AllStand, AllKeepStanding}
 use Rattle.merkle_full.specs.Full.{Full, Rests}
 use Rattle.merkle_full.specs.Lists.{IsFullOf}
-use Rattle.merkle_full.specs.Pruning.{IsMovedTo, KeepsPins, StandsWhilePruned}
+use Rattle.merkle_full.specs.Pruning.{IsMovedTo, KeepsPins, KeepsOthers, StandsWhilePruned}
 use Rattle.merkle_full.specs.Reading.{IsUnreadAmong}
 use Rattle.merkle_full.proofs.ReadLemmas.{unread_same}
 use Rattle.merkle_full.proofs.FullLemmas.{full_end}
@@ -76,6 +76,11 @@ module _ {D : Type 0} (to : ℕ) (t one two three : Full D) (synced : IsSameTree
       let kept : IsSome (finmap.get (e.map two.metadata) (node_key p)) =
       subst (λ (x : Map). IsSome (finmap.get x (node_key p))) (sym stored) (keeps p (subst (λ (x : Map). IsSome (finmap.get x (node_key p))) (sym (ap b.map synced.metadata ∙ stays)) has)) in
       subst (λ (n : List ℕ). IsSome (finmap.get (e.map n) (node_key p))) pins_is kept
+
+  -- and no other key changes
+  pub run_others : (ps : List ℕ) (a b e : State) (m : Map) → b.map t.metadata ≡ a.map t.metadata → KeepsOthers ps (b.map one.metadata) m → e.map two.metadata ≡ m → KeepsOthers ps (a.map t.metadata) (e.map t.metadata)
+  run_others ps a b e m stays keeps stored key apart not =
+      ap (λ (x : Map). finmap.get x key) (ap e.map (sym pins_is) ∙ stored) ∙ keeps key apart not ∙ ap (λ (x : Map). finmap.get x key) (ap b.map synced.metadata ∙ stays)
 
   module _ (a b d e : State) (clock : d.clock ≡ b.clock) (past : PastStays b d) (contents : SameContents b d) where
     pub run_names : NamesCall (log_alone t.log.name) a b → NamesCall (log_and_map two.log.name two.metadata) d e → NamesCall (log_and_map t.log.name t.metadata) a e

@@ -1,5 +1,5 @@
 -- The map of a boundary that moves, and the tree beside it.
-use Rattle.std.specs.Prelude.{◌≡◌, ◌⊎◌, ℕ, max, List, [], ◌∷◌, length, IsSome}
+use Rattle.std.specs.Prelude.{◌≡◌, ◌≢◌, ◌⊎◌, ℕ, max, List, [], ◌∷◌, length, slice_get, Some, IsSome}
 use Rattle.std.specs.FinMap as finmap
 use Rattle.journal_base.specs.Items.{Items}
 use Rattle.tree_shape.specs.Pins.{pins}
@@ -27,6 +27,10 @@ pinned_map spelling m ps ds boundary = finmap.insert (with_pins spelling m ps ds
 -- each pin of the one map is in the other
 abbrev pub KeepsPins : Map → Map → Type 0
 KeepsPins m other = (p : ℕ) → IsSome (finmap.get m (node_key p)) → IsSome (finmap.get other (node_key p))
+
+-- Of a key that is neither the boundary's nor that of a pin at one of these positions, the other map has what the one has.
+abbrev pub KeepsOthers : List ℕ → Map → Map → Type 0
+KeepsOthers ps m other = (key : List ℕ) → key ≢ boundary_key → ((i p : ℕ) → slice_get ps i ≡ Some p → key ≢ node_key p) → finmap.get other key ≡ finmap.get m key
 
 -- the same tree, pruned at another number of leaves
 abbrev pub at_boundary : {D : Type 0} → Full D → ℕ → Full D

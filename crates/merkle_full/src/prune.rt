@@ -28,7 +28,7 @@ impl<F: Family, D: Digest> Merkle<F, D> {
     ghost use Rattle.merkle_full.specs.Full.{Full, Rests};
     ghost use Rattle.merkle_full.specs.Lists.{IsFullOf};
     ghost use Rattle.merkle_full.specs.Reading.{IsUnreadAmong};
-    ghost use Rattle.merkle_full.specs.Pruning.{pinned_map, at_boundary, KeepsPins, IsMovedTo, beside_map, StandsWhilePruned, IsOfPrune};
+    ghost use Rattle.merkle_full.specs.Pruning.{pinned_map, at_boundary, KeepsPins, KeepsOthers, IsMovedTo, beside_map, StandsWhilePruned, IsOfPrune};
 
     /// The tree with these peaks of a boundary in memory, pruned there in memory alone.
     fn moved_to(
@@ -137,6 +137,8 @@ impl<F: Family, D: Digest> Merkle<F, D> {
             IsFullOf F.shape h D.spelling (D.Read.admits tt) all made.0 (beside_map (V.state vol.new) made.1)) }
         ensures pins { IfOk result (λ made. V.tells →
             KeepsPins ((V.state vol.old).map self.metadata) made.1) }
+        ensures others { IfOk result (λ made. V.tells →
+            KeepsOthers (pins F.shape boundary) ((V.state vol.old).map self.metadata) made.1) }
         ensures refused { let items = items_of D.spelling D.Read.admits self.log (V.state vol.old) in
             IfErr result (IsUnreadAmong V.tells items (pins F.shape boundary)) }
         ensures outside { V.tells → (h : Hashing D) (all : List D) → self.boundary ≤ boundary →
@@ -200,6 +202,8 @@ impl<F: Family, D: Digest> Merkle<F, D> {
             IfErr result (IsOfPrune F.shape V.tells self items boundary) }
         ensures pins { OnOk result (V.tells →
             KeepsPins ((V.state vol.old).map self.metadata) ((V.state vol.new).map self.metadata)) }
+        ensures others { let old = V.state vol.old in
+            OnOk result (V.tells → KeepsOthers (pins F.shape boundary) (old.map self.metadata) ((V.state vol.new).map self.metadata)) }
         ensures outside { V.tells → (h : Hashing D) (all : List D) →
             IsFullOf F.shape h D.spelling (D.Read.admits tt) all self (present (V.state vol.old)) →
             IfErr result IsOutside }
@@ -247,6 +251,9 @@ impl<F: Family, D: Digest> Merkle<F, D> {
             prune_answer {F = F} self.tree.leaves loc ≡ Ok tt → IfErr result (IsOfPrune F.shape V.tells self items loc) }
         ensures pins { OnOk result (V.tells →
             KeepsPins ((V.state vol.old).map self.metadata) ((V.state vol.new).map self.metadata)) }
+        // Of the map's keys at most the boundary's and those of its pins change.
+        ensures others { let old = V.state vol.old in
+            OnOk result (V.tells → KeepsOthers (pins F.shape loc) (old.map self.metadata) ((V.state vol.new).map self.metadata)) }
         ensures outside { prune_answer {F = F} self.tree.leaves loc ≡ Ok tt → V.tells → (h : Hashing D) (all : List D) →
             IsFullOf F.shape h D.spelling (D.Read.admits tt) all self (present (V.state vol.old)) →
             IfErr result IsOutside }
@@ -302,6 +309,9 @@ impl<F: Family, D: Digest> Merkle<F, D> {
             IfErr result (IsOfPrune F.shape V.tells self items self.tree.leaves) }
         ensures pins { OnOk result (V.tells →
             KeepsPins ((V.state vol.old).map self.metadata) ((V.state vol.new).map self.metadata)) }
+        // Of the map's keys at most the boundary's and those of its pins change.
+        ensures others { let old = V.state vol.old in
+            OnOk result (V.tells → KeepsOthers (pins F.shape self.tree.leaves) (old.map self.metadata) ((V.state vol.new).map self.metadata)) }
         ensures outside { V.tells → (h : Hashing D) (all : List D) →
             IsFullOf F.shape h D.spelling (D.Read.admits tt) all self (present (V.state vol.old)) →
             IfErr result IsOutside }

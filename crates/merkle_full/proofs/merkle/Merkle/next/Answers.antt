@@ -9,9 +9,9 @@ use Rattle.volume_base.specs.Volume.{Map}
 use Rattle.volume_base.proofs.ReadLemmas.{only_read_none, only_read_joins, reads_joins, reads_of}
 use Rattle.merkle_full.specs.Full.{Full}
 use Rattle.merkle_full.specs.Reading.{IsUnreadAmong}
-use Rattle.merkle_full.specs.Pruning.{IsMovedTo, KeepsPins, pinned_map}
+use Rattle.merkle_full.specs.Pruning.{IsMovedTo, KeepsPins, KeepsOthers, pinned_map}
 use Rattle.merkle_full.proofs.GrownLemmas.{reads_ok, err_same, memory_alone}
-use Rattle.merkle_full.proofs.PinnedLemmas.{pinned_keeps}
+use Rattle.merkle_full.proofs.PinnedLemmas.{pinned_keeps, pinned_others}
 use Rattle.merkle_full.proofs.PruneLemmas.{ready_full}
 use Rattle.merkle_full.proofs.RunLemmas.{same_fault, not_ok}
 use Rattle.merkle_full.proofs.merkle.Merkle.next.Goals as goal
@@ -105,3 +105,16 @@ returns-in_err-moved-clause-reads g c =
     (only_read_joins tells tree.Volume a a b c.in_ok-digests.digests (only_read_none tells a) (c.in_ok-digests.ensures {u = tt}).reads)
     (c.in_ok-map.ensures {u = tt}).reads)
     (memory_alone _ c.in_err-moved.field-0.0 c.from_residual-in_err-moved.ensures.1 c.in_err-moved.ensures.memory)
+
+pub returns-clause-others : goal.returns-clause-others
+returns-clause-others g c tells =
+    let s = g.F.Family.shape in
+    let name = c.args.self.metadata in
+    let was : Map = (g.V.Volume.state c.args.vol.now).map name in
+    let old : Map = (g.V.Volume.state c.peaks_at.new.vol).map name in
+    let ps = c.deref-2.result.now in
+    let read = (c.in_ok-digests.ensures {u = tt}).reads.contents tells in
+    let put = pinned_others g.D.Spelled.spelling old ps c.deref-3.result.now c.new.result in
+    let made = subst (λ (m : Map). KeepsOthers ps old m) (sym ((c.in_ok-map.ensures {u = tt}).map tells)) put in
+    let here = subst (λ (m : Map). KeepsOthers ps m c.in_ok-map.map) (read.maps name) made in
+    subst (λ (qs : List ℕ). KeepsOthers qs was c.in_ok-map.map) (c.deref-2.ensures.value ∙ c.in_ok-positions.ensures {u = tt} ∙ ap (λ (k : ℕ). pins s k) c.as_u64-leaves.ensures) here

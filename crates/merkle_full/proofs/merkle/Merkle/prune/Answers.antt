@@ -1,9 +1,10 @@
-use Rattle.std.proofs.Common.{max, ℕ, length, ◌∙◌, ap, subst}
+use Rattle.std.proofs.Common.{max, ℕ, length, refl, ◌∙◌, ap, subst}
 use Rattle.journal_base.specs.Blobs.{blob_start}
 use Rattle.journal_base.specs.Items.{items_of}
+use Rattle.tree_shape.specs.Pins.{pins}
 use Rattle.tree_shape.specs.Shape.{made}
 use Rattle.merkle_full.specs.Flushing.{AllStand}
-use Rattle.merkle_full.specs.Pruning.{StandsWhilePruned, IsOfPrune}
+use Rattle.merkle_full.specs.Pruning.{KeepsOthers, StandsWhilePruned, IsOfPrune}
 use Rattle.merkle_full.proofs.GrownLemmas.{err_same}
 use Rattle.merkle_full.proofs.PruneRun.{stays_before}
 use Rattle.merkle_full.proofs.merkle.Merkle.prune.Goals as goal
@@ -48,3 +49,11 @@ returns-in_err-pruned-clause-errors g c within =
     let e = c.in_err-pruned.field-0.0 in
     err_same _ e (IsOfPrune g.F.Family.shape g.V.Volume.tells c.args.self items c.args.loc) c.from_residual.ensures.1
     (subst (λ (k : ℕ). IsOfPrune g.F.Family.shape g.V.Volume.tells c.args.self items k e) (c.new-2.ensures ∙ c.as_u64-leaves.ensures) c.in_err-pruned.ensures.errors)
+
+pub returns-then-leaves-self-clause-others : goal.returns-then-leaves-self-clause-others
+returns-then-leaves-self-clause-others g c tells key apart not = refl
+
+pub returns-clause-others : goal.returns-clause-others
+returns-clause-others g c tells =
+    let t = c.args.self in
+    subst (λ (k : ℕ). KeepsOthers (pins g.F.Family.shape k) ((g.V.Volume.state c.args.vol.now).map t.metadata) ((g.V.Volume.state c.prune_above.new.vol).map t.metadata)) (c.new-2.ensures ∙ c.as_u64-leaves.ensures) ((c.in_ok-pruned.ensures {u = tt}).others tells)

@@ -4,10 +4,10 @@ use Rattle.tree_shape.specs.Pins.{pins}
 use Rattle.tree_store.specs.declared.error.Error.TheVariants as tree
 use Rattle.volume_base.proofs.JoinLemmas.{changes_of_writes, changes_of_reads, went_of_writes, went_of_reads, went_joins, changes_joins}
 use Rattle.merkle_full.specs.Flushing.{AllStand}
-use Rattle.merkle_full.specs.Pruning.{IsMovedTo, StandsWhilePruned, IsOfPrune}
+use Rattle.merkle_full.specs.Pruning.{IsMovedTo, KeepsOthers, StandsWhilePruned, IsOfPrune}
 use Rattle.merkle_full.specs.Reading.{IsUnreadAmong}
 use Rattle.merkle_full.proofs.GrownLemmas.{err_same}
-use Rattle.merkle_full.proofs.PruneRun.{names_wider, keeps_before, names_read, stands_read, run_rests, run_names, run_durable, run_stand, run_stands, run_settles, run_pins, run_start, unfailed, among_same}
+use Rattle.merkle_full.proofs.PruneRun.{names_wider, keeps_before, names_read, stands_read, run_rests, run_names, run_durable, run_stand, run_stands, run_settles, run_pins, run_others, run_start, unfailed, among_same}
 use Rattle.merkle_full.proofs.RunLemmas.{same_fault, not_ok}
 use Rattle.merkle_full.proofs.merkle.Merkle.prune_above.Goals as goal
 
@@ -216,3 +216,16 @@ returns-in_err-moved-clause-changes g c =
     (changes_of_reads tells tree.Volume b d (Err e) c.in_err-moved.ensures.reads)
     (same_fault _ (Err e) e tree.Volume refl c.from_residual-in_err-moved.ensures.1)
     (not_ok _ (λ x. x ≡ e) _ c.from_residual-in_err-moved.ensures.1)
+
+pub returns-clause-others : goal.returns-clause-others
+returns-clause-others g c tells =
+    let s = g.F.Family.shape in
+    let t = c.args.self in
+    let synced = c.in_ok-synced.ensures {u = tt} in
+    let did = c.in_ok-moved.ensures {u = tt} in
+    let a = g.V.Volume.state c.args.vol.now in
+    let b = g.V.Volume.state c.sync.new.vol in
+    let e = g.V.Volume.state c.store.new.vol in
+    let made = run_others c.new.result t c.in_ok-synced.synced c.in_ok-moved.moved c.in_ok-moved.moved synced.same did.moved (pins s c.new.result) a b e c.in_ok-moved.map
+    ((synced.names tells).others.maps t.metadata tt) (did.others tells) ((c.in_ok-pruned.ensures {u = tt}).stored tells) in
+    subst (λ (k : ℕ). KeepsOthers (pins s k) (a.map t.metadata) (e.map t.metadata)) (c.new.ensures ∙ c.as_u64-leaves.ensures) made

@@ -1,11 +1,12 @@
 use Rattle.std.proofs.Common.{◌≡◌, max, ℕ, length, ◌∙◌, ap, subst, arith}
 use Rattle.journal_base.specs.Blobs.{blob_start}
 use Rattle.journal_base.specs.Items.{items_of}
+use Rattle.tree_shape.specs.Pins.{pins}
 use Rattle.tree_shape.specs.Shape.{made}
 use Rattle.tree_store.specs.Stores.{IsOutside}
 use Rattle.merkle_full.specs.Flushing.{AllStand}
 use Rattle.merkle_full.specs.Full.{Full}
-use Rattle.merkle_full.specs.Pruning.{StandsWhilePruned, IsOfPrune}
+use Rattle.merkle_full.specs.Pruning.{KeepsOthers, StandsWhilePruned, IsOfPrune}
 use Rattle.merkle_full.proofs.GrownLemmas.{err_same}
 use Rattle.merkle_full.proofs.PruneRun.{can_prune}
 use Rattle.merkle_full.proofs.merkle.Merkle.prune_all.Goals as goal
@@ -46,3 +47,9 @@ returns-in_err-pruned-clause-errors g c =
     err_same _ e (IsOfPrune g.F.Family.shape g.V.Volume.tells c.args.self items c.args.self.tree.leaves) c.from_residual.ensures.1
     (subst (λ (k : ℕ). IsOfPrune g.F.Family.shape g.V.Volume.tells c.args.self items k e) at
     (c.in_err-pruned.ensures.errors (can_prune c.args.self.tree.leaves c.leaves-leaves.result (omega (arith, at)))))
+
+pub returns-clause-others : goal.returns-clause-others
+returns-clause-others g c tells =
+    let t = c.args.self in
+    let at : c.leaves-leaves.result ≡ t.tree.leaves = c.leaves-leaves.ensures.leaves ∙ ap (λ (u : Full g.row.D.Denot). u.tree.leaves) c.self.view_is in
+    subst (λ (k : ℕ). KeepsOthers (pins g.F.Family.shape k) ((g.V.Volume.state c.args.vol.now).map t.metadata) ((g.V.Volume.state c.prune.new.vol).map t.metadata)) at ((c.in_ok-pruned.ensures {u = tt}).others tells)
