@@ -1,7 +1,7 @@
 -- A sealed batch over a tree of the same list.
-use Rattle.std.proofs.Common.{◌≡◌, ℕ, ◌+◌, ◌-◌, ◌<◌, ◌≤◌, Bool, true, false, cond, inl, inr, List, ◌++◌, length, map, Some, None, refl, sym, ◌∙◌, ap, subst, arith}
-use Rattle.std.specs.Prelude.{slice_get, nat_le, Result, Ok, Err, IfOk, IfSome, IsSome, Option}
-use Rattle.std.proofs.lemmas.List.{map-append, length-map}
+use Rattle.std.proofs.Common.{◌≡◌, ℕ, ◌+◌, ◌-◌, ◌<◌, ◌≤◌, Bool, true, false, cond, inl, inr, List, [], ◌∷◌, ◌++◌, length, map, Some, None, refl, sym, ◌∙◌, ap, subst, arith}
+use Rattle.std.specs.Prelude.{slice_get, nat_le, if◌then◌else◌, Result, Ok, Err, IfOk, IfSome, IsSome, Option}
+use Rattle.std.proofs.lemmas.List.{map-append, length-map, append-nil, append_assoc}
 use Rattle.std.proofs.lemmas.Bool.Decides.{nat_tests, leb_tells}
 use Rattle.tree_shape.specs.Hashing.{Hashing}
 use Rattle.tree_shape.specs.Shape.{Shape, made, IsLawful}
@@ -9,7 +9,7 @@ use Rattle.tree_shape.specs.Places.{get-append}
 use Rattle.tree_shape.specs.Slow.{nodes, node_of}
 use Rattle.tree_store.specs.Stores.{IsTreeOf}
 use Rattle.tree_core.specs.Pruned.{made_from, nodes_from}
-use Rattle.tree_core.specs.Links.{joined_nodes}
+use Rattle.tree_core.specs.Links.{ChainSegment, IsLinked, joined_nodes}
 use Rattle.tree_core.specs.Tree.{Tree, node_at, IsOf}
 use Rattle.tree_core.specs.Batches.{Sealed, IsSoundSealed, IsSealedOf, sealed_node}
 use Rattle.tree_core.specs.Overlay.{overlaid, AreAlike}
@@ -48,6 +48,31 @@ sealed-size s b sound =
     let split = length-split s b.first (b.leaves - b.first) in
     let same : length (made s (b.first + (b.leaves - b.first))) ≡ length (made s b.leaves) = ap (λ n. length (made s n)) all in
     omega (arith, j.1, split, same)
+
+-- the nodes of segments with one more
+joined_push : {D : Type 0} (gs : List (ChainSegment D)) (g : ChainSegment D) → joined_nodes (gs ++ (g ∷ [])) ≡ joined_nodes gs ++ g.nodes
+joined_push [] g = append-nil g.nodes
+joined_push (f ∷ fs) g = ap (λ (l : List _). f.nodes ++ l) (joined_push fs g) ∙ sym (append_assoc f.nodes (joined_nodes fs) g.nodes)
+
+-- a node of the last segment stands behind the nodes before the segment
+pub own_node : {D X : Type 0} (s : Shape) (f : X → ChainSegment D) (first n k : ℕ) (xs ys : List X) (x : X) (d : D) → ys ≡ xs ++ (x ∷ []) → IsLinked s first (map f xs) n → slice_get (f x).nodes k ≡ Some d
+    → (if nat_le (length (made s first)) (length (made s n) + k) then slice_get (joined_nodes (map f ys)) (length (made s n) + k - length (made s first)) else None) ≡ Some d
+own_node s f first n k xs ys x d e l is =
+    let j = joined_length s first (map f xs) n l in
+    let whole : first + (n - first) ≡ n = omega (arith, j.0) in
+    let same : length (made s (first + (n - first))) ≡ length (made s n) = ap (λ m. length (made s m)) whole in
+    let split = length-split s first (n - first) in
+    let size = length (made s first) in
+    let place = length (made s n) + k in
+    let all : map f ys ≡ map f xs ++ (f x ∷ []) = ap (map f) e ∙ map-append f xs (x ∷ []) in
+    let at : place - size ≡ length (joined_nodes (map f xs)) + k = omega (arith, same, split, j.1) in
+    let here : slice_get (joined_nodes (map f ys)) (place - size) ≡ Some d =
+    ap (λ (gs : List (ChainSegment _)). slice_get (joined_nodes gs) (place - size)) all ∙ ap (λ (ns : List _). slice_get ns (place - size)) (joined_push (map f xs) (f x))
+    ∙ ap (slice_get (joined_nodes (map f xs) ++ (f x).nodes)) at ∙ get_past (joined_nodes (map f xs)) (f x).nodes k ∙ is in
+    elim (leb_tells size place) [
+      | inl t ↦ rw t.0 here
+      | inr u ↦ absurd (omega (arith, same, split, u.1))
+    ]
 
 -- so from there on each node is there
 pub sealed-since : {D : Type 0} (s : Shape) (b : Sealed D) (p : ℕ) → IsSoundSealed s b → length (made s b.first) ≤ p → p < length (made s b.leaves) → IsSome (sealed_node s b p)

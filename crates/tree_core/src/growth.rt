@@ -1,5 +1,5 @@
 //! What appends make after a mark.
-ghost use Rattle.std.specs.Prelude.{◌≡◌, ℕ, ◌+◌, ◌-◌, ◌≤◌, ◌<◌, ◌^◌, List, length, map, take, OnOk, IfOk, Some};
+ghost use Rattle.std.specs.Prelude.{◌≡◌, ℕ, ◌+◌, ◌-◌, ◌≤◌, ◌<◌, ◌^◌, List, length, map, take, slice_get, OnOk, IfOk, Some};
 ghost use Rattle.tree_shape.specs.Shape.{peaks_down};
 ghost use Rattle.tree_shape.specs.Slow.{node_of};
 ghost use Rattle.tree_core.specs.Pruned.{made_from, nodes_from, peaks_at, Continues};
@@ -26,6 +26,9 @@ fn push_parents<F: Family, H: Hasher>(
         let made = made_from F.shape mark.now.leaves (later + 1) in
         since.old.items ≡ map (node_of F.shape H.hash leaves) (take (length since.old.items) made) →
         since.new.items ≡ nodes_from F.shape H.hash leaves mark.now.leaves (later + 1)) }
+    // What stood there stands there still.
+    ensures front { OnOk result ((i : ℕ) (d : H.Digest) →
+        slice_get since.old.items i ≡ Some d → slice_get since.new.items i ≡ Some d) }
 {
     let n = mark.leaves + later;
     let size = F::size(mark.leaves);
@@ -56,6 +59,9 @@ pub(crate) fn nodes_after<F: Family, H: Hasher>(
         mark.now.peaks.items ≡ peaks_at F.shape H.hash all mark.now.leaves →
         Continues all mark.now.leaves digests.now →
         since.items ≡ nodes_from F.shape H.hash all mark.now.leaves (length digests.now)) }
+    // Whatever the mark, each leaf digest stands behind what the leaves before it made.
+    ensures leaves { IfOk result (λ since. (i : ℕ) (d : H.Digest) → slice_get digests.now i ≡ Some d →
+        slice_get since.items (length (made_from F.shape mark.now.leaves i)) ≡ Some d) }
 {
     let mut since = Vec::new(alloc);
     for i in 0..digests.len() {

@@ -47,10 +47,11 @@ impl<F: Family, D: Digest> Model for UnmerkleizedBatch<F, D> {
 }
 
 impl<F: Family, D: Digest> UnmerkleizedBatch<F, D> {
-    ghost use Rattle.std.specs.Prelude.{◌≡◌, ℕ, ◌+◌, ◌-◌, ◌≤◌, ◌<◌, ◌^◌, List, [], ◌∷◌, ◌++◌, length, map, IfOk, OnOk, OnErr, IsOkUnless};
+    ghost use Rattle.std.specs.Prelude.{◌≡◌, ℕ, ◌+◌, ◌-◌, ◌≤◌, ◌<◌, ◌^◌, List, [], ◌∷◌, ◌++◌, length, map, slice_get, Some, IfOk, OnOk, OnErr, IsOkUnless};
     ghost use Rattle.tree_shape.specs.Slow.{leaf};
+    ghost use Rattle.tree_shape.specs.Shape.{made};
     ghost use Rattle.tree_core.specs.Links.{ChainSegment, IsLinked, AreChained, StandsBehind};
-    ghost use Rattle.tree_core.specs.Batches.{Unsealed, IsUnsealedOf, IsSealedOf, IsSealedFrom, leaf_count, with_digests};
+    ghost use Rattle.tree_core.specs.Batches.{Unsealed, IsUnsealedOf, IsSealedOf, IsSealedFrom, leaf_count, with_digests, sealed_node};
 
     /// An empty batch that stands on a mark, behind these segments.
     pub(crate) fn begin(
@@ -139,6 +140,9 @@ impl<F: Family, D: Digest> UnmerkleizedBatch<F, D> {
         ensures sealed { IfOk result (λ b. IsSealedFrom self reached b) }
         ensures batch { IfOk result (λ b. (all : List D) → IsUnsealedOf F.shape H.hash all self →
             IsSealedOf F.shape H.hash (all ++ self.digests) b) }
+        // Each of its leaf digests stands where it was added, whatever it goes on from.
+        ensures leaves { IfOk result (λ b. (i : ℕ) (d : D) → slice_get self.digests i ≡ Some d →
+            sealed_node F.shape b (length (made F.shape (self.base + i))) ≡ Some d) }
         ensures memory { IsOkUnless result Error.Memory }
     {
         let UnmerkleizedBatch {

@@ -1,10 +1,14 @@
-use Rattle.std.proofs.Common.{◌≡◌, ◌-◌, ◌++◌, length, sym, ◌∙◌, ap, subst, arith, length-append}
+use Rattle.std.proofs.Common.{◌≡◌, ℕ, ◌+◌, ◌-◌, ◌++◌, List, Some, length, sym, ◌∙◌, ap, subst, arith, length-append}
 use Rattle.std.proofs.lemmas.List.{length-map}
+use Rattle.std.specs.Prelude.{slice_get}
+use Rattle.tree_shape.specs.Shape.{made}
 use Rattle.tree_core.specs.Pruned.{made_from, nodes_from, peaks_at, Continues}
 use Rattle.tree_core.specs.Links.{ChainSegment}
-use Rattle.tree_core.specs.Batches.{Sealed, Unsealed, IsUnsealedOf, IsSealedOf}
+use Rattle.tree_core.specs.Batches.{Sealed, Unsealed, IsUnsealedOf, IsSealedOf, sealed_node}
 use Rattle.tree_core.proofs.LinkLemmas.{linked_push_map, batch_push_map, continues, ends_with, peaks_longer, linked_drop_at, batch_drop}
 use Rattle.tree_core.proofs.ChainLemmas.{chained_seal}
+use Rattle.tree_core.proofs.Later.{length-split}
+use Rattle.tree_core.proofs.OverlayLemmas.{own_node}
 use Rattle.tree_core.proofs.unsealed.UnmerkleizedBatch.merkleize.Goals as goal
 
 pub seal-requires : goal.seal-requires
@@ -45,3 +49,19 @@ returns-clause-batch g c all un =
     (ap (λ (l : ChainSegment g.row.D.Denot). l.later) own ∙ c.len-later.ensures ∙ c.self.inside.digests.ok.0)
     (ap (λ (l : ChainSegment g.row.D.Denot). l.nodes) own ∙ nodes ∙ ap (λ b. nodes_from s h (all ++ c.self.inside.digests.items) b (length c.self.inside.digests.items)) end) in
     subst (λ (b : Unsealed g.row.D.Denot). IsSealedOf s h (all ++ b.digests) c.seal.result) c.self.view_is (subst (λ (z : Sealed g.row.D.Denot). IsSealedOf s h (all ++ c.self.inside.digests.items) z) (sym c.seal.ensures) sealed)
+
+pub returns-clause-leaves : goal.returns-clause-leaves
+returns-clause-leaves g c i d is =
+    let s = g.F.Family.shape in
+    let own = c.in_ok-own.ensures.ok ∙ c.new.ensures in
+    let n = c.self.inside.base.leaves in
+    let k = length (made_from s n i) in
+    let digests : c.self.inside.digests.items ≡ c.args.self.digests = ap (λ (b : Unsealed g.row.D.Denot). b.digests) c.self.view_is in
+    let base : n ≡ c.args.self.base = ap (λ (b : Unsealed g.row.D.Denot). b.base) c.self.view_is in
+    let kept = linked_drop_at s c.self.inside.first _ _ n (c.len.result - c.args.reached) c.first_of-first.result c.keep_from.ensures (rw c.deref.ensures.value at c.first_of-first.ensures) c.self.invariant.linked in
+    let there = c.in_ok-nodes.ensures.leaves i d (ap (λ (l : List _). slice_get l i) (c.deref-2.ensures.value ∙ digests) ∙ is) in
+    let here = ap (λ (l : ChainSegment g.row.D.Denot). slice_get l.nodes k) own ∙ there in
+    let stands = own_node s _ c.first_of-first.result n k c.keep_from.new.segments.items c.push_own.new.segments.items c.in_ok-own.own d c.in_ok-push_own.ensures kept here in
+    let place : length (made s n) + k ≡ length (made s (c.args.self.base + i)) = sym (length-split s n i) ∙ ap (λ (m : ℕ). length (made s (m + i))) base in
+    subst (λ (p : ℕ). sealed_node s c.seal.result p ≡ Some d) place
+    (subst (λ (z : Sealed g.row.D.Denot). sealed_node s z (length (made s n) + k) ≡ Some d) (sym c.seal.ensures) stands)
