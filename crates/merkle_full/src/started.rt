@@ -19,11 +19,11 @@ impl<F: Family, D: Digest> Merkle<F, D> {
     ghost use Rattle.volume_base.specs.Names.{log_alone, NamesCall};
     ghost use Rattle.volume_base.specs.Volume.{LogCall, Writes};
     ghost use Rattle.merkle_full.specs.Flushing.{IsSameTree, IsFilled, after_start, outcome, AllStand, AllKeepStanding, IsOfFlush};
-    ghost use Rattle.merkle_full.specs.Full.{Full, Rests};
+    ghost use Rattle.merkle_full.specs.Full.{Full, Rests, IsSeated};
     ghost use Rattle.merkle_full.specs.Lists.{IsFullOf};
 
-    /// As `sync`, within the call: the ticket tells how the sync of the log has ended. A tree beside a failed ticket keeps the
-    /// failure.
+    /// As `sync`, within the call: the ticket tells how the sync of the log has ended. A tree beside a failed ticket
+    /// keeps the failure.
     pub fn start_sync<V: Volume>(self, vol: &mut V) -> Result<(Self, SyncTicket), Error<F>>
         ensures kept { self.log.failed ≡ true → IsErrOf result Error.Volume × (vol.new ≡ vol.old) }
         // Where the log lacks no node, a failure of the volume is the ticket's.
@@ -34,7 +34,8 @@ impl<F: Family, D: Digest> Merkle<F, D> {
         ensures rested { IfOk result (λ made. IsRested F.shape self.boundary self.tree made.0.tree) }
         // Of any tree, whatever the volume holds: behind what the log had stand the nodes of memory.
         ensures filled { let name = self.log.name in OnOk result (V.tells →
-            IsFilled F.shape D.spelling self.tree self.log.end ((V.state vol.old).log name) ((V.state vol.new).log name)) }
+            IsFilled F.shape D.spelling self.tree self.log.end ((V.state vol.old).log name)
+            ((V.state vol.new).log name)) }
         ensures start { IfOk result (λ made. V.tells → (h : Hashing D) (all : List D) →
             IsFullOf F.shape h D.spelling (D.Read.admits tt) all self (present (V.state vol.old)) →
             made.0.log.start ≡ self.log.start) }
@@ -50,6 +51,10 @@ impl<F: Family, D: Digest> Merkle<F, D> {
         ensures outside { V.tells → (h : Hashing D) (all : List D) →
             IsFullOf F.shape h D.spelling (D.Read.admits tt) all self (present (V.state vol.old)) →
             IfErr result IsOutside }
+        // So it is wherever the log has its bounds; and then it has them afterwards.
+        ensures bounded { V.tells → IsSeated F.shape self (present (V.state vol.old)) → IfErr result IsOutside }
+        ensures seated { IfOk result (λ made. V.tells → IsSeated F.shape self (present (V.state vol.old)) →
+            IsSeated F.shape made.0 (present (V.state vol.new))) }
         // Every other log and every map stays, and so does what a crash leaves of it.
         ensures names { V.tells → NamesCall (log_alone self.log.name) (V.state vol.old) (V.state vol.new) }
         ensures images { V.tells → (h : Hashing D) (all : List D) (durable top : ℕ) →

@@ -1,11 +1,11 @@
 use Rattle.std.proofs.Common.{◌≡◌, inl, ℕ, List, Ok, refl, sym, ◌∙◌, ap, subst}
-use Rattle.volume_base.specs.Log.{Log}
+use Rattle.volume_base.specs.Log.{Log, end_of}
 use Rattle.volume_base.specs.Moments.{present}
 use Rattle.volume_base.proofs.JoinLemmas.{writes_joins}
 use Rattle.tree_core.specs.Tree.{IsRested}
 use Rattle.tree_store.specs.declared.error.Error.TheVariants as tree
 use Rattle.merkle_full.specs.Flushing.{outcome, IsFilled, IsOfFlush}
-use Rattle.merkle_full.specs.Full.{Full}
+use Rattle.merkle_full.specs.Full.{Full, IsSeated}
 use Rattle.merkle_full.proofs.FullLemmas.{full_later}
 use Rattle.merkle_full.proofs.GrownLemmas.{err_same}
 use Rattle.merkle_full.proofs.RunLemmas.{names_then_log, renamed_durable}
@@ -98,3 +98,13 @@ returns-clause-filled g c tells =
     let flushed = c.in_ok-flushed.ensures {u = tt} in
     let log = subst (λ (n : List ℕ). s2.log n ≡ s1.log n) (ap (λ v. v.name) flushed.same.log) ((c.in_ok-started.ensures {u = tt}).contents tells) in
     subst (λ (l : Log). IsFilled g.F.Family.shape g.D.Spelled.spelling r.tree r.log.end (s0.log r.log.name) l) (sym log) (flushed.filled tells)
+
+pub returns-clause-seated : goal.returns-clause-seated
+returns-clause-seated g c tells seated =
+    let s = g.F.Family.shape in
+    let flushed = c.in_ok-flushed.ensures {u = tt} in
+    let started = c.in_ok-started.ensures {u = tt} in
+    let d = present (g.V.Volume.state c.start_log.new.vol) in
+    let here = flushed.seated tells seated in
+    let log = started.contents tells in
+    subst (λ (t : Full g.row.D.Denot). IsSeated s t d) (sym started.same) (record { start_is = here.start_is ∙ ap (λ (l : Log). l.start) (sym log); end_is = here.end_is ∙ ap end_of (sym log); nodes = here.nodes })
