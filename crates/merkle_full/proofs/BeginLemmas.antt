@@ -109,7 +109,7 @@ pub pins_known : {D : Type 0} (known : Type 0) (source : Source D) (ps qs : List
 pins_known known source ps qs given ds k same are = record {
   counted = are.counted ∙ ap length same;
   handed = are.handed;
-  read = λ none i p d at is. let r = are.read none i p d (ap (λ (l : List ℕ). slice_get l i) same ∙ at) is in record { pinned = r.pinned; logged = λ gone _. r.logged gone k };
+  read = λ none i p d at is. let r = are.read none i p d (ap (λ (l : List ℕ). slice_get l i) same ∙ at) is in record { allowed = r.allowed; pinned = r.pinned; logged = λ gone _. r.logged gone k };
 }
 
 pub held_later : {C : Type 0} (view : View C) (a b : State) → SameContents a b → IsHeld view a → IsHeld view b

@@ -21,7 +21,7 @@ use Rattle.merkle_full.specs.Preparing.{contents_of, has_orphan, leaves_reached,
 
 module _ {D : Type 0} (known : Type 0) (k : known) (source : Source D) where
   recovered_known : (p : ℕ) (d : D) → IsRecovered known source p d → IsRecovered (Unit {0}) source p d
-  recovered_known p d r = record { pinned = r.pinned; logged = λ none _. r.logged none k }
+  recovered_known p d r = record { allowed = r.allowed; pinned = r.pinned; logged = λ none _. r.logged none k }
 
   pub recalled_known : (count : ℕ) (t : Tree D) → IsRecalled known source count t → IsRecalled (Unit {0}) source count t
   recalled_known count t all p d lt at = recovered_known p d (all p d lt at)

@@ -98,10 +98,10 @@ module _ {D C : Type 0} (tells : Type 0) (spelling : D → List ℕ) (admits : C
       record { start_is = within.start_is ∙ ap (λ (l : Log). l.start) (sym log); low = within.low; high = omega (arith, within.high, ap end_of log) }
 
   pub recovered_before : (p : ℕ) (d : D) → IsRecovered tells (source_of spelling admits pinned view new) p d → IsRecovered (tells × IsWithin view old) (source_of spelling admits pinned view old) p d
-  recovered_before p d r = record { pinned = r.pinned; logged = λ none known. subst (λ (l : Log). IsItemAt l p (spelling d)) ((same known.0).logs view.name) (r.logged none known.0) }
+  recovered_before p d r = record { allowed = r.allowed; pinned = r.pinned; logged = λ none known. subst (λ (l : Log). IsItemAt l p (spelling d)) ((same known.0).logs view.name) (r.logged none known.0) }
 
   pub known_before : (p : ℕ) (d : D) → IsRecovered (tells × IsWithin view new) (source_of spelling admits pinned view new) p d → IsRecovered (tells × IsWithin view old) (source_of spelling admits pinned view old) p d
-  known_before p d r = record { pinned = r.pinned; logged = λ none known. subst (λ (l : Log). IsItemAt l p (spelling d)) ((same known.0).logs view.name) (r.logged none (known.0, within_now known.0 known.1)) }
+  known_before p d r = record { allowed = r.allowed; pinned = r.pinned; logged = λ none known. subst (λ (l : Log). IsItemAt l p (spelling d)) ((same known.0).logs view.name) (r.logged none (known.0, within_now known.0 known.1)) }
 
   pub all_before : (ps : List ℕ) → AllRecovered (tells × IsWithin view new) (source_of spelling admits pinned view new) ps → AllRecovered (tells × IsWithin view old) (source_of spelling admits pinned view old) ps
   all_before ps all i p at = let r = all i p at in (r.0, known_before p r.0 r.1)

@@ -6,6 +6,8 @@ use Rattle.volume_base.specs.Volume.{State, Map}
 use Rattle.tree_shape.specs.Hashing.{Hashing}
 use Rattle.tree_shape.specs.Shape.{Shape}
 use Rattle.tree_store.specs.Stored.{TreeStands, size}
+use Rattle.tree_core.specs.Tree.{Tree, IsRested}
+use Rattle.merkle_full.specs.Flushing.{IsFilled}
 use Rattle.merkle_full.specs.Full.{Full}
 use Rattle.merkle_full.specs.Lists.{AreDigests, IsFullOf}
 use Rattle.merkle_full.specs.Opening.{stored_in}
@@ -18,19 +20,28 @@ pub record IsOpenedAs {D : Type 0} (nodes : List ℕ) (blob : ℕ) (metadata : L
   pub unfailed : t.log.failed ≡ false
   pub metadata_is : t.metadata ≡ metadata
 
--- The log is that of the tree which is opened, up to the nodes of its complete leaves.
-pub record IsOpenedLog (F : Type 0) (s : Shape) (m : Map) (blob boundary complete : ℕ) (old new : Log) : Type 0 where
+-- The log is that of the tree which is opened, up to the nodes of its complete leaves; behind these stand the further
+-- nodes of memory.
+pub record IsOpenedLog {D : Type 0} (F : Type 0) (s : Shape) (spelling : D → List ℕ) (t : Tree D) (m : Map)
+    (blob boundary complete : ℕ)
+    (old new : Log) : Type 0 where
   pub stored : Option ℕ
   pub stored_is : stored_in {F = F} m ≡ Ok stored
   pub log : cut_to new (size s complete) ≡ settled_log s blob boundary complete (log_kept stored old)
+  pub filled : IsFilled s spelling t (size s complete) (settled_log s blob boundary complete (log_kept stored old)) new
 
--- It is pruned at, and has, as many leaves as boundary, nodes and cap allow; its memory is recovered, and its log is what is kept.
-pub record IsOpenedUnder {D : Type 0} (F : Type 0) (spelling : D → List ℕ) (admits : D → Type 0) (s : Shape) (m : Map) (old new : Log) (cap : ℕ) (t : Full D) : Type 0 where
+-- It is pruned at, and has, as many leaves as boundary, nodes and cap allow. What its memory was before it came to rest
+-- is recovered, with the orphan that the log has; and its log is what is kept, with the further nodes of that memory.
+pub record IsOpenedUnder {D : Type 0} (F : Type 0) (spelling : D → List ℕ) (admits : D → Type 0) (s : Shape) (m : Map)
+    (old new : Log) (cap : ℕ)
+    (t : Full D) : Type 0 where
   pub boundary : ℕ
   pub complete : ℕ
   pub opens : Opens F spelling admits s m old cap boundary complete t.boundary t.tree.leaves
-  pub recalls : Recalls F spelling admits s m old complete t.tree
-  pub log : IsOpenedLog F s m t.log.blob boundary complete old new
+  pub was : Tree D
+  pub recalls : Recalls F spelling admits s m old complete was
+  pub rested : IsRested s t.boundary was t.tree
+  pub log : IsOpenedLog F s spelling was m t.log.blob boundary complete old new
 
 -- For each list that map and log stood for, it is held, and is the tree of its first leaves.
 abbrev pub IsOfEach : {D : Type 0} → Shape → Hashing D → (D → List ℕ) → (D → Type 0) → Map → Log → Full D → Image

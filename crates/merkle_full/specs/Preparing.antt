@@ -35,18 +35,30 @@ has_orphan s cap end complete = nat_lt complete cap && nat_lt (size s complete) 
 abbrev pub leaves_reached : Shape → ℕ → ℕ → ℕ → ℕ
 leaves_reached s cap end complete = if has_orphan s cap end complete then complete + 1 else complete
 
--- the node log of an opened tree: cut to the nodes of the complete leaves, and from the blob of the boundary's position on
+-- the node log of an opened tree: cut to the nodes of the complete leaves, and from the blob of the boundary's position
+-- on
 abbrev pub settled_log : Shape → ℕ → ℕ → ℕ → Log → Log
 settled_log s blob boundary complete log = pruned_to (cut_to log (size s complete)) (blob_start blob (size s boundary))
 
+-- at this position a log holds this digest, and it is allowed
+pub record IsLogged {D : Type 0} (items : Items D) (p : ℕ) (d : D) : Type 0 where
+  pub held : Holds items p d
+  pub allowed : items.admits d
+
 -- Where an orphan leaf stands behind the nodes of so many leaves, it is a digest.
 abbrev pub IsOrphanRead : {D : Type 0} → Items D → Shape → ℕ → ℕ → ℕ → Type 0
-IsOrphanRead {D} items s cap end complete = has_orphan s cap end complete ≡ true → (d : D) × Holds items (size s complete) d
+IsOrphanRead {D} items s cap end complete = has_orphan s cap end complete ≡ true → (d : D)
+    × IsLogged items (size s complete) d
+
+-- what memory has at this position is what the log holds there
+abbrev pub HasLogged : {D : Type 0} → Items D → ℕ → Tree D → Type 0
+HasLogged {D} items p t = (d : D) → node_at t p ≡ Some d → IsLogged items p d
 
 -- Why the orphan isn't added: by the outside, or it is no digest.
 abbrev pub NotReached : {F D : Type 0} → Items D → Shape → ℕ → ℕ → ℕ → Error F → Type 0
 NotReached items s cap end complete e = IsOutside e
-    ⊎ ((has_orphan s cap end complete ≡ true) × (e ≡ Journal (journal.Corruption (size s complete))) × IsCorrupt items (size s complete))
+    ⊎ ((has_orphan s cap end complete ≡ true) × (e ≡ Journal (journal.Corruption (size s complete)))
+    × IsCorrupt items (size s complete))
 
 -- a map beside a log, whose bounds are known
 abbrev pub contents_of : {D : Type 0} → (D → List ℕ) → (D → Type 0) → Map → Log → Source D
@@ -65,8 +77,8 @@ NotOpened known source s boundary cap e =
     × (NotReopened known source s complete pruned e
     ⊎ (ArePeaksRecovered known source s complete pruned × NotReached source.items s cap source.end complete e)))
 
--- Why no tree is prepared from a map and a log under a cap: by the outside; or the stored boundary is none; or no memory is made of the
--- map and of the log that is kept.
+-- Why no tree is prepared from a map and a log under a cap: by the outside; or the stored boundary is none; or no
+-- memory is made of the map and of the log that is kept.
 abbrev pub NotPrepared : {F D : Type 0} → (D → List ℕ) → (D → Type 0) → Shape → Map → Log → ℕ → Error F → Type 0
 NotPrepared {F} spelling admits s m log cap e = IsOutside e
     ⊎ ((stored_in m ≡ Err e)
@@ -77,8 +89,8 @@ NotPrepared {F} spelling admits s m log cap e = IsOutside e
 abbrev pub map_code : Coded Map
 map_code = finmap.code (coded_list coded_ℕ) (coded_list coded_ℕ)
 
--- What stands ready to be opened: memory; the log, seen to its end; the map that was read, and its name; the stored boundary, or 0; the
--- complete leaves; and those at which the tree is pruned.
+-- What stands ready to be opened: memory; the log, seen to its end; the map that was read, and its name; the stored
+-- boundary, or 0; the complete leaves; and those at which the tree is pruned.
 pub record Prepared (D : Type 0) : Type 0 where
   pub tree : Tree D
   pub log : View (Unit {0})
@@ -88,8 +100,8 @@ pub record Prepared (D : Type 0) : Type 0 where
   pub complete : ℕ
   pub pruned : ℕ
 
--- It is selected from the map that was read and the log's bounds under a cap. Memory is that of the complete leaves at rest, with the peaks
--- of those at which the tree is pruned, and of an orphan.
+-- It is selected from the map that was read and the log's bounds under a cap. Memory is that of the complete leaves at
+-- rest, with the peaks of those at which the tree is pruned, and of an orphan.
 pub record IsReady {D : Type 0} (F : Type 0) (s : Shape) (r : Prepared D) : Type 0 where
   pub stored : Option ℕ
   pub stored_is : stored_in {F = F} r.read ≡ Ok stored
@@ -102,22 +114,27 @@ pub record IsReady {D : Type 0} (F : Type 0) (s : Shape) (r : Prepared D) : Type
   pub rested : r.tree.boundary ≡ r.complete
   pub exact : (p : ℕ) → p < size s r.complete → is_some (node_at r.tree p) ≡ rests s r.complete r.pruned p
 
--- Of a map and a log under a cap, a tree of so many leaves is opened that is pruned at so many: where this boundary is stored, or none and
--- it is 0, and so many leaves are complete.
-pub record Opens {D : Type 0} (F : Type 0) (spelling : D → List ℕ) (admits : D → Type 0) (s : Shape) (m : Map) (log : Log) (cap boundary complete pruned leaves : ℕ) : Type 0 where
+-- Of a map and a log under a cap, a tree of so many leaves is opened that is pruned at so many: where this boundary is
+-- stored, or none and it is 0, and so many leaves are complete.
+pub record Opens {D : Type 0} (F : Type 0) (spelling : D → List ℕ) (admits : D → Type 0) (s : Shape) (m : Map)
+    (log : Log) (cap boundary complete pruned leaves : ℕ) : Type 0 where
   pub stored : Option ℕ
   pub stored_is : stored_in {F = F} m ≡ Ok stored
   pub boundary_is : boundary ≡ unwrap_or stored 0
   pub selects : Selects s boundary (log_kept stored log).start (end_of (log_kept stored log)) cap complete pruned
   pub peaks : ArePeaksRecovered (Unit {0}) (contents_of spelling admits m (log_kept stored log)) s complete pruned
-  pub orphan : IsOrphanRead (contents_of spelling admits m (log_kept stored log)).items s cap (end_of (log_kept stored log)) complete
+  pub orphan : IsOrphanRead (contents_of spelling admits m (log_kept stored log)).items s cap
+      (end_of (log_kept stored log)) complete
   pub leaves_are : leaves ≡ leaves_reached s cap (end_of (log_kept stored log)) complete
 
--- Each node that memory has of the complete leaves is recovered from a map and the log that is kept: a pin before what the log has.
-pub record Recalls {D : Type 0} (F : Type 0) (spelling : D → List ℕ) (admits : D → Type 0) (s : Shape) (m : Map) (log : Log) (complete : ℕ) (t : Tree D) : Type 0 where
+-- Each node that memory has of the complete leaves is recovered from a map and the log that is kept: a pin before what
+-- the log has. The orphan that stands behind them is the log's.
+pub record Recalls {D : Type 0} (F : Type 0) (spelling : D → List ℕ) (admits : D → Type 0) (s : Shape) (m : Map)
+    (log : Log) (complete : ℕ) (t : Tree D) : Type 0 where
   pub stored : Option ℕ
   pub stored_is : stored_in {F = F} m ≡ Ok stored
   pub recalled : IsRecalled (Unit {0}) (contents_of spelling admits m (log_kept stored log)) (size s complete) t
+  pub orphan : HasLogged (contents_of spelling admits m (log_kept stored log)).items (size s complete) t
 
 -- The volume holds log and map as it has them.
 pub record IsPreparedIn {D : Type 0} (r : Prepared D) (state : State) : Type 0 where

@@ -32,18 +32,21 @@ source_of spelling admits pins view state = record {
   end = view.end;
 }
 
--- The node at a position is this: a pin counts before the log. What the log has is told where its contents are known.
+-- The node at a position is this, a digest that is allowed: a pin counts before the log. What the log has is told where
+-- its contents are known.
 pub record IsRecovered {D : Type 0} (known : Type 0) (source : Source D) (p : ℕ) (d : D) : Type 0 where
+  pub allowed : source.items.admits d
   pub pinned : (bytes : List ℕ) → finmap.get source.pins (node_key p) ≡ Some bytes → bytes ≡ source.items.spelling d
   pub logged : finmap.get source.pins (node_key p) ≡ None → known → Holds source.items p d
 
 -- the pin at a position is no digest
 pub record IsNoDigest {D : Type 0} (source : Source D) (p : ℕ) : Type 0 where
   pub some : IsSome (finmap.get source.pins (node_key p))
-  pub unspelled : (bytes : List ℕ) (d : D) → finmap.get source.pins (node_key p) ≡ Some bytes → source.items.admits d → bytes ≡ source.items.spelling d → ⊥
+  pub unspelled : (bytes : List ℕ) (d : D) → finmap.get source.pins (node_key p) ≡ Some bytes → source.items.admits d
+      → bytes ≡ source.items.spelling d → ⊥
 
--- Why the node at a position isn't recovered: by the outside; or its pin is no digest; or no pin is there, and the log either doesn't
--- have the position, or has bytes there that are no digest.
+-- Why the node at a position isn't recovered: by the outside; or its pin is no digest; or no pin is there, and the log
+-- either doesn't have the position, or has bytes there that are no digest.
 abbrev pub NotRecovered : {F D : Type 0} → Type 0 → Source D → ℕ → Error F → Type 0
 NotRecovered known source p e = IsOutside e
     ⊎ (((e ≡ DataCorrupted Digest) × IsNoDigest source p)
@@ -70,10 +73,12 @@ NotAllRecovered known source ps e = IsOutside e ⊎ IsFirstLost known source ps 
 -- what is recovered at each peak of a number of leaves is the node of a list of leaf digests there
 abbrev pub TellsPeaks : {D : Type 0} → Type 0 → Source D → Shape → Hashing D → List D → ℕ → Type 0
 TellsPeaks {D} known source s h all leaves =
-    (i p : ℕ) (d : D) → slice_get (pins s leaves) i ≡ Some p → IsRecovered known source p d → slice_get (nodes s h all) p ≡ Some d
+    (i p : ℕ) (d : D) → slice_get (pins s leaves) i ≡ Some p → IsRecovered known source p d
+    → slice_get (nodes s h all) p ≡ Some d
 
 -- Each peak of the leaves is recovered, and each of those at which the tree is pruned.
-pub record ArePeaksRecovered {D : Type 0} (known : Type 0) (source : Source D) (s : Shape) (leaves boundary : ℕ) : Type 0 where
+pub record ArePeaksRecovered {D : Type 0} (known : Type 0) (source : Source D) (s : Shape)
+    (leaves boundary : ℕ) : Type 0 where
   pub of_leaves : AllRecovered known source (pins s leaves)
   pub of_boundary : AllRecovered known source (pins s boundary)
 

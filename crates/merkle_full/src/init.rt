@@ -26,8 +26,9 @@ impl<F: Family, D: Digest> Merkle<F, D> {
         // It keeps no failure; its log and its map are those of the configuration.
         ensures named { IfOk result (IsOpenedAs (string_bytes cfg.nodes) (non_zero_u64_get cfg.items_per_blob)
             (string_bytes cfg.metadata)) }
-        // It is pruned at, and has, as many leaves as boundary, nodes and cap allow. Its memory is recovered, a pin before
-        // what the log has. Its log is what is kept up to the complete nodes, from the blob of the boundary's position on.
+        // It is pruned at, and has, as many leaves as boundary, nodes and cap allow. Its memory is recovered, a pin
+        // before what the log has, and an orphan is the log's. Its log is what is kept up to the complete nodes, from
+        // the blob of the boundary's position on, with the nodes of an orphan behind them.
         ensures opens { let map = (V.state vol.old).map (string_bytes cfg.metadata) in
             let old = (V.state vol.old).log (string_bytes cfg.nodes) in
             let new = (V.state vol.new).log (string_bytes cfg.nodes) in
@@ -70,8 +71,9 @@ impl<F: Family, D: Digest> Merkle<F, D> {
         // It keeps no failure; its log and its map are those of the configuration.
         ensures named { IfOk result (IsOpenedAs (string_bytes cfg.nodes) (non_zero_u64_get cfg.items_per_blob)
             (string_bytes cfg.metadata)) }
-        // It is pruned at, and has, as many leaves as boundary, nodes and cap allow. Its memory is recovered, a pin before
-        // what the log has. Its log is what is kept up to the complete nodes, from the blob of the boundary's position on.
+        // It is pruned at, and has, as many leaves as boundary, nodes and cap allow. Its memory is recovered, a pin
+        // before what the log has, and an orphan is the log's. Its log is what is kept up to the complete nodes, from
+        // the blob of the boundary's position on, with the nodes of an orphan behind them.
         ensures opens { let map = (V.state vol.old).map (string_bytes cfg.metadata) in
             let old = (V.state vol.old).log (string_bytes cfg.nodes) in
             let new = (V.state vol.new).log (string_bytes cfg.nodes) in
@@ -113,8 +115,9 @@ impl<F: Family, D: Digest> Merkle<F, D> {
         // It keeps no failure; its log and its map are those of the configuration.
         ensures named { IfOk result (IsOpenedAs (string_bytes cfg.nodes) (non_zero_u64_get cfg.items_per_blob)
             (string_bytes cfg.metadata)) }
-        // It is pruned at, and has, as many leaves as boundary, nodes and cap allow. Its memory is recovered, a pin before
-        // what the log has. Its log is what is kept up to the complete nodes, from the blob of the boundary's position on.
+        // It is pruned at, and has, as many leaves as boundary, nodes and cap allow. Its memory is recovered, a pin
+        // before what the log has, and an orphan is the log's. Its log is what is kept up to the complete nodes, from
+        // the blob of the boundary's position on, with the nodes of an orphan behind them.
         ensures opens { let map = (V.state vol.old).map (string_bytes cfg.metadata) in
             let old = (V.state vol.old).log (string_bytes cfg.nodes) in
             let new = (V.state vol.new).log (string_bytes cfg.nodes) in

@@ -8,7 +8,7 @@ ghost use Rattle.tree_core.specs.Tree.{IsOf, IsSound, node_at, rests};
 ghost use Rattle.merkle_full.specs.Opening.{Selects};
 ghost use Rattle.merkle_full.specs.Lifted.{IsLifted};
 ghost use Rattle.merkle_full.specs.Recovering.{source_of, ArePeaksRecovered, IsRecalled};
-ghost use Rattle.merkle_full.specs.Preparing.{leaves_reached, IsOrphanRead, NotOpened};
+ghost use Rattle.merkle_full.specs.Preparing.{leaves_reached, IsOrphanRead, HasLogged, NotOpened};
 
 use crate::orphan::with_orphan;
 use crate::reopen::reopened;
@@ -25,8 +25,8 @@ pub(crate) struct Opened<F: Family, D: Digest> {
     pub(crate) selection: Selection,
 }
 
-/// The tree of the most leaves that a stored boundary, the log and a cap allow, with an orphan. It refuses as `select`, then as
-/// `reopened`, then as `with_orphan`.
+/// The tree of the most leaves that a stored boundary, the log and a cap allow, with an orphan. It refuses as `select`,
+/// then as `reopened`, then as `with_orphan`.
 pub(crate) fn open_memory<
     F: Family,
     D: Digest,
@@ -59,6 +59,8 @@ pub(crate) fn open_memory<
         IfOk result (λ r. IsRecalled known source (size F.shape r.selection.complete) r.mem) }
     ensures orphan { let items = items_of D.spelling D.Read.admits (R.view log.now) (V.state vol.old) in
         IfOk result (λ r. V.tells → IsOrphanRead items F.shape cap (R.view log.now).end r.selection.complete) }
+    ensures logged { let items = items_of D.spelling D.Read.admits (R.view log.now) (V.state vol.old) in
+        IfOk result (λ r. V.tells → HasLogged items (size F.shape r.selection.complete) r.mem) }
     // For each list that map and log stand for, it is the tree of its first leaves.
     ensures list { let log_now = (V.state vol.old).log (R.view log.now).name in
         IfOk result (λ r. V.tells → IsWithin (R.view log.now) (V.state vol.old) →

@@ -1,5 +1,5 @@
 //! A leaf that stands in the node log behind the nodes of a complete tree.
-ghost use Rattle.std.specs.Prelude.{◌≡◌, ◌+◌, ◌<◌, ◌≤◌, ◌^◌, ℕ, List, [], ◌∷◌, ◌++◌, take, length, IfOk, IfErr, OnOk, IsOkUnless};
+ghost use Rattle.std.specs.Prelude.{◌≡◌, ◌+◌, ◌<◌, ◌≤◌, ◌^◌, ℕ, List, [], ◌∷◌, ◌++◌, take, length, Some, IfOk, IfErr, OnOk, IsOkUnless};
 ghost use Rattle.journal_base.specs.Items.{items_of};
 ghost use Rattle.journal_base.specs.View.{IsWithin};
 ghost use Rattle.tree_shape.specs.Shape.{made};
@@ -8,7 +8,7 @@ ghost use Rattle.volume_base.specs.Volume.{Reads};
 ghost use Rattle.tree_core.specs.Tree.{IsOf, IsSound, node_at};
 ghost use Rattle.merkle_full.specs.Recovering.{source_of};
 ghost use Rattle.merkle_full.specs.Lifted.{IsLifted};
-ghost use Rattle.merkle_full.specs.Preparing.{leaves_reached, IsOrphanRead, NotReached};
+ghost use Rattle.merkle_full.specs.Preparing.{leaves_reached, IsOrphanRead, HasLogged, NotReached};
 
 use journal_base::BackingRecovery;
 use tree_core::{Digest, Error, Family, Hasher, Mem, Standard};
@@ -25,6 +25,7 @@ fn with_leaf<F: Family, D: Digest, H: Hasher<Digest = D>>(
     ensures boundary { IfOk result (λ m. m.boundary ≡ mem.boundary) }
     ensures sound { IfOk result (λ m. IsSound F.shape m) }
     ensures nodes { IfOk result (λ m. (p : ℕ) → p < length (made F.shape mem.leaves) → node_at m p ≡ node_at mem p) }
+    ensures leaf { IfOk result (λ m. node_at m (length (made F.shape mem.leaves)) ≡ Some leaf) }
     ensures tree { IfOk result (λ m. (all : List D) →
         IsOf F.shape H.hash all mem → IsOf F.shape H.hash (all ++ leaf ∷ []) m) }
     ensures memory { IsOkUnless result Error.Memory }
@@ -39,8 +40,8 @@ fn with_leaf<F: Family, D: Digest, H: Hasher<Digest = D>>(
     Ok(mem)
 }
 
-/// The tree of so many complete leaves, with the one that stands behind them in the log, where one does and the cap allows it.
-/// It refuses with `Journal(Corruption)` where that is no digest.
+/// The tree of so many complete leaves, with the one that stands behind them in the log, where one does and the cap
+/// allows it. It refuses with `Journal(Corruption)` where that is no digest.
 pub(crate) fn with_orphan<
     F: Family,
     D: Digest,
@@ -62,13 +63,17 @@ pub(crate) fn with_orphan<
     ensures nodes { IfOk result (λ m. (p : ℕ) → p < length (made F.shape mem.leaves) → node_at m p ≡ node_at mem p) }
     ensures orphan { let items = items_of D.spelling D.Read.admits (R.view log.now) (V.state vol.old) in
         OnOk result (V.tells → IsOrphanRead items F.shape cap (R.view log.now).end mem.leaves) }
+    // It is the leaf that is added, whatever the log holds.
+    ensures logged { let items = items_of D.spelling D.Read.admits (R.view log.now) (V.state vol.old) in
+        IfOk result (λ m. V.tells → HasLogged items (length (made F.shape mem.leaves)) m) }
     // For each list that a map stands for beside the log, a tree of the list's first leaves becomes one of its next.
     ensures list { let log = (V.state vol.old).log (R.view log.now).name in
         IfOk result (λ m. V.tells → (all : List D) (durable top : ℕ) (pins : _) →
         TreeStands F.shape H.hash D.spelling all durable top log pins →
         IsOf F.shape H.hash (take mem.leaves all) mem → IsOf F.shape H.hash (take m.leaves all) m) }
     ensures refused { let items = items_of D.spelling D.Read.admits (R.view log.now) (V.state vol.old) in
-        V.tells → IsWithin (R.view log.now) (V.state vol.old) → (R.view log.now).start ≤ length (made F.shape mem.leaves) →
+        V.tells → IsWithin (R.view log.now) (V.state vol.old) →
+        (R.view log.now).start ≤ length (made F.shape mem.leaves) →
         IfErr result (NotReached items F.shape cap (R.view log.now).end mem.leaves) }
     ensures errors { IfErr result IsLifted }
     ensures reads { Reads V.tells Error.Volume (V.state vol.old) (V.state vol.new) result }

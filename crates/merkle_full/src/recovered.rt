@@ -1,5 +1,5 @@
 //! Nodes of a tree that is being opened, each from the map or else from the log.
-ghost use Rattle.std.specs.Prelude.{◌≡◌, ◌⊎◌, ℕ, List, length, slice_get, Some, None, IsSome, OnOk, IfOk, IfErr};
+ghost use Rattle.std.specs.Prelude.{◌≡◌, ◌⊎◌, ℕ, List, length, slice_get, Some, None, IsSome, IfSome, OnOk, IfOk, IfErr};
 ghost use Rattle.std.specs.FinMap as finmap;
 ghost use Rattle.journal_base.specs.View.{IsWithin};
 ghost use Rattle.tree_shape.specs.Hashing.{Hashing};
@@ -18,6 +18,7 @@ use volume_base::{JournalError, MetaMap, Volume};
 /// The digest that these bytes spell.
 fn digest_of<F: Family, D: Digest>(alloc: Global, bytes: &[u8]) -> Result<D, Error<F>>
     ensures digest { IfOk result (λ d. bytes.now ≡ D.spelling d) }
+    ensures allowed { IfOk result (D.Read.admits tt) }
     ensures refused { IfErr result (λ e. (e ≡ Error.Memory) ⊎ ((e ≡ Error.DataCorrupted TreeData.Digest)
         × ((d : D) → D.Read.admits tt d → bytes.now ≡ D.spelling d → ⊥))) }
 {
@@ -36,6 +37,7 @@ fn pin_at<F: Family, D: Digest>(
 ) -> Result<Option<D>, Error<F>>
     ensures pin { IfOk result (λ pin. (bytes : List ℕ) → finmap.get map.now (node_key position) ≡ Some bytes →
         (d : D) × (pin ≡ Some d) × (bytes ≡ D.spelling d)) }
+    ensures allowed { IfOk result (λ pin. IfSome pin (D.Read.admits tt)) }
     ensures none { IfOk result (λ pin. finmap.get map.now (node_key position) ≡ None → pin ≡ None) }
     ensures refused { IfErr result (λ e. (e ≡ Error.Memory) ⊎ ((e ≡ Error.DataCorrupted TreeData.Digest)
         × IsSome (finmap.get map.now (node_key position))
@@ -52,8 +54,9 @@ fn pin_at<F: Family, D: Digest>(
     }
 }
 
-/// The node at a position, from the map or else from the log. It refuses with `DataCorrupted` a pin that is no digest, with
-/// `MissingNode` where neither has the position, and with `Journal(Corruption)` bytes of the log that are no digest.
+/// The node at a position, from the map or else from the log. It refuses with `DataCorrupted` a pin that is no digest,
+/// with `MissingNode` where neither has the position, and with `Journal(Corruption)` bytes of the log that are no
+/// digest.
 pub(crate) fn recovered_node<F: Family, D: Digest, R: BackingRecovery<Item = D>, V: Volume>(
     alloc: Global,
     map: &MetaMap,
@@ -82,8 +85,8 @@ pub(crate) fn recovered_node<F: Family, D: Digest, R: BackingRecovery<Item = D>,
     }
 }
 
-/// The nodes at these positions, each from the map or else from the log. The first that isn't recovered is refused as by
-/// `recovered_node`.
+/// The nodes at these positions, each from the map or else from the log. The first that isn't recovered is refused as
+/// by `recovered_node`.
 pub(crate) fn recovered_nodes<F: Family, D: Digest, R: BackingRecovery<Item = D>, V: Volume>(
     alloc: Global,
     map: &MetaMap,

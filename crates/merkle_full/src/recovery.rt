@@ -77,7 +77,8 @@ impl<F: Family, D: Digest> Merkle<F, D> {
     ghost use Rattle.merkle_full.specs.Opening.{stored_in};
     ghost use Rattle.merkle_full.specs.Preparing.{cap_of, log_kept, NotPrepared, Opens, Recalls, IsPreparedIn, IsNamed};
 
-    /// Reads the map and the node log, and makes memory of the most leaves that the boundary, the nodes and the cap allow.
+    /// Reads the map and the node log, and makes memory of the most leaves that the boundary, the nodes and the cap
+    /// allow.
     pub fn prepare<H: Hasher<Digest = D>, V: Volume>(
         alloc: Global,
         vol: &mut V,
@@ -91,7 +92,7 @@ impl<F: Family, D: Digest> Merkle<F, D> {
             let log = (V.state vol.old).log (string_bytes cfg.nodes) in
             IfOk result (λ r. V.tells → Opens F D.spelling (D.Read.admits tt) F.shape map log (cap_of max_leaves)
             r.boundary r.complete r.pruned r.tree.leaves) }
-        // Each node that memory has of the complete leaves is the recovered one.
+        // Each node that memory has of the complete leaves is the recovered one, and the orphan is the log's.
         ensures recalls { let map = (V.state vol.old).map (string_bytes cfg.metadata) in
             let log = (V.state vol.old).log (string_bytes cfg.nodes) in
             IfOk result (λ r. V.tells →
@@ -101,7 +102,8 @@ impl<F: Family, D: Digest> Merkle<F, D> {
         ensures list { let map = (V.state vol.old).map (string_bytes cfg.metadata) in
             let log = (V.state vol.old).log (string_bytes cfg.nodes) in
             IfOk result (λ r. V.tells → (all : List D) (durable top : ℕ) →
-            TreeStands F.shape H.hash D.spelling all durable top log map → IsOf F.shape H.hash (take r.tree.leaves all) r.tree) }
+            TreeStands F.shape H.hash D.spelling all durable top log map →
+            IsOf F.shape H.hash (take r.tree.leaves all) r.tree) }
         ensures refused { let map = (V.state vol.old).map (string_bytes cfg.metadata) in
             let log = (V.state vol.old).log (string_bytes cfg.nodes) in
             V.tells → IfErr result (NotPrepared D.spelling (D.Read.admits tt) F.shape map log (cap_of max_leaves)) }

@@ -4,12 +4,12 @@ use Rattle.journal_base.specs.Items.{Items}
 use Rattle.journal_base.specs.View.{IsWithin}
 use Rattle.journal_base.proofs.MatchLemmas.{within_later}
 use Rattle.tree_shape.specs.Shape.{made}
-use Rattle.tree_store.specs.Stored.{TreeStands}
+use Rattle.tree_store.specs.Stored.{TreeStands, size}
 use Rattle.tree_core.specs.Tree.{IsOf}
 use Rattle.volume_base.specs.Log.{Log}
 use Rattle.volume_base.proofs.ReadLemmas.{only_read_none, only_read_joins, reads_joins}
 use Rattle.merkle_full.specs.Recovering.{source_of}
-use Rattle.merkle_full.specs.Preparing.{IsOrphanRead, NotReached, NotOpened}
+use Rattle.merkle_full.specs.Preparing.{IsOrphanRead, HasLogged, NotReached, NotOpened}
 use Rattle.merkle_full.proofs.GrownLemmas.{err_same, reads_ok}
 use Rattle.merkle_full.proofs.PrepareLemmas.{selects_in, selected_past, not_reached_before}
 use Rattle.merkle_full.proofs.RunLemmas.{same_fault, not_ok}
@@ -96,3 +96,13 @@ returns-in_err-mem-clause-errors g c =
     let source = source_of g.D.Spelled.spelling g.D.Read.admits c.args.map.now view old in
     let selection = c.in_ok-selection.selection in
     err_same c.from_residual-in_err-mem.result e IsLifted c.from_residual-in_err-mem.ensures.1 (not_reopened_lifted (g.V.Volume.tells × IsWithin view old) source g.F.Family.shape selection.complete selection.pruned e c.in_err-mem.ensures.refused)
+
+pub returns-clause-logged : goal.returns-clause-logged
+returns-clause-logged g c told =
+    let s = g.F.Family.shape in
+    let view = g.R.BackingRecovery.view c.args.log.now in
+    let did = c.in_ok-mem.ensures {u = tt} in
+    let items : Log → Items g.row.D.Denot = λ l. record { log = l; spelling = g.D.Spelled.spelling; admits = g.D.Read.admits view.codec } in
+    let mem = c.in_ok-mem-2.mem in
+    subst (λ (l : Log). HasLogged (items l) (size s c.in_ok-selection.selection.complete) mem) ((did.reads.contents told).logs view.name)
+    (subst (λ (n : ℕ). HasLogged (items ((g.V.Volume.state c.reopened.new.vol).log view.name)) (size s n) mem) did.leaves ((c.in_ok-mem-2.ensures {u = tt}).logged told))

@@ -1,6 +1,8 @@
-use Rattle.std.proofs.Common.{◌≡◌, ◌++◌, ◌∷◌, [], List, subst, sym, arith}
+use Rattle.std.proofs.Common.{◌≡◌, ℕ, ◌+◌, ◌++◌, ◌∷◌, [], List, Some, length, subst, sym, ◌∙◌, ap, arith}
+use Rattle.std.specs.Prelude.{slice_get}
+use Rattle.tree_shape.specs.Shape.{made}
 use Rattle.tree_core.specs.Batches.{Unsealed, IsUnsealedOf, IsSealedFrom, with_digests}
-use Rattle.tree_core.specs.Tree.{IsOf}
+use Rattle.tree_core.specs.Tree.{IsOf, node_at}
 use Rattle.tree_core.proofs.ChainLemmas.{own_fits, refused_fitting}
 use Rattle.merkle_full.proofs.GrownLemmas.{err_same}
 use Rattle.merkle_full.proofs.OrphanLemmas.{leaf_joined}
@@ -27,3 +29,17 @@ returns-clause-tree g c all tree =
     let sealed = (c.in_ok-sealed.ensures {u = tt}).batch all (subst (λ (u : Unsealed _). IsUnsealedOf s h all u) (sym grown) more) in
     let made = (c.in_ok-apply_batch.ensures {u = tt}).tree h all (all ++ c.add_leaf_digest.new.self.digests) tree sealed in
     subst (λ (l : List _). IsOf s h l c.apply_batch.new.self) (leaf_joined all b c.add_leaf_digest.new.self c.args.leaf grown (c.in_ok-batch.ensures {u = tt}).begins.digests) made
+
+pub returns-clause-leaf : goal.returns-clause-leaf
+returns-clause-leaf g c =
+    let s = g.F.Family.shape in
+    let n = c.args.mem.leaves in
+    let begins = (c.in_ok-batch.ensures {u = tt}).begins in
+    let grown = (c.in_ok-add_leaf_digest.ensures {u = tt}).ok in
+    let added : c.add_leaf_digest.new.self.digests ≡ c.args.leaf ∷ [] =
+    ap (λ (u : Unsealed _). u.digests) grown ∙ ap (λ (l : List _). l ++ (c.args.leaf ∷ [])) begins.digests in
+    let base : c.add_leaf_digest.new.self.base + 0 ≡ n = omega (arith, ap (λ (u : Unsealed _). u.base) grown ∙ begins.base) in
+    let place : length (made s (c.add_leaf_digest.new.self.base + 0)) ≡ length (made s n) = ap (λ (k : ℕ). length (made s k)) base in
+    let sealed = (c.in_ok-sealed.ensures {u = tt}).leaves 0 c.args.leaf (ap (λ (l : List _). slice_get l 0) added) in
+    let there = (c.in_ok-apply_batch.ensures {u = tt}).since (length (made s (c.add_leaf_digest.new.self.base + 0))) (omega (arith, place)) ∙ sealed in
+    subst (λ (p : ℕ). node_at c.apply_batch.new.self p ≡ Some c.args.leaf) place there

@@ -1,9 +1,11 @@
-use Rattle.std.proofs.Common.{◌≡◌, ℕ, List, Err, length, take, subst, sym, ◌∙◌, ap, arith}
+use Rattle.std.proofs.Common.{◌≡◌, ℕ, List, Some, Err, length, take, subst, sym, ◌∙◌, ap, arith}
+use Rattle.std.proofs.lemmas.Option.{same_Some}
 use Rattle.journal_base.specs.Items.{items_of}
 use Rattle.tree_core.specs.Tree.{IsOf}
 use Rattle.tree_shape.specs.Shape.{made}
 use Rattle.volume_base.specs.Log.{IsItemAt}
-use Rattle.merkle_full.specs.Preparing.{NotReached}
+use Rattle.tree_verification.proofs.NodeLemmas.{ok_gives}
+use Rattle.merkle_full.specs.Preparing.{IsLogged, NotReached}
 use Rattle.merkle_full.proofs.OpeningLemmas.{node_in_log}
 use Rattle.merkle_full.proofs.OrphanLemmas.{ok_both, orphan_next, not_reached}
 use Rattle.merkle_full.proofs.LiftedLemmas.{made_lifted, memory_lifted}
@@ -44,10 +46,29 @@ returns-in-Ok-clause-orphan g c =
     let view = g.R.BackingRecovery.view c.args.log.now in
     let log = (g.V.Volume.state c.args.vol.now).log view.name in
     let place : c.size-position.result ≡ length (made s n) = c.size-position.ensures ∙ ap (λ (k : ℕ). length (made s k)) (c.as_u64-leaves.ensures ∙ c.leaves.ensures.leaves) in
-    ok_any c.with_leaf.result _ (λ told has. (c.in-Ok.leaf, subst (λ (p : ℕ). IsItemAt log p (g.D.Spelled.spelling c.in-Ok.leaf)) place (c.in-Ok.ensures.item told)))
+    ok_any c.with_leaf.result _ (λ told has. (
+      c.in-Ok.leaf,
+      record {
+        held = subst (λ (p : ℕ). IsItemAt log p (g.D.Spelled.spelling c.in-Ok.leaf)) place (c.in-Ok.ensures.item told);
+        allowed = c.in-Ok.ensures.admitted;
+      },
+    ))
 
 pub returns-in-Err-clause-errors : goal.returns-in-Err-clause-errors
 returns-in-Err-clause-errors g c = made_lifted _ c.in-Err.error c.from.ensures
 
 pub returns-in-Ok-clause-errors : goal.returns-in-Ok-clause-errors
 returns-in-Ok-clause-errors g c = memory_lifted c.with_leaf.result c.with_leaf.ensures.memory
+
+pub returns-in-Ok-clause-logged : goal.returns-in-Ok-clause-logged
+returns-in-Ok-clause-logged g c =
+    let s = g.F.Family.shape in
+    let n = c.args.mem.leaves in
+    let view = g.R.BackingRecovery.view c.args.log.now in
+    let log = (g.V.Volume.state c.args.vol.now).log view.name in
+    let items = items_of g.D.Spelled.spelling g.D.Read.admits view (g.V.Volume.state c.args.vol.now) in
+    let place : c.size-position.result ≡ length (made s n) = c.size-position.ensures ∙ ap (λ (k : ℕ). length (made s k)) (c.as_u64-leaves.ensures ∙ c.leaves.ensures.leaves) in
+    ok_gives _ _ (λ m here told d is. subst (IsLogged items (length (made s n))) (same_Some c.in-Ok.leaf d (sym here ∙ is)) (record {
+      held = subst (λ (p : ℕ). IsItemAt log p (g.D.Spelled.spelling c.in-Ok.leaf)) place (c.in-Ok.ensures.item told);
+      allowed = c.in-Ok.ensures.admitted;
+    })) c.with_leaf.result c.with_leaf.ensures.leaf

@@ -7,6 +7,7 @@ use Rattle.volume_base.specs.Log.{Log, cut_to}
 use Rattle.volume_base.specs.Moments.{present, PairHas, PairKeeps}
 use Rattle.volume_base.specs.Names.{log_and_map, NamesCall}
 use Rattle.volume_base.specs.Volume.{Map}
+use Rattle.tree_core.specs.Tree.{IsRested}
 use Rattle.volume_base.proofs.CallLemmas.{names_call_log, names_call_joins}
 use Rattle.volume_base.proofs.JoinLemmas.{went_of, changes_joins, changes_of_writes}
 use Rattle.volume_base.proofs.MomentLemmas.{pair_has_after, pair_keeps_joins}
@@ -14,7 +15,7 @@ use Rattle.merkle_full.specs.Flushing.{IsFilled}
 use Rattle.merkle_full.specs.Lists.{IsFullOf}
 use Rattle.merkle_full.specs.Preparing.{cap_of, log_kept, settled_log, Opens}
 use Rattle.merkle_full.proofs.PrepareLemmas.{kept_standing, durable_fits, selected_past}
-use Rattle.merkle_full.proofs.RecallLemmas.{rested_node, filled_front}
+use Rattle.merkle_full.proofs.RecallLemmas.{filled_front}
 use Rattle.merkle_full.proofs.RunLemmas.{renamed_durable}
 use Rattle.merkle_full.proofs.SettleLemmas.{ends_settled}
 use Rattle.merkle_full.proofs.StandLemmas.{pair_idle}
@@ -64,15 +65,15 @@ returns-clause-opens g c told =
       complete = r.complete;
       opens = subst (λ (n : ℕ). Opens g.row.F.Denot spelling admits s m (s0.log nodes) top r.boundary r.complete t.boundary n) (sym opened.from.leaves)
           (subst (λ (b : ℕ). Opens g.row.F.Denot spelling admits s m (s0.log nodes) top r.boundary r.complete b r.tree.leaves) (sym opened.from.boundary) opens);
-      recalls = let had = did.recalls told in record {
-        stored = had.stored;
-        stored_is = had.stored_is;
-        recalled = λ p d lt is. had.recalled p d lt (rested_node s r.pruned r.tree t.tree p d opened.rested is);
-      };
+      was = r.tree;
+      recalls = did.recalls told;
+      rested = subst (λ (b : ℕ). IsRested s b r.tree t.tree) (sym opened.from.boundary) opened.rested;
       log = record {
         stored = opens.stored;
         stored_is = opens.stored_is;
         log = ap (λ (n : List ℕ). cut_to (s2.log n) (size s r.complete)) (sym named) ∙ filled_front s spelling r.tree (size s r.complete) _ _ filled ends ∙ ap (λ (b : ℕ). settled_log s b r.boundary r.complete kept) (sym blob);
+        filled = subst (λ (n : List ℕ). IsFilled s spelling r.tree (size s r.complete) (settled_log s t.log.blob r.boundary r.complete kept) (s2.log n)) named
+            (subst (λ (b : ℕ). IsFilled s spelling r.tree (size s r.complete) (settled_log s b r.boundary r.complete kept) (s2.log r.log.name)) (sym blob) filled);
       };
     }
 

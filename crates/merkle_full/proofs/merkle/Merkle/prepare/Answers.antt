@@ -12,7 +12,7 @@ use Rattle.tree_store.specs.Stored.{TreeStands, size}
 use Rattle.tree_store.specs.declared.error.Error.TheVariants as tree
 use Rattle.merkle_full.specs.Opening.{stored_in}
 use Rattle.merkle_full.specs.Recovering.{source_of, ArePeaksRecovered, IsRecalled}
-use Rattle.merkle_full.specs.Preparing.{cap_of, contents_of, log_kept, IsOrphanRead, NotOpened, NotPrepared}
+use Rattle.merkle_full.specs.Preparing.{cap_of, contents_of, log_kept, IsOrphanRead, HasLogged, NotOpened, NotPrepared}
 use Rattle.merkle_full.proofs.GrownLemmas.{err_same}
 use Rattle.merkle_full.proofs.PrepareLemmas.{held_source, held_within, recalled_known, peaks_known, not_opened_known, kept_standing, not_prepared, prepared}
 use Rattle.merkle_full.proofs.SettleLemmas.{same_ok}
@@ -150,6 +150,8 @@ returns-clause-recalls g c told =
       stored = stored;
       stored_is = ap stored_in (sym same) ∙ (c.in_ok-stored.ensures {u = tt}).stored;
       recalled = subst (λ (r : Map). IsRecalled (Unit {0}) (contents_of spelling (g.D.Read.admits tt) r log) (size s complete) mem) same recalled;
+      orphan = let items : Log → Items g.row.D.Denot = λ l. record { log = l; spelling = spelling; admits = g.D.Read.admits tt } in
+          subst (λ (l : Log). HasLogged (items l) (size s complete) mem) log_is (did.logged told);
     }
 
 pub returns-clause-kept : goal.returns-clause-kept
