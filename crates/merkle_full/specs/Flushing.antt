@@ -24,7 +24,8 @@ pub record IsSameTree {D : Type 0} (t u : Full D) : Type 0 where
   pub metadata : u.metadata ≡ t.metadata
 
 -- The log is the other, and behind it stand the nodes of memory from this position to its end.
-pub record IsFilled {D : Type 0} (s : Shape) (spelling : D → List ℕ) (t : Tree D) (from : ℕ) (old new : Log) : Type 0 where
+pub record IsFilled {D : Type 0} (s : Shape) (spelling : D → List ℕ) (t : Tree D) (from : ℕ)
+    (old new : Log) : Type 0 where
   pub more : List D
   pub counted : length more ≡ length (made s t.leaves) - from
   pub nodes : (i : ℕ) (d : D) → slice_get more i ≡ Some d → node_at t (from + i) ≡ Some d
@@ -32,16 +33,24 @@ pub record IsFilled {D : Type 0} (s : Shape) (spelling : D → List ℕ) (t : Tr
 
 -- the same tree after a started sync
 abbrev pub after_start : {D : Type 0} → Full D → Bool → Full D
-after_start t failed = record { tree = t.tree; boundary = t.boundary; log = after_sync t.log failed; metadata = t.metadata }
+after_start t failed = record {
+  tree = t.tree;
+  boundary = t.boundary;
+  log = after_sync t.log failed;
+  metadata = t.metadata;
+}
 
--- Whatever a crash now leaves of its log, beside whatever it leaves of its map, stands for the list of leaf digests, of which so many
--- are durable, pruned at no boundary past `top`.
+-- Whatever a crash now leaves of its log, beside whatever it leaves of its map, stands for the list of leaf digests, of
+-- which so many are durable, pruned at no boundary past `top`.
 abbrev pub AllStand : {D : Type 0} → Shape → Hashing D → (D → List ℕ) → List D → ℕ → ℕ → Full D → State → Type 0
-AllStand s h spelling all durable top t state = PairHas state t.log.name t.metadata (TreeStands s h spelling all durable top)
+AllStand s h spelling all durable top t state = PairHas state t.log.name t.metadata
+    (TreeStands s h spelling all durable top)
 
 -- and so it does at each moment from the one to the other
-abbrev pub AllKeepStanding : {D : Type 0} → Shape → Hashing D → (D → List ℕ) → List D → ℕ → ℕ → Full D → State → State → Type 0
-AllKeepStanding s h spelling all durable top t old new = PairKeeps t.log.name t.metadata (TreeStands s h spelling all durable top) old new
+abbrev pub AllKeepStanding : {D : Type 0} → Shape → Hashing D → (D → List ℕ) → List D → ℕ → ℕ → Full D → State → State
+    → Type 0
+AllKeepStanding s h spelling all durable top t old new = PairKeeps t.log.name t.metadata
+    (TreeStands s h spelling all durable top) old new
 
 -- what the sync itself has come to
 abbrev pub sync_of : {F : Type 0} → SyncTicket → Result (Unit {0}) (Error F)
@@ -53,9 +62,10 @@ abbrev pub outcome : {F T : Type 0} → Result (T × SyncTicket) (Error F) → R
 outcome (Ok made) = sync_of made.1
 outcome (Err error) = Err error
 
--- why a flush fails, whatever the volume holds: by the outside; for a node that the log lacks and memory doesn't have; or because the
--- log can't have so many
+-- why a flush fails, whatever the volume holds: by the outside; for a node that the log lacks and memory doesn't have;
+-- or because the log can't have so many
 abbrev pub IsOfFlush : {F D : Type 0} → Shape → Full D → Error F → Type 0
 IsOfFlush s t e = IsOutside e
-    ⊎ (((p : ℕ) × (t.log.end ≤ p) × (p < length (made s t.tree.leaves)) × (node_at t.tree p ≡ None) × (e ≡ MissingNode p))
+    ⊎ (((p : ℕ) × (t.log.end ≤ p) × (p < length (made s t.tree.leaves)) × (node_at t.tree p ≡ None)
+    × (e ≡ MissingNode p))
     ⊎ (e ≡ Journal journal.SizeOverflow))

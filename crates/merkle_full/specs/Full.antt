@@ -61,10 +61,12 @@ pub record IsSpelled {D : Type 0} (spelling : D → List ℕ) (admits : D → Ty
   pub spelled : bytes ≡ spelling digest
 
 -- The log begins where it is known to, ends where memory's own boundary stands, and holds digests.
-pub record IsHeld {D : Type 0} (s : Shape) (spelling : D → List ℕ) (admits : D → Type 0) (t : Full D) (image : Image) : Type 0 where
+pub record IsHeld {D : Type 0} (s : Shape) (spelling : D → List ℕ) (admits : D → Type 0) (t : Full D)
+    (image : Image) : Type 0 where
   pub start_is : t.log.start ≡ (image.log t.log.name).start
   pub end_is : end_of (image.log t.log.name) ≡ size s t.tree.boundary
-  pub digests : (i : ℕ) (bytes : List ℕ) → slice_get (image.log t.log.name).items i ≡ Some bytes → IsSpelled spelling admits bytes
+  pub digests : (i : ℕ) (bytes : List ℕ) → slice_get (image.log t.log.name).items i ≡ Some bytes
+      → IsSpelled spelling admits bytes
 
 -- The log has the tree's bounds, and ends where memory's own boundary stands.
 pub record IsSeated {D : Type 0} (s : Shape) (t : Full D) (image : Image) : Type 0 where

@@ -25,7 +25,8 @@ pub record IsLeast (s : Shape) (start n : ℕ) : Type 0 where
 abbrev pub boundary_in : {F : Type 0} → List ℕ → Result ℕ (Error F)
 boundary_in bytes =
     if length bytes == 8
-    then (if nat_le (from_be_bytes w64 bytes) (2 ^ 62) then Ok (from_be_bytes w64 bytes) else Err (LocationOverflow (from_be_bytes w64 bytes)))
+    then (if nat_le (from_be_bytes w64 bytes) (2 ^ 62) then Ok (from_be_bytes w64 bytes)
+    else Err (LocationOverflow (from_be_bytes w64 bytes)))
     else Err (DataCorrupted Boundary)
 
 abbrev pub some_ok : {F : Type 0} → Result ℕ (Error F) → Result (Option ℕ) (Error F)
@@ -40,7 +41,8 @@ stored_as (Some bytes) = some_ok (boundary_in bytes)
 abbrev pub stored_in : {F : Type 0} → Map → Result (Option ℕ) (Error F)
 stored_in m = stored_as (finmap.get m boundary_key)
 
--- A tree with this stored boundary, and a log with these bounds, is opened under a cap at so many leaves, and pruned at so many.
+-- A tree with this stored boundary, and a log with these bounds, is opened under a cap at so many leaves, and pruned at
+-- so many.
 pub record Selects (s : Shape) (boundary start end cap complete pruned : ℕ) : Type 0 where
   pub allowed : boundary ≤ cap
   pub reached : start ≤ size s cap
@@ -59,7 +61,8 @@ pub record EndsBefore (s : Shape) (boundary start end cap pruned : ℕ) : Type 0
   pub pruned_is : pruned ≡ max boundary least
   pub past : complete < pruned
 
--- Why it isn't opened: the cap is below the boundary; or its position is below the log's start; or the log ends too early.
+-- Why it isn't opened: the cap is below the boundary; or its position is below the log's start; or the log ends too
+-- early.
 abbrev pub NotSelected : {F : Type 0} → Shape → ℕ → ℕ → ℕ → ℕ → Error F → Type 0
 NotSelected s boundary start end cap e =
     ((e ≡ ElementPruned (size s cap)) × (cap < boundary))

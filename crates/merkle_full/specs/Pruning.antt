@@ -28,9 +28,11 @@ pinned_map spelling m ps ds boundary = finmap.insert (with_pins spelling m ps ds
 abbrev pub KeepsPins : Map → Map → Type 0
 KeepsPins m other = (p : ℕ) → IsSome (finmap.get m (node_key p)) → IsSome (finmap.get other (node_key p))
 
--- Of a key that is neither the boundary's nor that of a pin at one of these positions, the other map has what the one has.
+-- Of a key that is neither the boundary's nor that of a pin at one of these positions, the other map has what the one
+-- has.
 abbrev pub KeepsOthers : List ℕ → Map → Map → Type 0
-KeepsOthers ps m other = (key : List ℕ) → key ≢ boundary_key → ((i p : ℕ) → slice_get ps i ≡ Some p → key ≢ node_key p) → finmap.get other key ≡ finmap.get m key
+KeepsOthers ps m other = (key : List ℕ) → key ≢ boundary_key → ((i p : ℕ) → slice_get ps i ≡ Some p → key ≢ node_key p)
+    → finmap.get other key ≡ finmap.get m key
 
 -- the same tree, pruned at another number of leaves
 abbrev pub at_boundary : {D : Type 0} → Full D → ℕ → Full D
@@ -47,9 +49,10 @@ pub record IsMovedTo {D : Type 0} (to : ℕ) (t u : Full D) : Type 0 where
 abbrev pub beside_map : State → Map → Image
 beside_map state m = record { log = state.log; map = λ name. m }
 
--- At each moment from the one to the other, what a crash leaves of its log, beside what it leaves of its map, stands as before, or
--- with all leaves durable, pruned at no boundary past `to` either.
-abbrev pub StandsWhilePruned : {D : Type 0} → Shape → Hashing D → (D → List ℕ) → List D → ℕ → ℕ → ℕ → Full D → State → State → Type 0
+-- At each moment from the one to the other, what a crash leaves of its log, beside what it leaves of its map, stands as
+-- before, or with all leaves durable, pruned at no boundary past `to` either.
+abbrev pub StandsWhilePruned : {D : Type 0} → Shape → Hashing D → (D → List ℕ) → List D → ℕ → ℕ → ℕ → Full D → State
+    → State → Type 0
 StandsWhilePruned s h spelling all durable top to t old new =
     PairKeeps t.log.name t.metadata (λ log m. TreeStands s h spelling all durable top log m
     ⊎ TreeStands s h spelling all (length all) (max top to) log m) old new

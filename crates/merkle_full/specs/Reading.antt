@@ -7,7 +7,8 @@ use Rattle.tree_store.specs.Stores.{IsOutside, IsFirstAbsent}
 use Rattle.tree_store.specs.declared.error.Error.{Error}
 use Rattle.tree_store.specs.declared.error.Error.TheVariants.{LocationOverflow, RangeOutOfBounds, ElementPruned, Journal}
 
--- by the outside; or by the log, which begins past the position, or ends at or before it, or has bytes there that are no digest
+-- by the outside; or by the log, which begins past the position, or ends at or before it, or has bytes there that are
+-- no digest
 abbrev pub IsUnreadAt : {F D : Type 0} → Type 0 → Items D → ℕ → Error F → Type 0
 IsUnreadAt tells items p e = IsOutside e
     ⊎ (((e ≡ Journal (journal.ItemPruned p)) × (tells → p < items.log.start))
@@ -23,7 +24,8 @@ IsUnreadAmong tells items ps e = IsOutside e
 abbrev pub IsPast : {F : Type 0} → ℕ → Error F → Type 0
 IsPast p e = IsOutside e ⊎ (e ≡ Journal (journal.ItemOutOfRange p))
 
--- by the outside; or the first of several positions that has no node is named: as pruned, or as one at or past the end of the nodes
+-- by the outside; or the first of several positions that has no node is named: as pruned, or as one at or past the end
+-- of the nodes
 abbrev pub IsFirstUnread : {F D : Type 0} → (ℕ → Option D) → ℕ → List ℕ → Error F → Type 0
 IsFirstUnread told end ps e = IsOutside e
     ⊎ ((p : ℕ) × IsFirstAbsent told ps p
@@ -32,4 +34,5 @@ IsFirstUnread told end ps e = IsOutside e
 -- whether a tree of n leaves has the peaks of a number of leaves
 abbrev pub peaks_answer : {F : Type 0} → ℕ → ℕ → Result (Unit {0}) (Error F)
 peaks_answer n leaves =
-    if nat_le leaves (2 ^ 62) then (if nat_le leaves n then Ok tt else Err (RangeOutOfBounds leaves)) else Err (LocationOverflow leaves)
+    if nat_le leaves (2 ^ 62) then (if nat_le leaves n then Ok tt else Err (RangeOutOfBounds leaves))
+    else Err (LocationOverflow leaves)

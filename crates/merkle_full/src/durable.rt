@@ -28,8 +28,8 @@ impl<F: Family, D: Digest> Merkle<F, D> {
         self.nodes.keeps_failure()
     }
 
-    /// Appends the nodes that the log lacks, and then makes the log durable. Where a failed sync is kept it refuses with
-    /// `Volume`, and writes nothing. Else a held tree is refused by the outside alone.
+    /// Appends the nodes that the log lacks, and then makes the log durable. Where a failed sync is kept it refuses
+    /// with `Volume`, and writes nothing. Else a held tree is refused by the outside alone.
     pub fn sync<V: Volume>(self, vol: &mut V) -> Result<Self, Error<F>>
         ensures kept { self.log.failed ≡ true → IsErrOf result Error.Volume × (vol.new ≡ vol.old) }
         ensures same { IfOk result (λ t. IsSameTree self t) }
@@ -37,7 +37,8 @@ impl<F: Family, D: Digest> Merkle<F, D> {
         ensures rested { IfOk result (λ t. IsRested F.shape self.boundary self.tree t.tree) }
         // Of any tree, whatever the volume holds: behind what the log had stand the nodes of memory.
         ensures filled { let name = self.log.name in OnOk result (V.tells →
-            IsFilled F.shape D.spelling self.tree self.log.end ((V.state vol.old).log name) ((V.state vol.new).log name)) }
+            IsFilled F.shape D.spelling self.tree self.log.end ((V.state vol.old).log name)
+            ((V.state vol.new).log name)) }
         ensures start { IfOk result (λ t. V.tells → (h : Hashing D) (all : List D) →
             IsFullOf F.shape h D.spelling (D.Read.admits tt) all self (present (V.state vol.old)) →
             t.log.start ≡ self.log.start) }

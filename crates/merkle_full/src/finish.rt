@@ -36,11 +36,15 @@ impl<F: Family, D: Digest> Recovery<F, D> {
         ensures full { IfOk result (λ t. V.tells → (h : Hashing D) (all : List D) (durable top : ℕ) →
             IsPreparedIn self (V.state vol.old) →
             TreeStands F.shape h D.spelling all durable top ((V.state vol.old).log self.log.name) self.read →
-            length all ≤ 2 ^ 62 → AreDigests F.shape h (D.Read.admits tt) all → IsOf F.shape h (take self.tree.leaves all) self.tree →
-            IsFullOf F.shape h D.spelling (D.Read.admits tt) (take self.tree.leaves all) t (present (V.state vol.new))) }
+            length all ≤ 2 ^ 62 → AreDigests F.shape h (D.Read.admits tt) all →
+            IsOf F.shape h (take self.tree.leaves all) self.tree →
+            IsFullOf F.shape h D.spelling (D.Read.admits tt) (take self.tree.leaves all) t
+            (present (V.state vol.new))) }
         ensures outside { V.tells → IsPreparedIn self (V.state vol.old) → IfErr result IsOutside }
-        ensures names { V.tells → NamesCall (log_and_map self.log.name self.metadata) (V.state vol.old) (V.state vol.new) }
-        ensures images { V.tells → (h : Hashing D) (all : List D) (durable top : ℕ) → IsPreparedIn self (V.state vol.old) →
+        ensures names { V.tells → NamesCall (log_and_map self.log.name self.metadata) (V.state vol.old)
+            (V.state vol.new) }
+        ensures images { V.tells → (h : Hashing D) (all : List D) (durable top : ℕ) →
+            IsPreparedIn self (V.state vol.old) →
             length all ≤ 2 ^ 62 → durable ≤ self.complete →
             PairHas (V.state vol.old) self.log.name self.metadata (TreeStands F.shape h D.spelling all durable top) →
             PairKeeps self.log.name self.metadata (TreeStands F.shape h D.spelling all durable top)
@@ -69,12 +73,14 @@ impl<F: Family, D: Digest> Recovery<F, D> {
         })
     }
 
-    /// Cuts the node log to the complete nodes, takes the whole blobs below the boundary away, after the map was put back where that
-    /// moves the log's start, and opens the tree: an orphan's nodes are appended, and the log is durable.
+    /// Cuts the node log to the complete nodes, takes the whole blobs below the boundary away, after the map was put
+    /// back where that moves the log's start, and opens the tree: an orphan's nodes are appended, and the log is
+    /// durable.
     pub fn finish<V: Volume>(self, vol: &mut V) -> Result<Merkle<F, D>, Error<F>>
         ensures from { IfOk result (λ t. IsOpenedFrom self t) }
         ensures rests { IfOk result (λ t. Rests F.shape t) }
-        // Of any contents, memory is at rest; the log is what was cut, with memory's further nodes; and the map is as it was read.
+        // Of any contents, memory is at rest; the log is what was cut, with memory's further nodes; and the map is as
+        // it was read.
         ensures rested { IfOk result (λ t. IsRested F.shape self.pruned self.tree t.tree) }
         ensures log { let log = (V.state vol.old).log self.log.name in
             let settled = settled_log F.shape self.log.blob self.boundary self.complete log in
@@ -89,17 +95,22 @@ impl<F: Family, D: Digest> Recovery<F, D> {
         ensures full { IfOk result (λ t. V.tells → (h : Hashing D) (all : List D) (durable top : ℕ) →
             IsPreparedIn self (V.state vol.old) →
             TreeStands F.shape h D.spelling all durable top ((V.state vol.old).log self.log.name) self.read →
-            length all ≤ 2 ^ 62 → AreDigests F.shape h (D.Read.admits tt) all → IsOf F.shape h (take self.tree.leaves all) self.tree →
-            IsFullOf F.shape h D.spelling (D.Read.admits tt) (take self.tree.leaves all) t (present (V.state vol.new))) }
+            length all ≤ 2 ^ 62 → AreDigests F.shape h (D.Read.admits tt) all →
+            IsOf F.shape h (take self.tree.leaves all) self.tree →
+            IsFullOf F.shape h D.spelling (D.Read.admits tt) (take self.tree.leaves all) t
+            (present (V.state vol.new))) }
         // Of any contents, and of a volume that tells nothing.
         ensures errors { IfErr result IsLifted }
         ensures fresh { IfOk result (λ t. t.log.failed ≡ false) }
         ensures durable { OnOk result (V.tells → IsDurable self.log (V.state vol.new)) }
         ensures outside { V.tells → IsPreparedIn self (V.state vol.old) → IfErr result IsOutside }
-        ensures names { V.tells → NamesCall (log_and_map self.log.name self.metadata) (V.state vol.old) (V.state vol.new) }
+        ensures names { V.tells → NamesCall (log_and_map self.log.name self.metadata) (V.state vol.old)
+            (V.state vol.new) }
         // Where no more leaves are durable than are complete, each image goes on standing for the list.
-        ensures images { V.tells → (h : Hashing D) (all : List D) (durable top : ℕ) → IsPreparedIn self (V.state vol.old) →
-            length all ≤ 2 ^ 62 → AreDigests F.shape h (D.Read.admits tt) all → IsOf F.shape h (take self.tree.leaves all) self.tree →
+        ensures images { V.tells → (h : Hashing D) (all : List D) (durable top : ℕ) →
+            IsPreparedIn self (V.state vol.old) →
+            length all ≤ 2 ^ 62 → AreDigests F.shape h (D.Read.admits tt) all →
+            IsOf F.shape h (take self.tree.leaves all) self.tree →
             durable ≤ self.complete →
             PairHas (V.state vol.old) self.log.name self.metadata (TreeStands F.shape h D.spelling all durable top) →
             PairKeeps self.log.name self.metadata (TreeStands F.shape h D.spelling all durable top)

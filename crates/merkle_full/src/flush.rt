@@ -19,8 +19,8 @@ impl<F: Family, D: Digest> Merkle<F, D> {
     ghost use Rattle.merkle_full.specs.Full.{Rests, IsSeated};
     ghost use Rattle.merkle_full.specs.Lists.{IsFullOf};
 
-    /// Appends the nodes that the log lacks. Memory then keeps the peaks of the leaves and of the boundary. A held tree is
-    /// refused by the outside alone: with `Volume`, or for want of memory.
+    /// Appends the nodes that the log lacks. Memory then keeps the peaks of the leaves and of the boundary. A held tree
+    /// is refused by the outside alone: with `Volume`, or for want of memory.
     pub fn flush<V: Volume>(self, vol: &mut V) -> Result<Self, Error<F>>
         // A log that lacks no node isn't written.
         ensures idle { self.log.end ≡ length (made F.shape self.tree.leaves) → IsOk result × (vol.new ≡ vol.old) }
@@ -29,7 +29,8 @@ impl<F: Family, D: Digest> Merkle<F, D> {
         ensures rested { IfOk result (λ t. IsRested F.shape self.boundary self.tree t.tree) }
         // Of any tree, whatever the volume holds: behind what the log had stand the nodes of memory.
         ensures filled { let name = self.log.name in OnOk result (V.tells →
-            IsFilled F.shape D.spelling self.tree self.log.end ((V.state vol.old).log name) ((V.state vol.new).log name)) }
+            IsFilled F.shape D.spelling self.tree self.log.end ((V.state vol.old).log name)
+            ((V.state vol.new).log name)) }
         ensures start { IfOk result (λ t. V.tells → (h : Hashing D) (all : List D) →
             IsFullOf F.shape h D.spelling (D.Read.admits tt) all self (present (V.state vol.old)) →
             t.log.start ≡ self.log.start) }

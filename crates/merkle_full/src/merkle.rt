@@ -5,7 +5,8 @@ use tree_core::{
     UnmerkleizedBatch,
 };
 
-/// A tree: what memory keeps of it, the log of its nodes, the name of the map of its pins, and the leaves at which it is pruned.
+/// A tree: what memory keeps of it, the log of its nodes, the name of the map of its pins, and the leaves at which it
+/// is pruned.
 #[derive(Drop)]
 pub struct Merkle<F: Family, D: Digest> {
     pub(crate) mem: Mem<F, D>,
@@ -95,7 +96,8 @@ impl<F: Family, D: Digest> Merkle<F, D> {
         ensures peaks { let tree = self.now.tree in IfOk result (λ d. (ds : List D) →
             ArePeaks F.shape tree.leaves (λ x k. node_at tree (F.shape.position x k)) ds →
             d ≡ root_over H.hash tree.leaves ds inactive_peaks hasher.now) }
-        ensures marked { let tree = self.now.tree in IfOk result (λ d. (ps : List D) → IsMarkOf F.shape tree tree.leaves ps →
+        ensures marked { let tree = self.now.tree in IfOk result (λ d. (ps : List D) →
+            IsMarkOf F.shape tree tree.leaves ps →
             d ≡ root_over H.hash tree.leaves (reverse ps) inactive_peaks hasher.now) }
     {
         self.mem.root(hasher, inactive_peaks)
@@ -113,8 +115,8 @@ impl<F: Family, D: Digest> Merkle<F, D> {
         self.mem.new_batch()
     }
 
-    /// Appends what the batch has behind the mark of this tree, in memory. Where the tree has no mark of the batch it refuses,
-    /// with `AncestorDropped` where the batch's chain began at it, and else with `StaleBatch`.
+    /// Appends what the batch has behind the mark of this tree, in memory. Where the tree has no mark of the batch it
+    /// refuses, with `AncestorDropped` where the batch's chain began at it, and else with `StaleBatch`.
     pub fn apply_batch(self, batch: &MerkleizedBatch<F, D>) -> Result<Self, Error<F>>
         ensures longer { IfOk result (λ t. IsLonger F.shape batch.now.leaves self.tree t.tree) }
         ensures since { IfOk result (λ t. (p : ℕ) → length (made F.shape self.tree.leaves) ≤ p →

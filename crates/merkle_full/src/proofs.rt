@@ -11,7 +11,8 @@ impl<F: Family, D: Digest> Merkle<F, D> {
     ghost use Rattle.tree_store.specs.declared.error.Error.{Error};
     ghost use Rattle.merkle_full.specs.Proving.{history_answer, leaf_history, IsProved};
 
-    /// The proof of one leaf. It refuses `LocationOverflow` at or past `MAX_LEAVES`, and else as `range_proof` of one leaf.
+    /// The proof of one leaf. It refuses `LocationOverflow` at or past `MAX_LEAVES`, and else as `range_proof` of one
+    /// leaf.
     pub fn proof<V: Volume>(
         &self,
         vol: &mut V,
@@ -20,7 +21,8 @@ impl<F: Family, D: Digest> Merkle<F, D> {
     ) -> Result<Proof<F, D>, Error<F>>
         requires { inactive_peaks ≤ length (F.shape.heights self.now.tree.leaves) }
         ensures proves { let leaves = self.now.tree.leaves in
-            IsProved V.tells F.shape D.spelling (D.Read.admits tt) (D.Read.reads tt) self.now (present (V.state vol.old))
+            IsProved V.tells F.shape D.spelling (D.Read.admits tt) (D.Read.reads tt) self.now
+            (present (V.state vol.old))
             (leaf_history leaves leaves loc) leaves inactive_peaks loc (loc + 1) result }
         ensures uncalled { (e : Error F) →
             leaf_history self.now.tree.leaves self.now.tree.leaves loc ≡ Err e → vol.new ≡ vol.old }
@@ -41,7 +43,8 @@ impl<F: Family, D: Digest> Merkle<F, D> {
     ) -> Result<Proof<F, D>, Error<F>>
         requires { inactive_peaks ≤ length (F.shape.heights self.now.tree.leaves) }
         ensures proves { let leaves = self.now.tree.leaves in
-            IsProved V.tells F.shape D.spelling (D.Read.admits tt) (D.Read.reads tt) self.now (present (V.state vol.old))
+            IsProved V.tells F.shape D.spelling (D.Read.admits tt) (D.Read.reads tt) self.now
+            (present (V.state vol.old))
             (history_answer leaves leaves start end) leaves inactive_peaks start end result }
         ensures uncalled { (e : Error F) →
             history_answer self.now.tree.leaves self.now.tree.leaves start end ≡ Err e → vol.new ≡ vol.old }
@@ -51,8 +54,8 @@ impl<F: Family, D: Digest> Merkle<F, D> {
         self.historical_range_proof(vol, leaves, start, end, inactive_peaks)
     }
 
-    /// The proof of one leaf of the tree as it was at `leaves`. It refuses `LocationOverflow` at or past `MAX_LEAVES`, and else as
-    /// `historical_range_proof` of one leaf.
+    /// The proof of one leaf of the tree as it was at `leaves`. It refuses `LocationOverflow` at or past `MAX_LEAVES`,
+    /// and else as `historical_range_proof` of one leaf.
     pub fn historical_proof<V: Volume>(
         &self,
         vol: &mut V,
@@ -61,7 +64,8 @@ impl<F: Family, D: Digest> Merkle<F, D> {
         inactive_peaks: u64,
     ) -> Result<Proof<F, D>, Error<F>>
         requires { inactive_peaks ≤ length (F.shape.heights leaves) }
-        ensures proves { IsProved V.tells F.shape D.spelling (D.Read.admits tt) (D.Read.reads tt) self.now (present (V.state vol.old))
+        ensures proves { IsProved V.tells F.shape D.spelling (D.Read.admits tt) (D.Read.reads tt) self.now
+            (present (V.state vol.old))
             (leaf_history self.now.tree.leaves leaves loc) leaves inactive_peaks loc (loc + 1) result }
         ensures uncalled { (e : Error F) →
             leaf_history self.now.tree.leaves leaves loc ≡ Err e → vol.new ≡ vol.old }
@@ -76,8 +80,8 @@ impl<F: Family, D: Digest> Merkle<F, D> {
     }
 
     /// The proof of the leaves from `start` up to `end` of the tree as it was at `leaves`. It refuses, in this order:
-    /// `RangeOutOfBounds` where the tree has fewer leaves; `Empty`, `LocationOverflow`, `RangeOutOfBounds` of the end; then
-    /// `ElementPruned` the first node that isn't there.
+    /// `RangeOutOfBounds` where the tree has fewer leaves; `Empty`, `LocationOverflow`, `RangeOutOfBounds` of the end;
+    /// then `ElementPruned` the first node that isn't there.
     pub fn historical_range_proof<V: Volume>(
         &self,
         vol: &mut V,
@@ -87,7 +91,8 @@ impl<F: Family, D: Digest> Merkle<F, D> {
         inactive_peaks: u64,
     ) -> Result<Proof<F, D>, Error<F>>
         requires { inactive_peaks ≤ length (F.shape.heights leaves) }
-        ensures proves { IsProved V.tells F.shape D.spelling (D.Read.admits tt) (D.Read.reads tt) self.now (present (V.state vol.old))
+        ensures proves { IsProved V.tells F.shape D.spelling (D.Read.admits tt) (D.Read.reads tt) self.now
+            (present (V.state vol.old))
             (history_answer self.now.tree.leaves leaves start end) leaves inactive_peaks start end result }
         ensures uncalled { (e : Error F) →
             history_answer self.now.tree.leaves leaves start end ≡ Err e → vol.new ≡ vol.old }

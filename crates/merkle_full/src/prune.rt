@@ -174,7 +174,8 @@ impl<F: Family, D: Digest> Merkle<F, D> {
             IsFullOf F.shape h D.spelling (D.Read.admits tt) all self (beside_map (V.state vol.old) map.now) →
             IsDurable self.log (V.state vol.old) →
             AllStand F.shape h D.spelling all durable top self (V.state vol.old) →
-            AllKeepStanding F.shape h D.spelling all durable (max top self.boundary) self (V.state vol.old) (V.state vol.new) }
+            AllKeepStanding F.shape h D.spelling all durable (max top self.boundary) self (V.state vol.old)
+            (V.state vol.new) }
         ensures writes { self.log.failed ≡ false →
             Writes V.tells Error.Volume (V.state vol.old) (V.state vol.new) result }
     {
@@ -203,7 +204,8 @@ impl<F: Family, D: Digest> Merkle<F, D> {
         ensures pins { OnOk result (V.tells →
             KeepsPins ((V.state vol.old).map self.metadata) ((V.state vol.new).map self.metadata)) }
         ensures others { let old = V.state vol.old in
-            OnOk result (V.tells → KeepsOthers (pins F.shape boundary) (old.map self.metadata) ((V.state vol.new).map self.metadata)) }
+            OnOk result (V.tells → KeepsOthers (pins F.shape boundary) (old.map self.metadata)
+            ((V.state vol.new).map self.metadata)) }
         ensures outside { V.tells → (h : Hashing D) (all : List D) →
             IsFullOf F.shape h D.spelling (D.Read.admits tt) all self (present (V.state vol.old)) →
             IfErr result IsOutside }
@@ -227,9 +229,10 @@ impl<F: Family, D: Digest> Merkle<F, D> {
         Ok(pruned)
     }
 
-    /// Prunes to a number of leaves, by blobs: the tree is synced first, then its map is replaced, and then whole blobs of its
-    /// log are taken away. Where a failed sync is kept it refuses with `Volume`; then, in this order, with `LocationOverflow`
-    /// above `MAX_LEAVES` and with `LeafOutOfBounds` past the leaves. At or below the boundary nothing changes.
+    /// Prunes to a number of leaves, by blobs: the tree is synced first, then its map is replaced, and then whole blobs
+    /// of its log are taken away. Where a failed sync is kept it refuses with `Volume`; then, in this order, with
+    /// `LocationOverflow` above `MAX_LEAVES` and with `LeafOutOfBounds` past the leaves. At or below the boundary
+    /// nothing changes.
     pub fn prune<V: Volume>(self, vol: &mut V, loc: Location<F>) -> Result<Self, Error<F>>
         ensures kept { self.log.failed ≡ true → IsErrOf result Error.Volume × (vol.new ≡ vol.old) }
         ensures refused { self.log.failed ≡ false → (e : Error F) → prune_answer self.tree.leaves loc ≡ Err e →
@@ -248,12 +251,14 @@ impl<F: Family, D: Digest> Merkle<F, D> {
             IsFullOf F.shape h D.spelling (D.Read.admits tt) all t (present (V.state vol.new))) }
         // Of any tree, whatever the volume holds.
         ensures errors { let items = items_of D.spelling D.Read.admits self.log (V.state vol.new) in
-            prune_answer {F = F} self.tree.leaves loc ≡ Ok tt → IfErr result (IsOfPrune F.shape V.tells self items loc) }
+            prune_answer {F = F} self.tree.leaves loc ≡ Ok tt →
+            IfErr result (IsOfPrune F.shape V.tells self items loc) }
         ensures pins { OnOk result (V.tells →
             KeepsPins ((V.state vol.old).map self.metadata) ((V.state vol.new).map self.metadata)) }
         // Of the map's keys at most the boundary's and those of its pins change.
         ensures others { let old = V.state vol.old in
-            OnOk result (V.tells → KeepsOthers (pins F.shape loc) (old.map self.metadata) ((V.state vol.new).map self.metadata)) }
+            OnOk result (V.tells → KeepsOthers (pins F.shape loc) (old.map self.metadata)
+            ((V.state vol.new).map self.metadata)) }
         ensures outside { prune_answer {F = F} self.tree.leaves loc ≡ Ok tt → V.tells → (h : Hashing D) (all : List D) →
             IsFullOf F.shape h D.spelling (D.Read.admits tt) all self (present (V.state vol.old)) →
             IfErr result IsOutside }
@@ -265,7 +270,8 @@ impl<F: Family, D: Digest> Merkle<F, D> {
             AllStand F.shape h D.spelling all durable top self (V.state vol.old) →
             StandsWhilePruned F.shape h D.spelling all durable top loc self (V.state vol.old) (V.state vol.new) }
         // After it all leaves are durable.
-        ensures settled { OnOk result (self.boundary < loc → V.tells → (h : Hashing D) (all : List D) (durable top : ℕ) →
+        ensures settled { OnOk result (self.boundary < loc → V.tells →
+            (h : Hashing D) (all : List D) (durable top : ℕ) →
             IsFullOf F.shape h D.spelling (D.Read.admits tt) all self (present (V.state vol.old)) →
             AllStand F.shape h D.spelling all durable top self (V.state vol.old) →
             AllStand F.shape h D.spelling all (length all) (max top loc) self (V.state vol.new)) }
@@ -311,7 +317,8 @@ impl<F: Family, D: Digest> Merkle<F, D> {
             KeepsPins ((V.state vol.old).map self.metadata) ((V.state vol.new).map self.metadata)) }
         // Of the map's keys at most the boundary's and those of its pins change.
         ensures others { let old = V.state vol.old in
-            OnOk result (V.tells → KeepsOthers (pins F.shape self.tree.leaves) (old.map self.metadata) ((V.state vol.new).map self.metadata)) }
+            OnOk result (V.tells → KeepsOthers (pins F.shape self.tree.leaves) (old.map self.metadata)
+            ((V.state vol.new).map self.metadata)) }
         ensures outside { V.tells → (h : Hashing D) (all : List D) →
             IsFullOf F.shape h D.spelling (D.Read.admits tt) all self (present (V.state vol.old)) →
             IfErr result IsOutside }
@@ -321,9 +328,11 @@ impl<F: Family, D: Digest> Merkle<F, D> {
         ensures images { V.tells → (h : Hashing D) (all : List D) (durable top : ℕ) →
             IsFullOf F.shape h D.spelling (D.Read.admits tt) all self (present (V.state vol.old)) →
             AllStand F.shape h D.spelling all durable top self (V.state vol.old) →
-            StandsWhilePruned F.shape h D.spelling all durable top self.tree.leaves self (V.state vol.old) (V.state vol.new) }
+            StandsWhilePruned F.shape h D.spelling all durable top self.tree.leaves self (V.state vol.old)
+            (V.state vol.new) }
         // After it all leaves are durable.
-        ensures settled { OnOk result (self.boundary < self.tree.leaves → V.tells → (h : Hashing D) (all : List D) (durable top : ℕ) →
+        ensures settled { OnOk result (self.boundary < self.tree.leaves → V.tells →
+            (h : Hashing D) (all : List D) (durable top : ℕ) →
             IsFullOf F.shape h D.spelling (D.Read.admits tt) all self (present (V.state vol.old)) →
             AllStand F.shape h D.spelling all durable top self (V.state vol.old) →
             AllStand F.shape h D.spelling all (length all) (max top self.tree.leaves) self (V.state vol.new)) }

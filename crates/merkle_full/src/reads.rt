@@ -22,8 +22,9 @@ impl<F: Family, D: Digest> Merkle<F, D> {
     ghost use Rattle.merkle_full.specs.Lists.{IsFullOf, IsNodeOf};
     ghost use Rattle.merkle_full.specs.Reading.{IsUnreadAt, IsUnreadAmong, IsPast, IsFirstUnread, peaks_answer};
 
-    /// The node at a position, from memory or else from the log: none where it stands below the log's start and isn't in memory.
-    /// It refuses a position at or past the size with `Journal(ItemOutOfRange)`. It reads the log at most once.
+    /// The node at a position, from memory or else from the log: none where it stands below the log's start and isn't
+    /// in memory. It refuses a position at or past the size with `Journal(ItemOutOfRange)`. It reads the log at most
+    /// once.
     pub fn get_node<V: Volume>(
         &self,
         vol: &mut V,
@@ -71,8 +72,8 @@ impl<F: Family, D: Digest> Merkle<F, D> {
         Ok(Some(node))
     }
 
-    /// The nodes at these positions, in their order. It refuses the first without one: with `ElementPruned`, or, where it stands
-    /// at or past the size, with `Journal(ItemOutOfRange)`. It reads the log at most once for each.
+    /// The nodes at these positions, in their order. It refuses the first without one: with `ElementPruned`, or, where
+    /// it stands at or past the size, with `Journal(ItemOutOfRange)`. It reads the log at most once for each.
     pub fn get_nodes<V: Volume>(
         &self,
         vol: &mut V,
@@ -138,9 +139,9 @@ impl<F: Family, D: Digest> Merkle<F, D> {
         Ok(nodes)
     }
 
-    /// The peaks of a number of leaves, the oldest first. It refuses, in this order: `LocationOverflow` above `MAX_LEAVES`,
-    /// `RangeOutOfBounds` past the leaves, and `ElementPruned` the first peak that isn't there. It reads the log at most once for
-    /// each peak.
+    /// The peaks of a number of leaves, the oldest first. It refuses, in this order: `LocationOverflow` above
+    /// `MAX_LEAVES`, `RangeOutOfBounds` past the leaves, and `ElementPruned` the first peak that isn't there. It reads
+    /// the log at most once for each peak.
     pub fn pinned_nodes_at<V: Volume>(
         &self,
         vol: &mut V,

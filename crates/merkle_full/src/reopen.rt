@@ -17,8 +17,8 @@ use std::alloc::Global;
 use tree_core::{Digest, Error, Family, Location, Mem};
 use volume_base::{MetaMap, Volume};
 
-/// Memory of so many leaves at rest, with the peaks of the leaves at which the tree is pruned. It refuses as `recovered_node` the
-/// first peak that isn't recovered, those of the leaves before those of the boundary.
+/// Memory of so many leaves at rest, with the peaks of the leaves at which the tree is pruned. It refuses as
+/// `recovered_node` the first peak that isn't recovered, those of the leaves before those of the boundary.
 pub(crate) fn reopened<F: Family, D: Digest, R: BackingRecovery<Item = D>, V: Volume>(
     alloc: Global,
     map: &MetaMap,

@@ -20,7 +20,8 @@ fn pin_map<F: Family, D: Digest>(
     digests: &[D],
 ) -> Result<BTreeMap<Position<F>, D>, Error<F>>
     requires { length positions.now ≡ length digests.now }
-    ensures among { IfOk result (λ m. (p : ℕ) (d : D) → get nat_cmp m p ≡ Some d → IsPinAt positions.now digests.now p d) }
+    ensures among { IfOk result (λ m. (p : ℕ) (d : D) → get nat_cmp m p ≡ Some d →
+        IsPinAt positions.now digests.now p d) }
     ensures all { IfOk result (λ m. (i p : ℕ) → slice_get positions.now i ≡ Some p → IsSome (get nat_cmp m p)) }
     ensures memory { IsOkUnless result Error.Memory }
 {

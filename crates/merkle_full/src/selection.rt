@@ -52,9 +52,9 @@ pub(crate) fn stored_boundary<F: Family>(
     }
 }
 
-/// How many leaves a log with these bounds is opened at, beside a stored boundary and under a cap. It refuses, in this order: with
-/// `ElementPruned` a cap below the boundary, with `Journal(ItemPruned)` one whose position is below the start, and with
-/// `MissingNode` where the log ends before what the tree is pruned at.
+/// How many leaves a log with these bounds is opened at, beside a stored boundary and under a cap. It refuses, in this
+/// order: with `ElementPruned` a cap below the boundary, with `Journal(ItemPruned)` one whose position is below the
+/// start, and with `MissingNode` where the log ends before what the tree is pruned at.
 pub(crate) fn select<F: Family>(
     boundary: u64,
     start: u64,

@@ -17,8 +17,8 @@ use std::num::NonZeroU64;
 use tree_core::{Digest, Error, Family};
 use volume_base::{MetaMap, Volume};
 
-/// Takes the whole blobs below a boundary's position away. Where the log's start moves, the map that was read is put back before,
-/// whole, so that a crash can't leave an older one beside the later start.
+/// Takes the whole blobs below a boundary's position away. Where the log's start moves, the map that was read is put
+/// back before, whole, so that a crash can't leave an older one beside the later start.
 fn advance<F: Family, D: Digest, V: Volume>(
     vol: &mut V,
     nodes: JournalRecovery<D, Fixed>,
@@ -33,14 +33,18 @@ fn advance<F: Family, D: Digest, V: Volume>(
     ensures within { IfOk result (λ made. V.tells → IsWithin (seen_of nodes) (V.state vol.old) →
         IsWithin (seen_of made) (V.state vol.new)) }
     ensures pruned { let log = log_of (seen_of nodes) (V.state vol.old) in
-        OnOk result (V.tells → IsWithin (seen_of nodes) (V.state vol.old) → size F.shape boundary ≤ (seen_of nodes).end →
-        log_of (seen_of nodes) (V.state vol.new) ≡ pruned_to log (blob_start (seen_of nodes).blob (size F.shape boundary))) }
+        OnOk result (V.tells → IsWithin (seen_of nodes) (V.state vol.old) →
+        size F.shape boundary ≤ (seen_of nodes).end →
+        log_of (seen_of nodes) (V.state vol.new) ≡ pruned_to log
+        (blob_start (seen_of nodes).blob (size F.shape boundary))) }
     ensures map { OnOk result (V.tells → (V.state vol.old).map metadata.now ≡ read.now →
         (V.state vol.new).map metadata.now ≡ read.now) }
     ensures outside { IfErr result IsOutside }
-    ensures names { V.tells → NamesCall (log_and_map (seen_of nodes).name metadata.now) (V.state vol.old) (V.state vol.new) }
+    ensures names { V.tells → NamesCall (log_and_map (seen_of nodes).name metadata.now) (V.state vol.old)
+        (V.state vol.new) }
     ensures images { V.tells → (h : Hashing D) (all : List D) (durable top : ℕ) →
-        (V.state vol.old).map metadata.now ≡ read.now → ((b : ℕ) → b ≤ length all → StoresBoundary read.now b → b ≡ boundary) →
+        (V.state vol.old).map metadata.now ≡ read.now →
+        ((b : ℕ) → b ≤ length all → StoresBoundary read.now b → b ≡ boundary) →
         PairHas (V.state vol.old) (seen_of nodes).name metadata.now (TreeStands F.shape h D.spelling all durable top) →
         PairKeeps (seen_of nodes).name metadata.now (TreeStands F.shape h D.spelling all durable top)
         (V.state vol.old) (V.state vol.new) }
@@ -57,7 +61,8 @@ fn advance<F: Family, D: Digest, V: Volume>(
     Ok(nodes)
 }
 
-/// The node log of a tree with so many complete leaves: cut to their nodes, from the blob of the boundary's position on, and durable.
+/// The node log of a tree with so many complete leaves: cut to their nodes, from the blob of the boundary's position
+/// on, and durable.
 pub(crate) fn settled<F: Family, D: Digest, V: Volume>(
     vol: &mut V,
     nodes: JournalRecovery<D, Fixed>,
@@ -83,10 +88,13 @@ pub(crate) fn settled<F: Family, D: Digest, V: Volume>(
         (V.state vol.new).map metadata.now ≡ read.now) }
     ensures outside { V.tells → IsHeld (seen_of nodes) (V.state vol.old) → IfErr result IsOutside }
     ensures errors { IfErr result IsLifted }
-    ensures names { V.tells → NamesCall (log_and_map (seen_of nodes).name metadata.now) (V.state vol.old) (V.state vol.new) }
+    ensures names { V.tells → NamesCall (log_and_map (seen_of nodes).name metadata.now) (V.state vol.old)
+        (V.state vol.new) }
     // Where no more leaves are durable than are complete, each image goes on standing for the list.
-    ensures images { V.tells → (h : Hashing D) (all : List D) (durable top : ℕ) → IsHeld (seen_of nodes) (V.state vol.old) →
-        (V.state vol.old).map metadata.now ≡ read.now → ((b : ℕ) → b ≤ length all → StoresBoundary read.now b → b ≡ boundary) →
+    ensures images { V.tells → (h : Hashing D) (all : List D) (durable top : ℕ) →
+        IsHeld (seen_of nodes) (V.state vol.old) →
+        (V.state vol.old).map metadata.now ≡ read.now →
+        ((b : ℕ) → b ≤ length all → StoresBoundary read.now b → b ≡ boundary) →
         durable ≤ complete →
         PairHas (V.state vol.old) (seen_of nodes).name metadata.now (TreeStands F.shape h D.spelling all durable top) →
         PairKeeps (seen_of nodes).name metadata.now (TreeStands F.shape h D.spelling all durable top)

@@ -61,8 +61,8 @@ fn stored_pins<F: Family, D: Digest, R: BackingRecovery<Item = D>, V: Volume>(
     Ok(pins)
 }
 
-/// The pins at these positions: those that are given, or else each from a map of the volume or from the log. Without given ones it
-/// refuses as `recovered_nodes`.
+/// The pins at these positions: those that are given, or else each from a map of the volume or from the log. Without
+/// given ones it refuses as `recovered_nodes`.
 pub(crate) fn start_pins<F: Family, D: Digest, R: BackingRecovery<Item = D>, V: Volume>(
     alloc: Global,
     vol: &mut V,

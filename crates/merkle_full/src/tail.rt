@@ -8,7 +8,8 @@ ghost use Rattle.tree_core.specs.Tree.{node_at, IsOf};
 use std::alloc::Global;
 use tree_core::{Digest, Error, Family, Mem, Position};
 
-/// The nodes of a tree in memory from a position to its end. It refuses the first that memory doesn't have with `MissingNode`.
+/// The nodes of a tree in memory from a position to its end. It refuses the first that memory doesn't have with
+/// `MissingNode`.
 pub(crate) fn nodes_from<F: Family, D: Digest>(
     alloc: Global,
     mem: &Mem<F, D>,
