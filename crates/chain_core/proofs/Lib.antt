@@ -7,3 +7,4 @@ pub mod StateLemmas
 pub mod PlaceLemmas
 pub mod ChainLemmas
 pub mod MarkLemmas
+pub mod MarkedPoolLemmas

@@ -43,11 +43,11 @@ cut_marks t o d tips older tail split =
     ap (λ k. drop k (d ∷ reverse tail)) count ∙ ap (drop (length (reverse older))) marks ∙ drop-append_seam (reverse older) (o ∷ reverse tips) in
     ap (λ ns. ns ++ (t ∷ [])) kept ∙ ap (λ ns. o ∷ ns) (sym (behind_one t tips))
 
-at_seam : (P : ℕ → Type 0) (xs ys : List ℕ) (o : ℕ) → AllByRecursion P (xs ++ (o ∷ ys)) → P o
+pub at_seam : (P : ℕ → Type 0) (xs ys : List ℕ) (o : ℕ) → AllByRecursion P (xs ++ (o ∷ ys)) → P o
 at_seam P [] ys o all = all.0
 at_seam P (x ∷ xs) ys o all = at_seam P xs ys o all.1
 
-later_than : (d o : ℕ) → d ≤ o → later d (Some o) ≡ o
+pub later_than : (d o : ℕ) → d ≤ o → later d (Some o) ≡ o
 later_than d o le = grind (arith, nat_tests)
 
 -- ---- what is reached

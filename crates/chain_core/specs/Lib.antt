@@ -7,5 +7,6 @@ pub mod States
 pub mod Reached
 pub mod Sealing
 pub mod Marks
+pub mod MarkedPool
 pub mod Chains
 pub mod Answers

@@ -14,7 +14,7 @@ pub use bounds::{Bounds, effective_boundary, merkleizable, validate_batch_applic
 pub use commitment::{Commitment, Compatible};
 pub use error::{DataFault, Error};
 pub use floor::validate_merkleize_floor;
-pub use laws::equality_laws;
+pub use laws::{equality_laws, marks_laws};
 pub use place::Place;
 pub use pool::{BatchId, HeldBatch, Pool, PoolError};
 pub use reach::{Chained, Reach, reach_of};
