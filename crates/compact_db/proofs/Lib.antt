@@ -20,3 +20,4 @@ pub mod AnswerLemmas
 pub mod ProvingLemmas
 pub mod MarkLemmas
 pub mod SetLemmas
+pub mod ImageLemmas

@@ -1,19 +1,23 @@
-use Rattle.std.proofs.Common.{◌≡◌, inl, inr, true, false, ℕ, List, ◌∷◌, ◌++◌, length, Some, refl, sym, ◌∙◌, ap, subst, arith}
+use Rattle.std.proofs.Common.{◌≡◌, inl, inr, true, false, ℕ, List, ◌∷◌, ◌++◌, length, map, Some, refl, sym, ◌∙◌, ap, subst, arith}
 use Rattle.std.specs.Prelude.{Contains}
 use Rattle.std.proofs.lemmas.List.{length-append}
 use Rattle.journal_base.specs.View.{log_of}
+use Rattle.volume_base.specs.Volume.{LogCall}
 use Rattle.volume_base.proofs.CallLemmas.{names_call_none}
 use Rattle.tree_core.specs.Applied.{Fits}
 use Rattle.chain_core.specs.Reached.{item_at}
 use Rattle.chain_core.specs.declared.commitment.Commitment.{Commitment}
 use Rattle.log_model.specs.Operations.{leaves_from}
 use Rattle.tree_core.specs.Batches.{IsSealedOf}
+use Rattle.witness_store.specs.declared.witness.Witness.{Witness}
 use Rattle.compact_db.specs.Batches.{MerkleizedView}
 use Rattle.compact_db.specs.DbView.{DbView, IsOfList, commitment_in, seen_log, waits}
 use Rattle.compact_db.specs.Held.{IsHeldFor, SameState}
-use Rattle.compact_db.specs.Writing.{written_log}
+use Rattle.compact_db.specs.WitnessOf.{witness_of}
+use Rattle.compact_db.specs.Writing.{written_log, Settles}
 use Rattle.compact_db.proofs.ApplyLemmas.{none_more, always, for_each, both, one_item, last_read, later_ok, later_on, on_later, on_more, err_more, err_ok, only_there, outside_not_stale}
-use Rattle.compact_db.proofs.HeldLemmas.{list_same, still_held}
+use Rattle.compact_db.proofs.HeldLemmas.{list_same, last_witness, still_held}
+use Rattle.compact_db.proofs.ImageLemmas.{images_none, call_none, call_settled, restarts_none}
 use Rattle.compact_db.proofs.MarkLemmas.{marked_fits}
 use Rattle.compact_db.proofs.DbLemmas.{size_of_list}
 use Rattle.compact_db.proofs.database.CompactDb.apply_batch.Goals as goal
@@ -308,3 +312,107 @@ returns-clause-full g c told is b at =
     let test = c.if-as_u64.false in
     let all = c.grown.ensures.full told is in
     (inl (omega (arith, test, left, right, here, tip, own, old)), all.0, all.1)
+
+-- ---- what a crash leaves
+
+pub returns-in-Err-clause-images : goal.returns-in-Err-clause-images
+returns-in-Err-clause-images g c told ops more sizes b greatest least at was of some has =
+    images_none g.H.Digest.Spelled.spelling (seen_log c.args.self.log).name (map (witness_of {F = g.row.F.Denot} g.F.Family.shape g.H.Hasher.hash g.O.Logged.meaning ops) sizes) _ greatest least (g.V.Volume.state c.args.vol.now) has
+
+pub returns-in_default-duplicate-clause-images : goal.returns-in_default-duplicate-clause-images
+returns-in_default-duplicate-clause-images g c told ops more sizes b greatest least at was of some has =
+    images_none g.H.Digest.Spelled.spelling (seen_log c.args.self.log).name (map (witness_of {F = g.row.F.Denot} g.F.Family.shape g.H.Hasher.hash g.O.Logged.meaning ops) sizes) _ greatest least (g.V.Volume.state c.args.vol.now) has
+
+pub returns-then-as_u64-clause-images : goal.returns-then-as_u64-clause-images
+returns-then-as_u64-clause-images g c told ops more sizes b greatest least at was of some has =
+    let same = c.batch.view_is ∙ one_item (item_at c.args.pool.now c.args.id) c.item-batch.result.now b c.item-batch.ensures at in
+    let tip : c.batch.inside.bounds.tip.size ≡ b.bounds.tip.size = ap (λ (x : MerkleizedView g.row.F.Denot g.row.H-Digest.Denot g.row.O.Denot). x.bounds.tip.size) same in
+    let end : b.bounds.tip.size ≡ length (ops ++ more) = ap (λ (x : Commitment g.row.F.Denot g.row.H-Digest.Denot). x.size) of.batch.bounds.tip in
+    let old : c.self.inside.tip.witness.size ≡ c.args.self.tip.witness.size = ap (λ (d : DbView g.row.F.Denot g.row.H-Digest.Denot g.row.O.Denot g.row.O-Cfg.Denot). d.tip.witness.size) c.self.view_is in
+    let count = size_of_list g.F.Family.shape g.H.Hasher.hash g.O.Logged.meaning ops _ _ _ was.list in
+    let here = c.batch.invariant.tip in
+    let own = c.self.invariant.size in
+    let test = c.if-as_u64.true in
+    let left = c.as_u64.ensures ∙ c.leaves.ensures.leaves in
+    let right = c.as_u64-2.ensures ∙ c.leaves-2.ensures.leaves in
+    absurd (omega (arith, test, left, right, here, tip, end, own, old, count, some, length-append ops more))
+
+pub returns-clause-images : goal.returns-clause-images
+returns-clause-images g c told ops more sizes b greatest least at was of some has =
+    let s = g.F.Family.shape in
+    let h = g.H.Hasher.hash in
+    let m = g.O.Logged.meaning in
+    let same = c.batch.view_is ∙ one_item (item_at c.args.pool.now c.args.id) c.item-batch.result.now b c.item-batch.ensures at in
+    let sealed : IsSealedOf s h (leaves_from s h m 0 (ops ++ more)) c.batch.inside.tree =
+    subst (IsSealedOf s h (leaves_from s h m 0 (ops ++ more))) (sym (ap (λ (x : MerkleizedView g.row.F.Denot g.row.H-Digest.Denot g.row.O.Denot). x.tree) same)) of.tree in
+    let rest = c.as_slice.ensures ∙ ap (λ (x : MerkleizedView g.row.F.Denot g.row.H-Digest.Denot g.row.O.Denot). x.operations) same ∙ of.batch.own in
+    let read = last_read c.as_slice.result.now (ops ++ more) b.bounds.base.size c.commit-item.result _ rest c.in-len1-up.len_at_least c.commit-item.is in
+    c.grown.ensures.images told ops more sizes greatest least was sealed of.ends of.few (read ∙ ap Some (sym c.in-Ok-duplicate.ensures.same)) has
+
+-- ---- its log, of whichever list
+
+pub returns-in-Err-clause-call : goal.returns-in-Err-clause-call
+returns-in-Err-clause-call g c told = (
+  c.args.self.tip.witness,
+  call_none g.H.Digest.Spelled.spelling c.args.self.log c.args.self.tip.witness (g.V.Volume.state c.args.vol.now),
+  tt,
+)
+
+pub returns-in_default-duplicate-clause-call : goal.returns-in_default-duplicate-clause-call
+returns-in_default-duplicate-clause-call g c told = (
+  c.args.self.tip.witness,
+  call_none g.H.Digest.Spelled.spelling c.args.self.log c.args.self.tip.witness (g.V.Volume.state c.args.vol.now),
+  tt,
+)
+
+pub returns-then-as_u64-clause-call : goal.returns-then-as_u64-clause-call
+returns-then-as_u64-clause-call g c told = (
+  c.args.self.tip.witness,
+  call_settled g.H.Digest.Spelled.spelling c.args.self.log c.args.self.tip.witness (g.V.Volume.state c.args.vol.now) (g.V.Volume.state c.settled.new.vol) (c.settled.ensures.call told),
+  both c.settled.result _ _ _ c.settled.ensures.same c.settled.ensures.same (λ made same too. ap (λ v. v.witness) same.tip),
+)
+
+-- ---- the log of an import
+
+pub returns-in-Err-clause-restarts : goal.returns-in-Err-clause-restarts
+returns-in-Err-clause-restarts g c waiting told ops more b at was of =
+    restarts_none g.H.Digest.Spelled.spelling c.args.self.log _ (g.V.Volume.state c.args.vol.now)
+
+pub returns-in_default-duplicate-clause-restarts : goal.returns-in_default-duplicate-clause-restarts
+returns-in_default-duplicate-clause-restarts g c waiting told ops more b at was of =
+    restarts_none g.H.Digest.Spelled.spelling c.args.self.log _ (g.V.Volume.state c.args.vol.now)
+
+pub returns-then-as_u64-clause-restarts : goal.returns-then-as_u64-clause-restarts
+returns-then-as_u64-clause-restarts g c waiting told ops more b at was of =
+    let s = g.F.Family.shape in
+    let h = g.H.Hasher.hash in
+    let m = g.O.Logged.meaning in
+    let same = c.batch.view_is ∙ one_item (item_at c.args.pool.now c.args.id) c.item-batch.result.now b c.item-batch.ensures at in
+    let tip : c.batch.inside.bounds.tip.size ≡ b.bounds.tip.size = ap (λ (x : MerkleizedView g.row.F.Denot g.row.H-Digest.Denot g.row.O.Denot). x.bounds.tip.size) same in
+    let end : b.bounds.tip.size ≡ length (ops ++ more) = ap (λ (x : Commitment g.row.F.Denot g.row.H-Digest.Denot). x.size) of.batch.bounds.tip in
+    let old : c.self.inside.tip.witness.size ≡ c.args.self.tip.witness.size = ap (λ (d : DbView g.row.F.Denot g.row.H-Digest.Denot g.row.O.Denot g.row.O-Cfg.Denot). d.tip.witness.size) c.self.view_is in
+    let count = size_of_list s h m ops _ _ _ was in
+    let here = c.batch.invariant.tip in
+    let own = c.self.invariant.size in
+    let test = c.if-as_u64.true in
+    let left = c.as_u64.ensures ∙ c.leaves.ensures.leaves in
+    let right = c.as_u64-2.ensures ∙ c.leaves-2.ensures.leaves in
+    let none : ops ++ more ≡ ops = none_more ops more (omega (arith, test, left, right, here, tip, end, own, old, count, length-append ops more)) in
+    let last = last_witness s h m g.met.F.Family.lawful ops _ _ _ was in
+    let a = g.V.Volume.state c.args.vol.now in
+    let b = g.V.Volume.state c.settled.new.vol in
+    subst (λ (w : Witness g.row.F.Denot g.row.H-Digest.Denot). LogCall (seen_log c.args.self.log).name (Settles g.H.Digest.Spelled.spelling c.args.self.log w a) a b)
+    (last ∙ ap (λ (os : List g.row.O.Denot). witness_of s h m os (length os)) (sym none))
+    (c.settled.ensures.call told)
+
+pub returns-clause-restarts : goal.returns-clause-restarts
+returns-clause-restarts g c waiting told ops more b at was of =
+    let s = g.F.Family.shape in
+    let h = g.H.Hasher.hash in
+    let m = g.O.Logged.meaning in
+    let same = c.batch.view_is ∙ one_item (item_at c.args.pool.now c.args.id) c.item-batch.result.now b c.item-batch.ensures at in
+    let sealed : IsSealedOf s h (leaves_from s h m 0 (ops ++ more)) c.batch.inside.tree =
+    subst (IsSealedOf s h (leaves_from s h m 0 (ops ++ more))) (sym (ap (λ (x : MerkleizedView g.row.F.Denot g.row.H-Digest.Denot g.row.O.Denot). x.tree) same)) of.tree in
+    let rest = c.as_slice.ensures ∙ ap (λ (x : MerkleizedView g.row.F.Denot g.row.H-Digest.Denot g.row.O.Denot). x.operations) same ∙ of.batch.own in
+    let read = last_read c.as_slice.result.now (ops ++ more) b.bounds.base.size c.commit-item.result _ rest c.in-len1-up.len_at_least c.commit-item.is in
+    c.grown.ensures.restarts waiting told ops more was sealed of.ends of.few (read ∙ ap Some (sym c.in-Ok-duplicate.ensures.same))

@@ -3,11 +3,12 @@ use Rattle.std.specs.Prelude.{IsOk}
 use Rattle.journal_base.specs.View.{log_of, SameButBounds}
 use Rattle.volume_base.specs.Log.{end_of}
 use Rattle.volume_base.specs.Names.{log_alone, NamesCall}
+use Rattle.volume_base.specs.Volume.{LogCall}
 use Rattle.volume_base.proofs.CallLemmas.{names_call_log}
 use Rattle.compact_db.specs.DbView.{DbView, IsOfList, seen_log, waits}
 use Rattle.compact_db.specs.declared.database.WitnessLog.TheVariants.{Open}
 use Rattle.compact_db.proofs.HeldLemmas.{imported_held, allowed_tip}
-use Rattle.compact_db.specs.Writing.{written_log, IsOutsideOrFull, IsSettledLog}
+use Rattle.compact_db.specs.Writing.{written_log, Settles, IsOutsideOrFull, IsSettledLog}
 use Rattle.compact_db.proofs.SettleLemmas.{full_cause, err_each, size_is, settled_later}
 use Rattle.compact_db.proofs.database.CompactDb.settled.Goals as goal
 
@@ -69,3 +70,17 @@ pub returns-clause-names : goal.returns-clause-names
 returns-clause-names g c told =
     subst (λ (d : DbView g.row.F.Denot g.row.H-Digest.Denot g.row.O.Denot g.row.O-Cfg.Denot). NamesCall (log_alone (seen_log d.log).name) (g.V.Volume.state c.args.vol.now) (g.V.Volume.state c.opened.new.vol)) c.self.view_is
     (names_call_log (log_alone (seen_log c.self.inside.log).name) (seen_log c.self.inside.log).name _ (g.V.Volume.state c.args.vol.now) (g.V.Volume.state c.opened.new.vol) (inl refl) (c.opened.ensures.log told))
+
+pub returns-in_err-store-clause-call : goal.returns-in_err-store-clause-call
+returns-in_err-store-clause-call g c told =
+    let a = g.V.Volume.state c.args.vol.now in
+    let b = g.V.Volume.state c.opened.new.vol in
+    subst (λ (d : DbView g.row.F.Denot g.row.H-Digest.Denot g.row.O.Denot g.row.O-Cfg.Denot). LogCall (seen_log d.log).name (Settles g.H.Digest.Spelled.spelling d.log d.tip.witness a) a b) c.self.view_is
+    (c.opened.ensures.log told)
+
+pub returns-clause-call : goal.returns-clause-call
+returns-clause-call g c told =
+    let a = g.V.Volume.state c.args.vol.now in
+    let b = g.V.Volume.state c.opened.new.vol in
+    subst (λ (d : DbView g.row.F.Denot g.row.H-Digest.Denot g.row.O.Denot g.row.O-Cfg.Denot). LogCall (seen_log d.log).name (Settles g.H.Digest.Spelled.spelling d.log d.tip.witness a) a b) c.self.view_is
+    (c.opened.ensures.log told)
