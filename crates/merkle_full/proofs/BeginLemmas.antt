@@ -44,7 +44,7 @@ size_zero : (s : Shape) → length (made s 0) ≡ 0
 unfolding made
 size_zero s = refl
 
-empty_map : {D : Type 0} (s : Shape) (h : Hashing D) (spelling : D → List ℕ) (all : List D) → IsLawful s → IsMapOf s h spelling all 0 finmap.empty
+pub empty_map : {D : Type 0} (s : Shape) (h : Hashing D) (spelling : D → List ℕ) (all : List D) → IsLawful s → IsMapOf s h spelling all 0 finmap.empty
 empty_map s h spelling all w = record {
   stored = inr (get-empty _ _, refl);
   within = omega arith;

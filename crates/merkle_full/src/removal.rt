@@ -5,7 +5,7 @@ use tree_core::{Digest, Error, Family};
 use volume_base::Volume;
 
 impl<F: Family, D: Digest> Merkle<F, D> {
-    ghost use Rattle.std.specs.Prelude.{◌≡◌, IfErr, OnOk};
+    ghost use Rattle.std.specs.Prelude.{◌≡◌, ℕ, List, IfErr, OnOk};
     ghost use Rattle.std.specs.FinMap as finmap;
     ghost use Rattle.journal_base.specs.View.{log_of, left_of};
     ghost use Rattle.tree_store.specs.Stores.{IsOutside};
@@ -14,7 +14,9 @@ impl<F: Family, D: Digest> Merkle<F, D> {
     ghost use Rattle.volume_base.specs.Moments.{PairKeeps};
     ghost use Rattle.volume_base.specs.Names.{log_and_map, NamesCall};
     ghost use Rattle.volume_base.specs.Volume.{OnlyLeft, WritesMap, Writes};
-    ghost use Rattle.merkle_full.specs.Removing.{IsRemnant};
+    ghost use Rattle.tree_shape.specs.Hashing.{Hashing};
+    ghost use Rattle.merkle_full.specs.Flushing.{AllStand};
+    ghost use Rattle.merkle_full.specs.Removing.{IsRemnant, StandsOrEmpty};
 
     /// Takes the map away.
     fn remove_map<V: Volume>(&self, vol: &mut V) -> Result<(), Error<F>>
@@ -42,6 +44,12 @@ impl<F: Family, D: Digest> Merkle<F, D> {
             V.tells → NamesCall names (V.state vol.old) (V.state vol.new) }
         ensures images { let left = IsRemnant (V.state vol.old) self.log.name self.metadata in
             V.tells → PairKeeps self.log.name self.metadata left (V.state vol.old) (V.state vol.new) }
+        // So an opening of an image gives the leaves and nodes that it gave before the call, or the empty tree.
+        ensures stands { V.tells → (h : Hashing D) (all : List D) (durable top : ℕ) →
+            AllStand F.shape h D.spelling all durable top self (V.state vol.old) →
+            PairKeeps self.log.name self.metadata
+            (StandsOrEmpty F.shape h D.spelling all durable top (V.state vol.old) self.log.name)
+            (V.state vol.old) (V.state vol.new) }
         ensures writes { Writes V.tells Error.Volume (V.state vol.old) (V.state vol.new) result }
     {
         self.remove_map(vol)?;

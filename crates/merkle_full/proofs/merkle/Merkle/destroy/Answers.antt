@@ -3,7 +3,7 @@ use Rattle.volume_base.specs.Log.{Vanishes}
 use Rattle.volume_base.specs.Volume.{LogCall}
 use Rattle.volume_base.proofs.CallLemmas.{names_call_map}
 use Rattle.merkle_full.specs.Full.{Full}
-use Rattle.merkle_full.proofs.RemoveLemmas.{map_goes, log_goes}
+use Rattle.merkle_full.proofs.RemoveLemmas.{map_goes, log_goes, remnant_stands}
 use Rattle.merkle_full.proofs.RunLemmas.{names_then_log}
 use Rattle.merkle_full.proofs.merkle.Merkle.destroy.Goals as goal
 
@@ -43,3 +43,15 @@ returns-clause-images g c tells =
     let call = subst (λ (n : List ℕ). LogCall n Vanishes b d) (ap (λ (t : Full g.row.D.Denot). t.log.name) c.self.view_is) ((c.in_ok-destroy.ensures {u = tt}).log tt tells) in
     log_goes c.args.self.log.name c.args.self.metadata a b d (c.remove_map.ensures.call.map tells).images (a.map c.args.self.metadata) ((g.met.V.Volume.contents_left c.args.vol.now tells).maps c.args.self.metadata)
     ((c.in_ok-remove_map.ensures {u = tt}).durable tells) call.images
+
+pub returns-in_err-remove_map-clause-stands : goal.returns-in_err-remove_map-clause-stands
+returns-in_err-remove_map-clause-stands g c tells h all durable top has =
+    remnant_stands g.F.Family.shape h g.D.Spelled.spelling all durable top g.met.F.Family.lawful (g.V.Volume.state c.args.vol.now) c.args.self.log.name c.args.self.metadata (g.V.Volume.state c.remove_map.new.vol) has (returns-in_err-remove_map-clause-images g c tells)
+
+pub returns-in_err-destroy-clause-stands : goal.returns-in_err-destroy-clause-stands
+returns-in_err-destroy-clause-stands g c tells h all durable top has =
+    remnant_stands g.F.Family.shape h g.D.Spelled.spelling all durable top g.met.F.Family.lawful (g.V.Volume.state c.args.vol.now) c.args.self.log.name c.args.self.metadata (g.V.Volume.state c.destroy.new.vol) has (returns-in_err-destroy-clause-images g c tells)
+
+pub returns-clause-stands : goal.returns-clause-stands
+returns-clause-stands g c tells h all durable top has =
+    remnant_stands g.F.Family.shape h g.D.Spelled.spelling all durable top g.met.F.Family.lawful (g.V.Volume.state c.args.vol.now) c.args.self.log.name c.args.self.metadata (g.V.Volume.state c.destroy.new.vol) has (returns-clause-images g c tells)
