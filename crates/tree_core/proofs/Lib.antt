@@ -15,6 +15,7 @@ pub mod PinnedLemmas
 pub mod BuiltLemmas
 pub mod PinningLemmas
 pub mod RebuiltLemmas
+pub mod HashedLemmas
 pub mod OverlayLemmas
 pub mod CoveredLemmas
 pub mod RestLemmas

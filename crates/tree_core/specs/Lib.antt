@@ -21,6 +21,7 @@ pub use Rattle.tree_store.specs.Errors
 pub use Rattle.tree_store.specs.Stores
 pub use Rattle.tree_store.specs.declared.error.Error as TreeErrors
 pub mod Pruned
+pub mod Hashed
 pub mod Links
 pub mod Reading
 pub mod KeptNodes

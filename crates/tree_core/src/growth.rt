@@ -3,6 +3,7 @@ ghost use Rattle.std.specs.Prelude.{◌≡◌, ℕ, ◌+◌, ◌-◌, ◌≤◌,
 ghost use Rattle.tree_shape.specs.Shape.{peaks_down};
 ghost use Rattle.tree_shape.specs.Slow.{node_of};
 ghost use Rattle.tree_core.specs.Pruned.{made_from, nodes_from, peaks_at, Continues};
+ghost use Rattle.tree_core.specs.Hashed.{AreHashed};
 ghost use Rattle.tree_core.specs.Reading.{TellsPeaks};
 
 use crate::mark::Mark;
@@ -29,6 +30,9 @@ fn push_parents<F: Family, H: Hasher>(
     // What stood there stands there still.
     ensures front { OnOk result ((i : ℕ) (d : H.Digest) →
         slice_get since.old.items i ≡ Some d → slice_get since.new.items i ≡ Some d) }
+    ensures hashed { let mark = mark.now in OnOk result (
+        AreHashed F.shape H.hash mark.leaves (later + 1) mark.peaks.items since.old.items →
+        AreHashed F.shape H.hash mark.leaves (later + 1) mark.peaks.items since.new.items) }
 {
     let n = mark.leaves + later;
     let size = F::size(mark.leaves);
@@ -62,6 +66,9 @@ pub(crate) fn nodes_after<F: Family, H: Hasher>(
     // Whatever the mark, each leaf digest stands behind what the leaves before it made.
     ensures leaves { IfOk result (λ since. (i : ℕ) (d : H.Digest) → slice_get digests.now i ≡ Some d →
         slice_get since.items (length (made_from F.shape mark.now.leaves i)) ≡ Some d) }
+    // And each node over two others is hashed from them.
+    ensures hashed { IfOk result (λ since.
+        AreHashed F.shape H.hash mark.now.leaves (length digests.now) mark.now.peaks.items since.items) }
 {
     let mut since = Vec::new(alloc);
     for i in 0..digests.len() {

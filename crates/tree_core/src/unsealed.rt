@@ -50,6 +50,7 @@ impl<F: Family, D: Digest> UnmerkleizedBatch<F, D> {
     ghost use Rattle.std.specs.Prelude.{◌≡◌, ℕ, ◌+◌, ◌-◌, ◌≤◌, ◌<◌, ◌^◌, List, [], ◌∷◌, ◌++◌, length, map, slice_get, Some, IfOk, OnOk, OnErr, IsOkUnless};
     ghost use Rattle.tree_shape.specs.Slow.{leaf};
     ghost use Rattle.tree_shape.specs.Shape.{made};
+    ghost use Rattle.tree_core.specs.Hashed.{AreHashed};
     ghost use Rattle.tree_core.specs.Links.{ChainSegment, IsLinked, AreChained, StandsBehind};
     ghost use Rattle.tree_core.specs.Batches.{Unsealed, IsUnsealedOf, IsSealedOf, IsSealedFrom, leaf_count, with_digests, sealed_node};
 
@@ -143,6 +144,9 @@ impl<F: Family, D: Digest> UnmerkleizedBatch<F, D> {
         // Each of its leaf digests stands where it was added, whatever it goes on from.
         ensures leaves { IfOk result (λ b. (i : ℕ) (d : D) → slice_get self.digests i ≡ Some d →
             sealed_node F.shape b (length (made F.shape (self.base + i))) ≡ Some d) }
+        // And each of its nodes over two others is hashed from them.
+        ensures hashed { IfOk result (λ b. (own : ChainSegment D) → slice_get b.links (length b.links - 1) ≡ Some own →
+            AreHashed F.shape H.hash own.leaves own.later own.peaks own.nodes) }
         ensures memory { IsOkUnless result Error.Memory }
     {
         let UnmerkleizedBatch {

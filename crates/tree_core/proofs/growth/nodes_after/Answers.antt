@@ -4,6 +4,7 @@ use Rattle.std.proofs.lemmas.Bool.{cases_lt}
 use Rattle.std.proofs.lemmas.Option.{slice_get_read, slice_get_within, same_Some}
 use Rattle.tree_shape.specs.Places.{get-append, get-behind}
 use Rattle.tree_core.specs.Pruned.{made_from}
+use Rattle.tree_core.proofs.HashedLemmas.{nothing_hashed, leaf_hashed}
 use Rattle.tree_core.proofs.Since.{nothing_since, leaf_since}
 use Rattle.tree_core.proofs.growth.nodes_after.Goals as goal
 
@@ -12,6 +13,7 @@ loop-i-init g c = record {
   counted = ap length c.new-since.ensures.items ∙ (nothing_since g.F.Family.shape g.H.Hasher.hash [] c.args.mark.now.leaves).1;
   told = λ all peaks more. c.new-since.ensures.items ∙ (nothing_since g.F.Family.shape g.H.Hasher.hash all c.args.mark.now.leaves).0;
   leaves = λ i d lt is. absurd (omega (arith, lt));
+  hashed = nothing_hashed g.F.Family.shape g.H.Hasher.hash c.args.mark.now.leaves c.args.mark.now.peaks.items 0 c.new-since.result.items c.new-since.ensures.items;
 }
 
 pub loop-i-preserved : goal.loop-i-preserved
@@ -38,6 +40,8 @@ loop-i-preserved g c = record {
             c.in_ok-push_parents.ensures.front place d
             (ap (λ (l : List _). slice_get l place) pushed ∙ ap (slice_get (since ++ (y ∷ []))) end ∙ get-behind since [] y ∙ ap Some is_d)
       ];
+  hashed = c.in_ok-push_parents.ensures.hashed (rw c.in_ok-push.ensures.items
+      (leaf_hashed g.F.Family.shape g.H.Hasher.hash c.args.mark.now.leaves c.args.mark.now.peaks.items c.loop-i.i c.loop-i.since.items _ c.loop-i.invariant.counted c.loop-i.invariant.hashed));
 }
 
 pub returns-clause-leaves : goal.returns-clause-leaves

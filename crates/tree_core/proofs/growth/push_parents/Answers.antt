@@ -1,6 +1,7 @@
 use Rattle.std.proofs.Common.{◌≡◌, ℕ, ◌+◌, ◌-◌, ◌≤◌, ◌^◌, List, length, sym, ◌∙◌, ap, arith, length-append}
 use Rattle.std.specs.Prelude.{slice_get}
 use Rattle.tree_shape.specs.Places.{get-append}
+use Rattle.tree_core.proofs.HashedLemmas.{parent_hashed}
 use Rattle.tree_core.proofs.MemLemmas.{none_left, some_left}
 use Rattle.tree_core.proofs.Since.{children_since, within_since, child_held, next_since, all_since, length-made_from_suc}
 use Rattle.tree_core.proofs.growth.push_parents.Goals as goal
@@ -50,6 +51,10 @@ loop-start-preserved g c =
           c.node_since-left.result c.node_since-right.result g.met.F.Family.lawful g.met.F.Family.keeps value c.loop-start.since.ok.0 (c.loop-start.since.ok.0 ∙ c.loop-start.invariant.counted) low.1 c.half_width-half.ensures.half
           (rw c.deref.ensures.value at c.node_since-left.ensures) (rw c.deref-in-Some.ensures.value at c.node_since-right.ensures) peaks (c.loop-start.invariant.told leaves peaks begun));
       front = λ i d is. ap (λ (l : List _). slice_get l i) c.in_ok-push.ensures.items ∙ get-append c.loop-start.since.items _ i d (c.loop-start.invariant.front i d is);
+      hashed = λ begun. rw (c.in_ok-push.ensures.items, c.node_digest-parent.ensures, c.new-place.ensures, c.len.ensures, c.size-size.ensures)
+          (parent_hashed s g.H.Hasher.hash c.args.mark.now.leaves c.args.mark.now.peaks.items c.args.later c.loop-start.i c.in-Some.start c.in-Some.height c.half_width-half.result _ c.loop-start.since.items
+          c.node_since-left.result c.node_since-right.result value c.loop-start.since.ok.0 (c.loop-start.since.ok.0 ∙ c.loop-start.invariant.counted) c.half_width-half.ensures.half
+          (rw c.deref.ensures.value at c.node_since-left.ensures) (rw c.deref-in-Some.ensures.value at c.node_since-right.ensures) (c.loop-start.invariant.hashed begun));
     }
 
 pub returns-clause-counted : goal.returns-clause-counted

@@ -3,11 +3,13 @@ use Rattle.std.proofs.lemmas.List.{length-map}
 use Rattle.std.specs.Prelude.{slice_get}
 use Rattle.tree_shape.specs.Shape.{made}
 use Rattle.tree_core.specs.Pruned.{made_from, nodes_from, peaks_at, Continues}
+use Rattle.tree_core.specs.Hashed.{AreHashed}
 use Rattle.tree_core.specs.Links.{ChainSegment}
 use Rattle.tree_core.specs.Batches.{Sealed, Unsealed, IsUnsealedOf, IsSealedOf, sealed_node}
 use Rattle.tree_core.proofs.LinkLemmas.{linked_push_map, batch_push_map, continues, ends_with, peaks_longer, linked_drop_at, batch_drop}
 use Rattle.tree_core.proofs.ChainLemmas.{chained_seal}
 use Rattle.tree_core.proofs.Later.{length-split}
+use Rattle.tree_core.proofs.HashedLemmas.{last_hashed}
 use Rattle.tree_core.proofs.OverlayLemmas.{own_node}
 use Rattle.tree_core.proofs.unsealed.UnmerkleizedBatch.merkleize.Goals as goal
 
@@ -65,3 +67,15 @@ returns-clause-leaves g c i d is =
     let place : length (made s n) + k ≡ length (made s (c.args.self.base + i)) = sym (length-split s n i) ∙ ap (λ (m : ℕ). length (made s (m + i))) base in
     subst (λ (p : ℕ). sealed_node s c.seal.result p ≡ Some d) place
     (subst (λ (z : Sealed g.row.D.Denot). sealed_node s z (length (made s n) + k) ≡ Some d) (sym c.seal.ensures) stands)
+
+pub returns-clause-hashed : goal.returns-clause-hashed
+returns-clause-hashed g c =
+    let s = g.F.Family.shape in
+    let h = g.H.Hasher.hash in
+    let own = c.in_ok-own.ensures.ok ∙ c.new.ensures in
+    let base = c.self.inside.base in
+    let later = ap length c.deref-2.ensures.value ∙ sym c.self.inside.digests.ok.0 ∙ sym c.len-later.ensures in
+    let made = subst (λ (j : ℕ). AreHashed s h base.leaves j base.peaks.items c.in_ok-nodes.nodes.items) later c.in_ok-nodes.ensures.hashed in
+    let hashed = subst (λ (l : ChainSegment g.row.D.Denot). AreHashed s h l.leaves l.later l.peaks l.nodes) (sym own) made in
+    subst (λ (z : Sealed g.row.D.Denot). (g : ChainSegment _) → slice_get z.links (length z.links - 1) ≡ Some g → AreHashed s h g.leaves g.later g.peaks g.nodes) (sym c.seal.ensures)
+    (λ g at. last_hashed s h _ c.keep_from.new.segments.items c.push_own.new.segments.items c.in_ok-own.own g c.in_ok-push_own.ensures hashed at)
