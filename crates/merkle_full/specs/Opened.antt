@@ -1,12 +1,13 @@
 -- A tree that is opened from a map beside a log.
-use Rattle.std.specs.Prelude.{◌≡◌, ℕ, ◌≤◌, ◌^◌, List, length, take, Option, Ok, false}
+use Rattle.std.specs.Prelude.{◌≡◌, ℕ, ◌<◌, ◌≤◌, ◌^◌, List, length, take, Option, Ok, false}
 use Rattle.volume_base.specs.Log.{Log, cut_to}
 use Rattle.volume_base.specs.Moments.{Image, PairHas, PairKeeps}
 use Rattle.volume_base.specs.Volume.{State, Map}
 use Rattle.tree_shape.specs.Hashing.{Hashing}
 use Rattle.tree_shape.specs.Shape.{Shape}
 use Rattle.tree_store.specs.Stored.{TreeStands, size}
-use Rattle.tree_core.specs.Tree.{Tree, IsRested}
+use Rattle.tree_core.specs.Hashed.{HasParents}
+use Rattle.tree_core.specs.Tree.{Tree, node_at, IsRested}
 use Rattle.merkle_full.specs.Flushing.{IsFilled}
 use Rattle.merkle_full.specs.Full.{Full}
 use Rattle.merkle_full.specs.Lists.{AreDigests, IsFullOf}
@@ -31,15 +32,16 @@ pub record IsOpenedLog {D : Type 0} (F : Type 0) (s : Shape) (spelling : D → L
   pub filled : IsFilled s spelling t (size s complete) (settled_log s blob boundary complete (log_kept stored old)) new
 
 -- It is pruned at, and has, as many leaves as boundary, nodes and cap allow. What its memory was before it came to rest
--- is recovered, with the orphan that the log has; and its log is what is kept, with the further nodes of that memory.
-pub record IsOpenedUnder {D : Type 0} (F : Type 0) (spelling : D → List ℕ) (admits : D → Type 0) (s : Shape) (m : Map)
-    (old new : Log) (cap : ℕ)
-    (t : Full D) : Type 0 where
+-- is recovered, with the orphan that the log has, and behind it the parents that this makes, hashed from what memory has.
+-- Its log is what is kept, with the further nodes of that memory.
+pub record IsOpenedUnder {D : Type 0} (F : Type 0) (h : Hashing D) (spelling : D → List ℕ) (admits : D → Type 0)
+    (s : Shape) (m : Map) (old new : Log) (cap : ℕ) (t : Full D) : Type 0 where
   pub boundary : ℕ
   pub complete : ℕ
   pub opens : Opens F spelling admits s m old cap boundary complete t.boundary t.tree.leaves
   pub was : Tree D
   pub recalls : Recalls F spelling admits s m old complete was
+  pub parents : complete < was.leaves → HasParents s h complete (node_at was)
   pub rested : IsRested s t.boundary was t.tree
   pub log : IsOpenedLog F s spelling was m t.log.blob boundary complete old new
 

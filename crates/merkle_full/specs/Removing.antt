@@ -21,7 +21,7 @@ pub record IsRemnant (old : State) (one two : List ℕ) (log : Log) (m : Map) : 
 abbrev pub OpensEmpty : Log → Map → Type 0
 OpensEmpty log m = (finmap.get m boundary_key ≡ None) × (end_of (log_kept None log) ≡ 0)
 
--- The log is one that was left before, and beside the map it stands for a list of leaf digests; or an opening of the two
+-- The log is one that was left before, and beside the map it stands for a list of leaf digests; or an opening of both
 -- finds the empty tree.
 abbrev pub StandsOrEmpty : {D : Type 0} → Shape → Hashing D → (D → List ℕ) → List D → ℕ → ℕ → State → List ℕ → Log → Map
     → Type 0

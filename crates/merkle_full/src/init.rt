@@ -33,7 +33,7 @@ impl<F: Family, D: Digest> Merkle<F, D> {
             let old = (V.state vol.old).log (string_bytes cfg.nodes) in
             let new = (V.state vol.new).log (string_bytes cfg.nodes) in
             IfOk result (λ t. V.tells →
-            IsOpenedUnder F D.spelling (D.Read.admits tt) F.shape map old new (cap_of max_leaves) t) }
+            IsOpenedUnder F H.hash D.spelling (D.Read.admits tt) F.shape map old new (cap_of max_leaves) t) }
         ensures map { let name = string_bytes cfg.metadata in
             OnOk result (V.tells → (V.state vol.new).map name ≡ (V.state vol.old).map name) }
         ensures rests { IfOk result (λ t. Rests F.shape t) }
@@ -78,7 +78,7 @@ impl<F: Family, D: Digest> Merkle<F, D> {
             let old = (V.state vol.old).log (string_bytes cfg.nodes) in
             let new = (V.state vol.new).log (string_bytes cfg.nodes) in
             IfOk result (λ t. V.tells →
-            IsOpenedUnder F D.spelling (D.Read.admits tt) F.shape map old new (cap_of None) t) }
+            IsOpenedUnder F H.hash D.spelling (D.Read.admits tt) F.shape map old new (cap_of None) t) }
         ensures map { let name = string_bytes cfg.metadata in
             OnOk result (V.tells → (V.state vol.new).map name ≡ (V.state vol.old).map name) }
         ensures rests { IfOk result (λ t. Rests F.shape t) }
@@ -122,7 +122,7 @@ impl<F: Family, D: Digest> Merkle<F, D> {
             let old = (V.state vol.old).log (string_bytes cfg.nodes) in
             let new = (V.state vol.new).log (string_bytes cfg.nodes) in
             IfOk result (λ t. V.tells →
-            IsOpenedUnder F D.spelling (D.Read.admits tt) F.shape map old new (cap_of (Some max_leaves)) t) }
+            IsOpenedUnder F H.hash D.spelling (D.Read.admits tt) F.shape map old new (cap_of (Some max_leaves)) t) }
         ensures map { let name = string_bytes cfg.metadata in
             OnOk result (V.tells → (V.state vol.new).map name ≡ (V.state vol.old).map name) }
         ensures rests { IfOk result (λ t. Rests F.shape t) }

@@ -4,6 +4,7 @@ ghost use Rattle.journal_base.specs.Items.{items_of};
 ghost use Rattle.journal_base.specs.View.{IsWithin};
 ghost use Rattle.tree_store.specs.Stored.{TreeStands, size};
 ghost use Rattle.volume_base.specs.Volume.{Reads};
+ghost use Rattle.tree_core.specs.Hashed.{HasParents};
 ghost use Rattle.tree_core.specs.Tree.{IsOf, IsSound, node_at, rests};
 ghost use Rattle.merkle_full.specs.Opening.{Selects};
 ghost use Rattle.merkle_full.specs.Lifted.{IsLifted};
@@ -61,6 +62,8 @@ pub(crate) fn open_memory<
         IfOk result (λ r. V.tells → IsOrphanRead items F.shape cap (R.view log.now).end r.selection.complete) }
     ensures logged { let items = items_of D.spelling D.Read.admits (R.view log.now) (V.state vol.old) in
         IfOk result (λ r. V.tells → HasLogged items (size F.shape r.selection.complete) r.mem) }
+    ensures parents { IfOk result (λ r. r.selection.complete < r.mem.leaves →
+        HasParents F.shape H.hash r.selection.complete (node_at r.mem)) }
     // For each list that map and log stand for, it is the tree of its first leaves.
     ensures list { let log_now = (V.state vol.old).log (R.view log.now).name in
         IfOk result (λ r. V.tells → IsWithin (R.view log.now) (V.state vol.old) →

@@ -5,6 +5,7 @@ ghost use Rattle.journal_base.specs.View.{IsWithin};
 ghost use Rattle.tree_shape.specs.Shape.{made};
 ghost use Rattle.tree_store.specs.Stored.{TreeStands};
 ghost use Rattle.volume_base.specs.Volume.{Reads};
+ghost use Rattle.tree_core.specs.Hashed.{HasParents};
 ghost use Rattle.tree_core.specs.Tree.{IsOf, IsSound, node_at};
 ghost use Rattle.merkle_full.specs.Recovering.{source_of};
 ghost use Rattle.merkle_full.specs.Lifted.{IsLifted};
@@ -26,6 +27,7 @@ fn with_leaf<F: Family, D: Digest, H: Hasher<Digest = D>>(
     ensures sound { IfOk result (λ m. IsSound F.shape m) }
     ensures nodes { IfOk result (λ m. (p : ℕ) → p < length (made F.shape mem.leaves) → node_at m p ≡ node_at mem p) }
     ensures leaf { IfOk result (λ m. node_at m (length (made F.shape mem.leaves)) ≡ Some leaf) }
+    ensures parents { IfOk result (λ m. HasParents F.shape H.hash mem.leaves (node_at m)) }
     ensures tree { IfOk result (λ m. (all : List D) →
         IsOf F.shape H.hash all mem → IsOf F.shape H.hash (all ++ leaf ∷ []) m) }
     ensures memory { IsOkUnless result Error.Memory }
@@ -66,6 +68,9 @@ pub(crate) fn with_orphan<
     // It is the leaf that is added, whatever the log holds.
     ensures logged { let items = items_of D.spelling D.Read.admits (R.view log.now) (V.state vol.old) in
         IfOk result (λ m. V.tells → HasLogged items (length (made F.shape mem.leaves)) m) }
+    // And its parents are hashed.
+    ensures parents { IfOk result (λ m.
+        mem.leaves < m.leaves → HasParents F.shape H.hash mem.leaves (node_at m)) }
     // For each list that a map stands for beside the log, a tree of the list's first leaves becomes one of its next.
     ensures list { let log = (V.state vol.old).log (R.view log.now).name in
         IfOk result (λ m. V.tells → (all : List D) (durable top : ℕ) (pins : _) →

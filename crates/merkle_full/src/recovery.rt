@@ -67,10 +67,11 @@ impl<F: Family, D: Digest> Recovery<F, D> {
 }
 
 impl<F: Family, D: Digest> Merkle<F, D> {
-    ghost use Rattle.std.specs.Prelude.{◌≡◌, ◌≤◌, ◌^◌, ℕ, List, take, Ok, Option, string_bytes, IfOk, IfErr, OnOk};
+    ghost use Rattle.std.specs.Prelude.{◌≡◌, ◌<◌, ◌≤◌, ◌^◌, ℕ, List, take, Ok, Option, string_bytes, IfOk, IfErr, OnOk};
     ghost use Rattle.std.specs.NonZero.{non_zero_u64_get};
     ghost use Rattle.tree_store.specs.Stored.{TreeStands};
-    ghost use Rattle.tree_core.specs.Tree.{IsOf};
+    ghost use Rattle.tree_core.specs.Hashed.{HasParents};
+    ghost use Rattle.tree_core.specs.Tree.{IsOf, node_at};
     ghost use Rattle.volume_base.specs.Log.{cleared_at, BecomesOneOf};
     ghost use Rattle.volume_base.specs.Volume.{LogCall, Changes};
     ghost use Rattle.merkle_full.specs.Lifted.{IsLifted};
@@ -97,6 +98,9 @@ impl<F: Family, D: Digest> Merkle<F, D> {
             let log = (V.state vol.old).log (string_bytes cfg.nodes) in
             IfOk result (λ r. V.tells →
             Recalls F D.spelling (D.Read.admits tt) F.shape map log r.complete r.tree) }
+        // Behind an orphan stand its parents, each hashed from what memory has.
+        ensures parents { IfOk result (λ r.
+            r.complete < r.tree.leaves → HasParents F.shape H.hash r.complete (node_at r.tree)) }
         ensures within { IfOk result (λ r. V.tells → IsPreparedIn r (V.state vol.new)) }
         // For each list that the contents stand for, it is the tree of its first leaves.
         ensures list { let map = (V.state vol.old).map (string_bytes cfg.metadata) in

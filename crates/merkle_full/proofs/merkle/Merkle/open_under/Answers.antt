@@ -67,6 +67,7 @@ returns-clause-opens g c told =
           (subst (λ (b : ℕ). Opens g.row.F.Denot spelling admits s m (s0.log nodes) top r.boundary r.complete b r.tree.leaves) (sym opened.from.boundary) opens);
       was = r.tree;
       recalls = did.recalls told;
+      parents = did.parents;
       rested = subst (λ (b : ℕ). IsRested s b r.tree t.tree) (sym opened.from.boundary) opened.rested;
       log = record {
         stored = opens.stored;
