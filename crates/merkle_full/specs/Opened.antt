@@ -24,8 +24,7 @@ pub record IsOpenedAs {D : Type 0} (nodes : List ℕ) (blob : ℕ) (metadata : L
 -- The log is that of the tree which is opened, up to the nodes of its complete leaves; behind these stand the further
 -- nodes of memory.
 pub record IsOpenedLog {D : Type 0} (F : Type 0) (s : Shape) (spelling : D → List ℕ) (t : Tree D) (m : Map)
-    (blob boundary complete : ℕ)
-    (old new : Log) : Type 0 where
+    (blob boundary complete : ℕ) (old new : Log) : Type 0 where
   pub stored : Option ℕ
   pub stored_is : stored_in {F = F} m ≡ Ok stored
   pub log : cut_to new (size s complete) ≡ settled_log s blob boundary complete (log_kept stored old)
