@@ -1,13 +1,13 @@
 -- How a database begins in an empty log, from call to call.
-use Rattle.std.proofs.Common.{◌≡◌, inl, inr, ℕ, zero, suc, ◌-◌, ◌<◌, ◌≤◌, max, false, List, [], ◌∷◌, ◌++◌, length, map, take, reverse, Option, refl, sym, ◌∙◌, ap, subst, arith}
+use Rattle.std.proofs.Common.{◌≡◌, ◌⊎◌, inl, inr, ℕ, zero, suc, ◌-◌, ◌<◌, ◌≤◌, max, false, List, [], ◌∷◌, ◌++◌, length, map, take, reverse, Option, refl, sym, ◌∙◌, ap, subst, arith}
 use Rattle.std.specs.Prelude.{Result, Ok, Err}
 use Rattle.std.proofs.lemmas.Nat.{pow_pos}
 use Rattle.std.proofs.lemmas.List.{drop_all}
 use Rattle.codec_base.specs.declared.error.CodecError.{CodecError}
-use Rattle.journal_base.specs.Answers.{IsOfVolume}
+use Rattle.journal_base.specs.Answers.{IsOfVolume, IsOfStart, IsOfSize}
 use Rattle.journal_base.specs.Items.{Items}
 use Rattle.journal_base.specs.View.{View, SameButBounds, IsHeld, IsDurable, log_of}
-use Rattle.volume_base.specs.Log.{Log, no_log, appended, pruned_to, cut_to, Grows, Shrinks}
+use Rattle.volume_base.specs.Log.{Log, end_of, no_log, appended, pruned_to, cut_to, Grows, Shrinks}
 use Rattle.volume_base.specs.Moments.{LogHas, LogKeeps}
 use Rattle.volume_base.specs.Names.{log_alone, NamesCall}
 use Rattle.volume_base.specs.Volume.{State, LogCall, Writes}
@@ -30,13 +30,14 @@ use Rattle.witness_store.specs.Witnesses.{Keeps}
 use Rattle.witness_store.specs.declared.witness.Witness.{Witness}
 use Rattle.compact_db.specs.DbView.{DbView}
 use Rattle.compact_db.specs.Held.{HasStates}
-use Rattle.compact_db.specs.Opening.{IsLatest, witnesses_in, WhyNotOpened, IsFirstCommit, BeginsWith, Begins, Opens}
+use Rattle.compact_db.specs.Opening.{IsLatest, witnesses_in, IsOpeningFault, WhyNotOpened, IsFirstCommit, BeginsWith, Begins, Opens}
 use Rattle.compact_db.specs.StateOf.{IsStateOf}
 use Rattle.compact_db.specs.WitnessOf.{witness_of}
 use Rattle.chain_core.specs.Answers.{IsOutside}
 use Rattle.compact_db.specs.declared.database.WitnessLog.TheVariants.{Open}
 use Rattle.compact_db.specs.declared.verified.VerifiedWitness.{VerifiedWitness}
 use Rattle.compact_db.proofs.HeldLemmas.{last_witness, begun_held}
+use Rattle.compact_db.proofs.OpenLemmas.{read_or_size}
 use Rattle.compact_db.proofs.SettleLemmas.{outside_is, changes_passed, changes_none}
 use Rattle.compact_db.proofs.StartLemmas.{latest_some, opens_not}
 
@@ -106,11 +107,11 @@ module _ (F Cfg : Type 0) {D Op V : Type 0} (s : Shape) (h : Hashing D) (m : Mea
   Here old new r = Opens s h m spelling admits decoded allowed view cap tells old new r
 
   -- nothing is called
-  pub uncalled : (e : Error F) (a : State) → (e ≡ Volume → ⊥) → (tells → WhyNotOpened s m decoded (kept a) cap e) → Here a a (Err e)
-  uncalled e a never why =
+  pub uncalled : (e : Error F) (a : State) → (e ≡ Volume → ⊥) → (tells → WhyNotOpened s m decoded (kept a) cap e) → IsOpeningFault D s m decoded cap e → Here a a (Err e)
+  uncalled e a never why fault =
       let r : Result (DbView F D Op Cfg) (Error F) = Err e in
       opens_not F Cfg s h m spelling admits decoded allowed view cap tells e a a refl (λ told. past_same a) (λ told. record { logs = λ n. refl; maps = λ n. refl })
-      (changes_none tells a r (λ is. never cc)) why
+      (changes_none tells a r (λ is. never cc)) why fault
 
   module _ (lawful : IsLawful s) (op : Op) (commits : IsFirstCommit m op) (tip : VerifiedWitness F D) (tree : Tree D) (is : IsStateOf s h m (op ∷ []) tip tree op) (a b : State)
       (empty : tells → log_of view a ≡ no_log) (call : tells → LogCall view.name (BeginsWith (text_of spelling tip.witness)) a b) where
@@ -127,14 +128,14 @@ module _ (F Cfg : Type 0) {D Op V : Type 0} (s : Shape) (h : Hashing D) (m : Mea
     never_some : {X : Type 0} → tells → 0 < length (log_of view a).items → X
     never_some told some = let none = ap (λ (l : Log). length l.items) (empty told) in absurd (omega (arith, some, none))
 
-    begins_images : tells → (ops : List Op) (sizes : List ℕ) (count size greatest least : ℕ) → HasStates {F = F} s h m ops sizes (kept a) → IsLatest sizes (log_of view a).start cap count size
-        → least ≤ count → LogHas a view.name (HasWitnesses spelling (map (witness_of {F = F} s h m ops) sizes) greatest least)
+    begins_images : tells → (ops : List Op) (sizes : List ℕ) (count size greatest least : ℕ) → HasStates {F = F} s h m ops (take (end_of (log_of view a)) sizes) (kept a)
+        → IsLatest (take (end_of (log_of view a)) sizes) (log_of view a).start cap count size → least ≤ count → LogHas a view.name (HasWitnesses spelling (map (witness_of {F = F} s h m ops) sizes) greatest least)
         → LogKeeps view.name (HasWitnesses spelling (map (witness_of {F = F} s h m ops) sizes) greatest least) a b
-    begins_images told ops sizes count size greatest least states latest le has = never_some told (latest_some s h m (kept a) ops sizes cap count size states latest)
+    begins_images told ops sizes count size greatest least states latest le has = never_some told (latest_some s h m (kept a) ops (take (end_of (log_of view a)) sizes) cap count size states latest)
 
     -- the log doesn't get it
-    pub begins_not : {T : Type 0} (j : JournalError) → (tells → IsOfVolume j) → Writes {T = T} tells journal_error.Volume a b (Err j) → Here a b (Err (from_journal j))
-    begins_not {T} j of writes =
+    pub begins_not : {T : Type 0} (j : JournalError) → (tells → IsOfVolume j) → IsOfStart j ⊎ IsOfSize j → Writes {T = T} tells journal_error.Volume a b (Err j) → Here a b (Err (from_journal j))
+    begins_not {T} j of any writes =
         let r : Result (DbView F D Op Cfg) (Error F) = Err (from_journal j) in
         let one : Result T JournalError = Err j in
         record {
@@ -151,6 +152,7 @@ module _ (F Cfg : Type 0) {D Op V : Type 0} (s : Shape) (h : Hashing D) (m : Mea
           names = begins_names;
           images = begins_images;
           first = λ told none. begins_call told;
+          errors = inr (inr (inr (inl (j, read_or_size j any, refl))));
           changes = changes_passed tells a b one r refl (changes_of_writes tells journal_error.Volume a b one writes);
         }
 
@@ -187,5 +189,6 @@ module _ (F Cfg : Type 0) {D Op V : Type 0} (s : Shape) (h : Hashing D) (m : Mea
           names = begins_names;
           images = begins_images;
           first = λ told none. begins_call told;
+          errors = tt;
           changes = changes_passed tells a b one r tt (changes_of_writes tells journal_error.Volume a b one writes);
         }

@@ -2,7 +2,8 @@
 use Rattle.std.proofs.Common.{◌≡◌, ℕ, zero, suc, ◌-◌, ◌^◌, ◌<◌, ◌≤◌, Bool, true, false, List, [], ◌∷◌, ◌++◌, length, map, take, drop, Some, refl, sym, ◌∙◌, ap, subst, arith}
 use Rattle.std.specs.Prelude.{slice_get, IfSome}
 use Rattle.std.specs.List.{AllByRecursion}
-use Rattle.std.proofs.lemmas.List.{length-map}
+use Rattle.std.proofs.lemmas.List.{length-append, length-take, length-map}
+use Rattle.std.proofs.lemmas.Option.{slice_get_within}
 use Rattle.journal_base.specs.Items.{Items}
 use Rattle.journal_base.specs.View.{View, IsHeld, SameButBounds, SameLog, log_of, after_sync}
 use Rattle.volume_base.specs.Log.{Log, end_of}
@@ -78,13 +79,14 @@ module _ {F D Op V : Type 0} (s : Shape) (h : Hashing D) (m : Meaning Op V) wher
   -- a database of a list, over a log that has the list's witnesses up to the last
   pub held_by : {Cfg : Type 0} (spelling : D → List ℕ) (admits : D → Type 0) (db : DbView F D Op Cfg) (state : State) (ops : List Op) (sizes : List ℕ) → IsOfList s h m ops db
       → waits db.log ≡ false → IsHeld (seen_log db.log) state → HasStates s h m ops sizes (witnesses_of {F = F} spelling admits (seen_log db.log) state)
-      → slice_get sizes (length sizes - 1) ≡ Some (length ops) → IsHeldFor s h m spelling admits ops sizes db state
-  held_by spelling admits db state ops sizes is opened bounds states last = record {
+      → (log_of (seen_log db.log) state).start < length sizes → slice_get sizes (length sizes - 1) ≡ Some (length ops) → IsHeldFor s h m spelling admits ops sizes db state
+  held_by spelling admits db state ops sizes is opened bounds states some last = record {
     list = is;
     opened = opened;
     bounds = bounds;
     witnesses = states.witnesses;
     within = states.within;
+    some = some;
     last = last;
   }
 
@@ -112,6 +114,7 @@ module _ {F D Op V : Type 0} (s : Shape) (h : Hashing D) (m : Meaning Op V) wher
         held_by spelling admits db state ops (ones place ++ (length ops ∷ [])) is opened held
         (states_begun s h m (in_view (seen_log db.log)) ops place db.tip.witness (start_here place start) is.ends is.few (last_witness w ops db.tip db.tree db.commit is)
         (keeps_here _ (keeps (map (witness_of s h m ops) (ones place)) count)))
+        (omega (arith, start_here place start, length-append (ones place) (length ops ∷ []), length-ones place))
         (at_last (ones place) (length ops))
 
     -- a log that keeps the witness of a longer list behind those of a list
@@ -122,6 +125,14 @@ module _ {F D Op V : Type 0} (s : Shape) (h : Hashing D) (m : Meaning Op V) wher
         held_by spelling admits db state (ops ++ more) (sizes ++ (length (ops ++ more) ∷ [])) is opened held
         (states_more s h m old (in_view (seen_log db.log)) ops sizes more db.tip.witness (start_here old.log.start start) was is.ends is.few
         (last_witness w (ops ++ more) db.tip db.tree db.commit is) (keeps_here _ keeps))
+        (omega (
+          arith,
+          start_here old.log.start start,
+          was.witnesses.spelled.within,
+          length-map (map (witness_of {F = F} s h m ops) sizes) old.spelling,
+          length-map sizes (witness_of {F = F} s h m ops),
+          length-append sizes (length (ops ++ more) ∷ []),
+        ))
         (at_last sizes (length (ops ++ more)))
 
     -- a log that is cut behind the witness of a front
@@ -129,18 +140,20 @@ module _ {F D Op V : Type 0} (s : Shape) (h : Hashing D) (m : Meaning Op V) wher
         → slice_get sizes (count - 1) ≡ Some size → IsOfList s h m (take size ops) db → HasStates s h m ops sizes old
         → Keeps (in_view view) (take count (map (witness_of s h m ops) sizes)) → IsHeldFor s h m spelling admits (take size ops) (take count sizes) db state
     cut_held old ops sizes count size start some here is was keeps =
+        let in_it = slice_get_within sizes (count - 1) size here in
         held_by spelling admits db state (take size ops) (take count sizes) is opened held
         (states_cut s h m old (in_view (seen_log db.log)) ops sizes count size (start_here old.log.start start) some was here (keeps_here _ keeps))
+        (omega (arith, start_here old.log.start start, some, in_it, length-take count sizes))
         (last_cut s h m ops sizes old.log.start count size was.within some here)
 
     -- a log of which less is kept
-    pub behind_held : (old : Items (Witness F D)) (ops : List Op) (sizes : List ℕ) → old.log.start ≤ (log_of view state).start → IsOfList s h m ops db
+    pub behind_held : (old : Items (Witness F D)) (ops : List Op) (sizes : List ℕ) → old.log.start ≤ (log_of view state).start → (log_of view state).start < length sizes → IsOfList s h m ops db
         → slice_get sizes (length sizes - 1) ≡ Some (length ops) → HasStates s h m ops sizes old → Keeps (in_view view) (map (witness_of s h m ops) sizes)
         → IsHeldFor s h m spelling admits ops sizes db state
-    behind_held old ops sizes le is last was keeps =
+    behind_held old ops sizes le some is last was keeps =
         let at = start_here (log_of view state).start refl in
         held_by spelling admits db state ops sizes is opened held
-        (states_behind s h m old (in_view (seen_log db.log)) ops sizes (omega (arith, le, at)) was (keeps_here _ keeps)) last
+        (states_behind s h m old (in_view (seen_log db.log)) ops sizes (omega (arith, le, at)) was (keeps_here _ keeps)) (omega (arith, some, at)) last
 
 -- ---- from call to call
 
@@ -192,12 +205,14 @@ still_held {F} {D} {Op} {V} {Cfg} s h m spelling admits db made failed old new s
     (sym stays) was.witnesses in
     let within : AllByRecursion (IsSizeOf m ops) (drop (log_of (seen_log db.log) new).start sizes) =
     subst (λ (l : Log). AllByRecursion (IsSizeOf m ops) (drop l.start sizes)) (sym stays) was.within in
+    let some : (log_of (seen_log db.log) new).start < length sizes = subst (λ (l : Log). l.start < length sizes) (sym stays) was.some in
     record {
       list = list_same s h m db made same ops was.list;
       opened = opened;
       bounds = subst (λ (v : View (Unit {0})). IsHeld v new) (sym seen) bounds;
       witnesses = subst (λ (v : View (Unit {0})). Keeps {F = F} (witnesses_of spelling admits v new) (map (witness_of s h m ops) sizes)) (sym seen) keeps;
       within = subst (λ (v : View (Unit {0})). AllByRecursion (IsSizeOf m ops) (drop (log_of v new).start sizes)) (sym seen) within;
+      some = subst (λ (v : View (Unit {0})). (log_of v new).start < length sizes) (sym seen) some;
       last = was.last;
     }
 

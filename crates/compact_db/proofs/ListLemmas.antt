@@ -1,7 +1,6 @@
 -- Lists that a commit ends, and their leaves.
 use Rattle.std.proofs.Common.{◌≡◌, suc, ◌+◌, ◌-◌, List, [], ◌∷◌, ◌++◌, length, take, Some, refl, ◌∙◌, ap, arith}
 use Rattle.std.specs.Prelude.{slice_get, IsSome}
-use Rattle.std.specs.List.{AllByRecursion}
 use Rattle.tree_shape.specs.Hashing.{Hashing}
 use Rattle.tree_shape.specs.Shape.{Shape}
 use Rattle.tree_shape.specs.Slow.{leaf}
@@ -21,6 +20,13 @@ pub record Parted {D Op V : Type 0} (s : Shape) (h : Hashing D) (m : Meaning Op 
   pub allowed : admits last
   pub commits : IsSome (m.floor last)
 
+-- the last of a list stays the last behind another
+last_behind : {X : Type 0} (x y : X) (xs : List X) (z : X) → slice_get (y ∷ xs) (length (y ∷ xs) - 1) ≡ Some z
+    → slice_get (x ∷ y ∷ xs) (length (x ∷ y ∷ xs) - 1) ≡ Some z
+last_behind x y xs z at =
+    let n : length (x ∷ y ∷ xs) - 1 ≡ suc (length (y ∷ xs) - 1) = omega arith in
+    rw n at
+
 module _ {D Op V : Type 0} (s : Shape) (h : Hashing D) (m : Meaning Op V) where
   -- the leaves of a list and one more operation
   pub leaves_ended : (before : List Op) (op : Op)
@@ -31,7 +37,7 @@ module _ {D Op V : Type 0} (s : Shape) (h : Hashing D) (m : Meaning Op V) where
       ∙ ap (λ n. leaves_from s h m 0 before ++ (leaf s h n (m.encoding op) ∷ [])) count
 
   module _ (admits : Op → Type 0) where
-    pub part : (ops : List Op) → EndsWithCommit m ops → AllByRecursion admits ops → Parted s h m admits ops
+    pub part : (ops : List Op) → EndsWithCommit m ops → ((op : Op) → slice_get ops (length ops - 1) ≡ Some op → admits op) → Parted s h m admits ops
     part [] ends all = absurd ends
     part (op ∷ []) ends all = record {
       last = op;
@@ -39,11 +45,11 @@ module _ {D Op V : Type 0} (s : Shape) (h : Hashing D) (m : Meaning Op V) where
       here = refl;
       bytes = refl;
       floor = refl;
-      allowed = all.0;
+      allowed = all op refl;
       commits = ends;
     }
     part (op ∷ next ∷ ops) ends all =
-        let rest = part (next ∷ ops) ends all.1 in
+        let rest = part (next ∷ ops) ends (λ x at. all x (last_behind op next ops x at)) in
         let n : length (op ∷ next ∷ ops) - 1 ≡ suc (length (next ∷ ops) - 1) = omega arith in
         record {
           last = rest.last;

@@ -3,7 +3,7 @@ use Rattle.std.proofs.Common.{◌≡◌, ◌⊎◌, inl, inr, ℕ, ◌-◌, ◌�
 use Rattle.std.specs.Prelude.{slice_get}
 use Rattle.std.specs.List.{AllByRecursion}
 use Rattle.std.proofs.lemmas.List.{drop-map}
-use Rattle.journal_base.specs.Answers.{IsOfRead, IsOfStart, IsOfSize}
+use Rattle.journal_base.specs.Answers.{IsOfRead, IsOfStart, IsOfSize, IsOfVolume}
 use Rattle.journal_base.specs.Items.{Items, IsCorrupt}
 use Rattle.volume_base.specs.Log.{Log, end_of, no_log}
 use Rattle.volume_base.specs.declared.error.JournalError.{JournalError}
@@ -82,6 +82,30 @@ size_why F (Corruption p) of low = let k : false ≡ true = of in cc
 size_why F (Tree x) of low = let k : false ≡ true = of in cc
 size_why F journal_error.Volume of low = tt
 size_why F journal_error.Memory of low = tt
+
+pub start_read : (e : JournalError) → IsOfStart e → IsOfRead e
+start_read (ItemPruned p) of = refl
+start_read (ItemOutOfRange p) of = let k : false ≡ true = of in cc
+start_read EmptyAppend of = let k : false ≡ true = of in cc
+start_read SizeOverflow of = let k : false ≡ true = of in cc
+start_read (Corruption p) of = let k : false ≡ true = of in cc
+start_read (Tree x) of = let k : false ≡ true = of in cc
+start_read journal_error.Volume of = refl
+start_read journal_error.Memory of = refl
+
+pub volume_size : (e : JournalError) → IsOfVolume e → IsOfSize e
+volume_size (ItemPruned p) of = let k : false ≡ true = of in cc
+volume_size (ItemOutOfRange p) of = let k : false ≡ true = of in cc
+volume_size EmptyAppend of = let k : false ≡ true = of in cc
+volume_size SizeOverflow of = let k : false ≡ true = of in cc
+volume_size (Corruption p) of = let k : false ≡ true = of in cc
+volume_size (Tree x) of = let k : false ≡ true = of in cc
+volume_size journal_error.Volume of = refl
+volume_size journal_error.Memory of = refl
+
+pub read_or_size : (e : JournalError) → IsOfStart e ⊎ IsOfSize e → IsOfRead e ⊎ IsOfSize e
+read_or_size e (inl of) = inl (start_read e of)
+read_or_size e (inr of) = inr of
 
 -- a read of a log that keeps a list fails by the outside alone
 pub read_outside : {F D : Type 0} (items : Items (Witness F D)) (ws : List (Witness F D)) → Keeps items ws → (e : JournalError) → IsOfRead e → ((p : ℕ) → e ≡ ItemPruned p → ⊥)

@@ -1,7 +1,6 @@
 -- What a witness rebuilds.
 use Rattle.std.proofs.Common.{◌≡◌, ℕ, ◌-◌, ◌^◌, ◌<◌, ◌≤◌, true, List, [], ◌∷◌, ◌++◌, length, map, take, Some, refl, sym, ◌∙◌, ap, subst, arith, suc}
 use Rattle.std.specs.Prelude.{slice_get, IsSome, nat_lt, nat_le, ◌==◌, Result, Ok, Err}
-use Rattle.std.specs.List.{AllByRecursion}
 use Rattle.std.proofs.lemmas.Bool.Decides.{nat_tests}
 use Rattle.std.proofs.lemmas.List.{length-take, length-append}
 use Rattle.codec_base.specs.declared.error.CodecError.{CodecError}
@@ -49,7 +48,7 @@ answer_is s m decoded w op floor some few told commits early pins =
     rw (a, b, d, commits, e, f) refl
 
 module _ {F D Op V : Type 0} (s : Shape) (h : Hashing D) (m : Meaning Op V) (admits : Op → Type 0) (ops : List Op) (ends : EndsWithCommit m ops)
-    (few : length ops ≤ 2 ^ 62) (all : AllByRecursion admits ops) (w : Witness F D) (is : w ≡ witness_of s h m ops (length ops)) where
+    (few : length ops ≤ 2 ^ 62) (all : (op : Op) → slice_get ops (length ops - 1) ≡ Some op → admits op) (w : Witness F D) (is : w ≡ witness_of s h m ops (length ops)) where
   abbrev Before : List Op
   Before = take (length ops - 1) ops
 

@@ -1,13 +1,12 @@
 -- How a database is opened at a witness of its log, from call to call.
-use Rattle.std.proofs.Common.{◌≡◌, inl, inr, ℕ, ◌^◌, ◌<◌, ◌≤◌, false, List, [], length, map, take, Option, Some, None, refl, sym, ◌∙◌, ap, subst, arith}
-use Rattle.std.specs.Prelude.{Result, Ok, Err}
-use Rattle.std.specs.List.{AllByRecursion}
+use Rattle.std.proofs.Common.{◌≡◌, ◌⊎◌, inl, inr, ℕ, ◌-◌, ◌^◌, ◌<◌, ◌≤◌, false, List, [], length, map, take, Option, Some, None, refl, sym, ◌∙◌, ap, subst, arith}
+use Rattle.std.specs.Prelude.{slice_get, Result, Ok, Err}
 use Rattle.std.proofs.lemmas.List.{length-take}
 use Rattle.codec_base.specs.declared.error.CodecError.{CodecError}
-use Rattle.journal_base.specs.Answers.{IsOfStart}
+use Rattle.journal_base.specs.Answers.{IsOfRead, IsOfStart}
 use Rattle.journal_base.specs.Items.{Items}
 use Rattle.journal_base.specs.View.{View, SameButBounds, IsHeld, IsDurable, log_of}
-use Rattle.volume_base.specs.Log.{Log, cut_to}
+use Rattle.volume_base.specs.Log.{Log, end_of, cut_to}
 use Rattle.volume_base.specs.Moments.{LogHas, LogKeeps}
 use Rattle.volume_base.specs.Names.{log_alone}
 use Rattle.volume_base.specs.Volume.{State, Reads, Writes, WritesLog, Changes}
@@ -22,7 +21,7 @@ use Rattle.tree_core.specs.Tree.{Tree}
 use Rattle.log_model.specs.Meaning.{Meaning}
 use Rattle.log_model.specs.Good.{EndsWithCommit}
 use Rattle.chain_core.specs.declared.error.Error.{Error}
-use Rattle.chain_core.specs.declared.error.Error.TheVariants.{Volume}
+use Rattle.chain_core.specs.declared.error.Error.TheVariants.{Volume, HistoricalFloorPruned}
 use Rattle.chain_core.specs.Errors.{from_journal}
 use Rattle.witness_store.specs.StoreView.{StoreView, HasWitnesses}
 use Rattle.witness_store.specs.Witnesses.{Keeps}
@@ -37,11 +36,11 @@ use Rattle.chain_core.specs.Answers.{IsOutside}
 use Rattle.compact_db.specs.declared.database.WitnessLog.TheVariants.{Open}
 use Rattle.compact_db.specs.declared.verified.VerifiedWitness.{VerifiedWitness}
 use Rattle.compact_db.proofs.HeldLemmas.{cut_held}
-use Rattle.compact_db.proofs.OpenLemmas.{start_why}
-use Rattle.compact_db.proofs.ServingLemmas.{all_taken, never_volume, not_volume}
+use Rattle.compact_db.proofs.OpenLemmas.{start_why, start_read}
+use Rattle.compact_db.proofs.ServingLemmas.{never_volume, not_volume}
 use Rattle.compact_db.proofs.SettleLemmas.{changes_passed}
 use Rattle.compact_db.proofs.StartLemmas.{chosen_latest, opens_not, left_later, keeps_later, names_later, changes_after}
-use Rattle.compact_db.proofs.StateLemmas.{front_ends, front_witness}
+use Rattle.compact_db.proofs.StateLemmas.{kept_size, front_ends, front_witness, last_taken}
 
 pub chosen_past : {F D : Type 0} (items : Items (Witness F D)) (cap : Option ℕ) (end : ℕ) (w : Witness F D) → IsChosen items cap (Some (end, w)) → items.log.start < end
 chosen_past items None end w chosen = chosen.here.0
@@ -72,10 +71,15 @@ module _ (F Cfg : Type 0) {D Op V : Type 0} (s : Shape) (h : Hashing D) (m : Mea
   Here old new r = Opens s h m spelling admits decoded allowed view cap tells old new r
 
   -- none is selected
-  pub chosen_not : (e : Error F) (a b : State) → Reads {T = ℕ × Witness F D} tells Volume a b (Err e) → (tells → 0 < length (log_of view a).items) → (tells → WhyNoneChosen (kept a) cap e) → Here a b (Err e)
-  chosen_not e a b read some why =
+  pub chosen_not : (e : Error F) (a b : State) → Reads {T = ℕ × Witness F D} tells Volume a b (Err e) → (tells → 0 < length (log_of view a).items) → (tells → WhyNoneChosen (kept a) cap e)
+      → ((p : ℕ) × (cap ≡ Some p) × (e ≡ HistoricalFloorPruned p)) ⊎ ((cause : JournalError) × IsOfRead cause × (e ≡ from_journal cause)) → Here a b (Err e)
+  chosen_not e a b read some why fault =
       opens_not F Cfg s h m spelling admits decoded allowed view cap tells e a b read.clock read.past read.contents
       (changes_err (ℕ × Witness F D) (DbView F D Op Cfg) tells Volume a b e read) (λ told. inr (inr (some told, inl (why told))))
+      (elim fault [
+        | inl floor ↦ inr (inr (inl floor))
+        | inr why ↦ inr (inr (inr (inl (why.0, inl why.1, why.2))))
+      ])
 
   module _ (end : ℕ) (w : Witness F D) (a b : State) (read : let r : Result (ℕ × Witness F D) (Error F) = Ok (end, w) in Reads tells Volume a b r)
       (some : tells → 0 < length (log_of view a).items) (chosen : tells → IsChosen (kept a) cap (Some (end, w))) where
@@ -90,15 +94,19 @@ module _ (F Cfg : Type 0) {D Op V : Type 0} (s : Shape) (h : Hashing D) (m : Mea
           | inl is ↦ inr (inr (some told, inr (end, w, chosen told, is)))
           | inr is ↦ inl (subst (λ (x : Error F). IsOutside x) (sym is) tt)
         ])
+        (elim refused [
+          | inl is ↦ inr (inr (inr (inr (w, is))))
+          | inr is ↦ inl (subst (λ (x : Error F). IsOutside x) (sym is) tt)
+        ])
 
     module _ (c : State) (images : tells → (ws : List (Witness F D)) (greatest least : ℕ) → least ≤ end → LogHas b view.name (HasWitnesses spelling ws greatest least) →
         LogKeeps view.name (HasWitnesses spelling ws greatest least) b c) where
-      images_all : tells → (ops : List Op) (sizes : List ℕ) (count size greatest least : ℕ) → HasStates {F = F} s h m ops sizes (kept a) → IsLatest sizes (log_of view a).start cap count size
-          → least ≤ count → LogHas a view.name (HasWitnesses spelling (map (witness_of {F = F} s h m ops) sizes) greatest least)
+      images_all : tells → (ops : List Op) (sizes : List ℕ) (count size greatest least : ℕ) → HasStates {F = F} s h m ops (take (end_of (log_of view a)) sizes) (kept a)
+          → IsLatest (take (end_of (log_of view a)) sizes) (log_of view a).start cap count size → least ≤ count → LogHas a view.name (HasWitnesses spelling (map (witness_of {F = F} s h m ops) sizes) greatest least)
           → LogKeeps view.name (HasWitnesses spelling (map (witness_of {F = F} s h m ops) sizes) greatest least) a c
       images_all told ops sizes count size greatest least states latest le has =
           let P = HasWitnesses spelling (map (witness_of {F = F} s h m ops) sizes) greatest least in
-          let at = (chosen_latest s h m (kept a) ops sizes cap count size states latest end w (chosen told)).0 in
+          let at = (chosen_latest s h m (kept a) ops (take (end_of (log_of view a)) sizes) cap count size states latest end w (chosen told)).0 in
           keeps_later F Cfg s h m spelling admits decoded allowed view cap tells a b c read.clock read.past read.contents P told has
           (images told (map (witness_of {F = F} s h m ops) sizes) greatest least (omega (arith, le, at))
           (left_later F Cfg s h m spelling admits decoded allowed view cap tells a b c read.clock read.past read.contents P told has))
@@ -132,6 +140,7 @@ module _ (F Cfg : Type 0) {D Op V : Type 0} (s : Shape) (h : Hashing D) (m : Mea
                 (names_call_log (log_alone view.name) view.name step b c (inl refl) (call.log told));
             images = images_all;
             first = λ told empty. never_empty told (ap (λ (l : Log). l.items) empty);
+            errors = inr (inr (inr (inl (j, inl (start_read j of), refl))));
             changes = changes_after F Cfg s h m spelling admits decoded allowed view cap tells Volume (end, w) a b c r read
                 (changes_passed tells b c one r refl (changes_of_writes tells journal_error.Volume b c one call.writes));
           }
@@ -139,7 +148,7 @@ module _ (F Cfg : Type 0) {D Op V : Type 0} (s : Shape) (h : Hashing D) (m : Mea
       -- the log is cut behind it
       module _ (lawful : IsLawful s) (store : StoreView) (tip : VerifiedWitness F D) (tree : Tree D) (commit : Op) (codec : Cfg)
           (answer : rebuild_answer s m decoded w ≡ Ok commit) (tip_is : tip.witness ≡ w)
-          (list : (ops : List Op) → EndsWithCommit m ops → length ops ≤ 2 ^ 62 → AllByRecursion allowed ops → w ≡ witness_of s h m ops (length ops) → IsStateOf s h m ops tip tree commit)
+          (list : (ops : List Op) → EndsWithCommit m ops → length ops ≤ 2 ^ 62 → ((op : Op) → slice_get ops (length ops - 1) ≡ Some op → allowed op) → w ≡ witness_of s h m ops (length ops) → IsStateOf s h m ops tip tree commit)
           (fresh : view.failed ≡ false) (made : SameButBounds view store.log × (store.uncommitted ≡ store.log.failed)) (held : tells → IsHeld store.log c)
           (cut : tells → log_of view c ≡ cut_to (log_of view b) end) (keeps : tells → (ws : List (Witness F D)) → Keeps (kept b) ws → Keeps (kept c) (take end ws))
           (durable : tells → IsDurable view c) where
@@ -147,7 +156,7 @@ module _ (F Cfg : Type 0) {D Op V : Type 0} (s : Shape) (h : Hashing D) (m : Mea
         Made = record { log = Open store; tip = tip; tree = tree; commit = commit; codec = codec }
 
         held_all : tells → (ops : List Op) (sizes : List ℕ) (count size : ℕ) → HasStates {F = F} s h m ops sizes (kept a) → IsLatest sizes (log_of view a).start cap count size
-            → AllByRecursion allowed ops → IsHeldFor s h m spelling admits (take size ops) (take count sizes) Made c
+            → ((op : Op) → slice_get ops (size - 1) ≡ Some op → allowed op) → IsHeldFor s h m spelling admits (take size ops) (take count sizes) Made c
         held_all told ops sizes count size states latest all =
             let start = (log_of view a).start in
             let ws = map (witness_of {F = F} s h m ops) sizes in
@@ -156,7 +165,7 @@ module _ (F Cfg : Type 0) {D Op V : Type 0} (s : Shape) (h : Hashing D) (m : Mea
             let few = states.few in
             let is : IsOfList s h m (take size ops) Made =
             list (take size ops) (front_ends s h m ops sizes start count size states.within latest.kept latest.here) (omega (arith, few, length-take size ops))
-            (all_taken allowed size ops all) (at.1 ∙ front_witness s h m ops sizes start count size states.within latest.kept latest.here) in
+            (λ op here. all op (last_taken m size ops (kept_size s h m ops sizes start count size states.within latest.kept latest.here) op here)) (at.1 ∙ front_witness s h m ops sizes start count size states.within latest.kept latest.here) in
             let begins : (log_of view c).start ≡ start = ap (λ (l : Log). l.start) (cut told) ∙ ap (λ (l : Log). l.start) same in
             let left = keeps told ws (subst (λ (l : Log). Keeps {F = F} {D = D} (witnesses_in spelling admits l) ws) (sym same) states.witnesses) in
             cut_held s h m lawful spelling admits Made c view (ap (λ (v : View (Unit {0})). v.name) made.0) refl (held told)
@@ -194,6 +203,7 @@ module _ (F Cfg : Type 0) {D Op V : Type 0} (s : Shape) (h : Hashing D) (m : Mea
                   (names_call_log (log_alone view.name) view.name step b c (inl refl) (call.log told));
               images = images_all;
               first = λ told empty. never_empty told (ap (λ (l : Log). l.items) empty);
+              errors = tt;
               changes = changes_after F Cfg s h m spelling admits decoded allowed view cap tells Volume (end, w) a b c r read (changes_ok (call.writes));
             }
           where

@@ -61,11 +61,6 @@ each_at P [] k x all is = absurd cc
 each_at P (y ∷ ys) zero x all is = let e : y ≡ x = cc in subst P e all.0
 each_at P (y ∷ ys) (suc k) x all is = each_at P ys k x all.1 is
 
-pub all_taken : {A : Type 0} (P : A → Type 0) (n : ℕ) (xs : List A) → AllByRecursion P xs → AllByRecursion P (take n xs)
-all_taken P zero xs all = tt
-all_taken P (suc n) [] all = tt
-all_taken P (suc n) (x ∷ xs) all = (all.0, all_taken P n xs all.1)
-
 any_at : (ns : List ℕ) (k n : ℕ) → slice_get ns k ≡ Some n → has_size ns n ≡ true
 any_at [] k n is = absurd cc
 any_at (m ∷ ns) zero n is = let e : m ≡ n = cc in grind (arith, nat_tests)

@@ -1,13 +1,13 @@
 -- Calls that make the witnesses durable.
-use Rattle.std.proofs.Common.{◌≡◌, ◌⊎◌, inl, inr, ℕ, ◌-◌, ◌^◌, true, false, List, refl, sym, ◌∙◌, ap, subst, arith}
+use Rattle.std.proofs.Common.{◌≡◌, ◌⊎◌, inl, inr, ℕ, ◌-◌, ◌^◌, Bool, true, false, List, refl, sym, ◌∙◌, ap, subst, arith}
 use Rattle.std.specs.Prelude.{Result, Ok, Err, IfErr, OnOk, OnErr, IsErrOf}
 use Rattle.std.specs.Result.{IsErrAnd}
 use Rattle.journal_base.specs.Answers.{IsOfVolume, IsOfSize}
-use Rattle.journal_base.specs.View.{View, log_of, SameLog, SameButBounds, IsDurable}
+use Rattle.journal_base.specs.View.{View, log_of, SameLog, SameButBounds, IsDurable, IsHeld, after_sync}
 use Rattle.journal_base.specs.Tickets.{sync_of as journal_sync_of}
 use Rattle.journal_base.specs.declared.ticket.SyncTicket.{SyncTicket}
 use Rattle.journal_base.specs.declared.ticket.SyncTicket.TheVariants.{Done, Failed}
-use Rattle.volume_base.specs.Log.{end_of, Stays}
+use Rattle.volume_base.specs.Log.{Log, end_of, Stays}
 use Rattle.volume_base.specs.Moments.{Between, Turns, Steps}
 use Rattle.volume_base.specs.Volume.{State, OnlyLeft, LogCall, Writes, Changes}
 use Rattle.volume_base.specs.declared.error.JournalError.{JournalError}
@@ -180,6 +180,10 @@ kept_err e (Err d) is kept = let here : d ≡ from_journal journal_error.Volume 
 
 module _ {F D : Type 0} (tells : Type 0) (spelling : D → List ℕ) (log : WitnessLog F D) (tip : Witness F D) (a b : State)
     (call : tells → LogCall (seen_log log).name (Settles spelling log tip a) a b) where
+  waits_then : (l : WitnessLog F D) → (waits l ≡ false → ⊥) → waits l ≡ true
+  waits_then (Open store) never = absurd (never refl)
+  waits_then (Import cfg) never = refl
+
   -- the log isn't opened
   pub syncs_not : {U T : Type 0} (e : JournalError) (r : Result T (Error F)) → IsErrAnd r (λ d. d ≡ from_journal e) → (waits log ≡ false → ⊥)
       → (tells → e ≡ SizeOverflow → (waits log ≡ true) × (end_of (log_of (seen_log log) a) ≡ 2 ^ 64 - 1)) → (tells → e ≡ SizeOverflow → b.clock ≡ a.clock)
@@ -193,6 +197,7 @@ module _ {F D : Type 0} (tells : Type 0) (spelling : D → List ℕ) (log : Witn
         let there = full_is e (sym is ∙ here) in
         let both = full told there in
         (both.0, both.1, unwritten told there);
+    waiting = λ error. waits_then log waiting;
     errors = subst (λ x. IsOutsideOrFull x) (sym is) (size_is e of);
     writes = writes_passed {U = U} tells a b (Err e) (Err d) is w;
   }
@@ -209,6 +214,7 @@ module _ {F D : Type 0} (tells : Type 0) (spelling : D → List ℕ) (log : Witn
         call = λ told. log_call_then_stays (seen_log log).name (Settles spelling log tip a) a b c (call told) (subst (λ (n : List ℕ). LogCall n Stays b c) named (stays told));
         contents = λ opened told. subst (λ (s : State). SameLog (seen_log log) s c) (idle opened) (subst (λ (n : List ℕ). c.log n ≡ b.log n) named (contents told));
         full = λ told error. absurd (passed_full one two same of error);
+        waiting = λ error. absurd (passed_full one two same of error);
         errors = passed_outside one two same of;
         writes = writes_joins tells journal_error.Volume journal_error.Volume Volume a b c answer one two opens (second alive) (passed_volume one two same) (passed_ok one two (c.faults ≡ b.faults) same);
       }
@@ -229,6 +235,20 @@ settled_later (Open old) store a b idle same made settled is =
     subst (λ (s : State). IsDurable store.log s) (sym (idle refl))
     (subst (λ (v : View (Unit {0})). IsDurable v a) (sym k.0) (settled (sym k.1 ∙ is)))
 settled_later (Import cfg) store a b idle same made settled is = let k = made refl in absurd cc
+
+-- the bounds of a log that is opened
+pub bounds_opened : {F D : Type 0} (log : WitnessLog F D) (store : View (Unit {0})) (a b : State) → (waits log ≡ false → b ≡ a) → (waits log ≡ false → store ≡ seen_log log)
+    → (waits log ≡ true → IsHeld store b) → (waits log ≡ false → IsHeld (seen_log log) a) → IsHeld store b
+bounds_opened (Open old) store a b idle same made held =
+    subst (λ (s : State). IsHeld store s) (sym (idle refl)) (subst (λ (v : View (Unit {0})). IsHeld v a) (sym (same refl)) (held refl))
+bounds_opened (Import cfg) store a b idle same made held = made refl
+
+-- and of one that stays, whether a failed sync is kept or not
+pub bounds_stay : (view : View (Unit {0})) (failed : Bool) (b c : State) → SameLog view b c → IsHeld view b → IsHeld (after_sync view failed) c
+bounds_stay view failed b c stays held = record {
+  start_is = held.start_is ∙ ap (λ (l : Log). l.start) (sym stays);
+  end_is = held.end_is ∙ ap end_of (sym stays);
+}
 
 -- ---- other calls
 

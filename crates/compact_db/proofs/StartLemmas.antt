@@ -1,5 +1,5 @@
 -- How a database is opened from its log, from call to call.
-use Rattle.std.proofs.Common.{◌≡◌, ◌⊎◌, inl, inr, ℕ, ◌+◌, ◌-◌, ◌<◌, List, length, map, drop, Option, Some, None, refl, sym, ◌∙◌, ap, subst, arith}
+use Rattle.std.proofs.Common.{◌≡◌, ◌⊎◌, inl, inr, ℕ, ◌+◌, ◌-◌, ◌<◌, List, length, map, take, drop, Option, Some, None, refl, sym, ◌∙◌, ap, subst, arith}
 use Rattle.std.specs.Prelude.{slice_get, Result, Ok, Err, IfOk, IfErr}
 use Rattle.std.specs.Result.{IsErrAnd}
 use Rattle.std.proofs.lemmas.Bool.Decides.{leb_tells}
@@ -8,7 +8,7 @@ use Rattle.std.proofs.lemmas.Option.{slice_get_within}
 use Rattle.codec_base.specs.declared.error.CodecError.{CodecError}
 use Rattle.journal_base.specs.Items.{Items}
 use Rattle.journal_base.specs.View.{View, SameButBounds, at_bounds, log_of}
-use Rattle.volume_base.specs.Log.{Log}
+use Rattle.volume_base.specs.Log.{Log, end_of}
 use Rattle.volume_base.specs.Moments.{LogHas, LogLeft, LogKeeps}
 use Rattle.volume_base.specs.Names.{log_alone, NamesCall}
 use Rattle.volume_base.specs.Volume.{State, OnlyLeft, PastStays, SameContents, LogCall, Reads, Changes}
@@ -27,7 +27,7 @@ use Rattle.witness_store.specs.StoreView.{HasWitnesses}
 use Rattle.witness_store.specs.declared.witness.Witness.{Witness}
 use Rattle.compact_db.specs.DbView.{DbView, seen_log}
 use Rattle.compact_db.specs.Held.{HasStates}
-use Rattle.compact_db.specs.Opening.{IsCapped, IsPast, IsLatest, witnesses_in, IsChosen, IsOpenedAt, WhyNotOpened, IsOpenLog, OpensFrom, Begins, Opens}
+use Rattle.compact_db.specs.Opening.{IsCapped, IsPast, IsLatest, witnesses_in, IsChosen, IsOpenedAt, IsOpeningFault, WhyNotOpened, IsOpenLog, OpensFrom, Begins, Opens}
 use Rattle.compact_db.specs.Rebuild.{rebuild_answer}
 use Rattle.compact_db.specs.WitnessOf.{witness_of}
 use Rattle.chain_core.specs.Answers.{IsOutside}
@@ -149,8 +149,8 @@ module _ (F Cfg : Type 0) {D Op V : Type 0} (s : Shape) (h : Hashing D) (m : Mea
 
   -- nothing is written
   pub opens_not : (e : Error F) (a b : State) → b.clock ≡ a.clock → (tells → PastStays a b) → (tells → SameContents a b)
-      → (let r : Answer = Err e in Changes tells Volume a b r) → (tells → WhyNotOpened s m decoded (kept_in (log_of view a)) cap e) → OpensHere a b (Err e)
-  opens_not e a b clock past contents changes why = record {
+      → (let r : Answer = Err e in Changes tells Volume a b r) → (tells → WhyNotOpened s m decoded (kept_in (log_of view a)) cap e) → IsOpeningFault D s m decoded cap e → OpensHere a b (Err e)
+  opens_not e a b clock past contents changes why fault = record {
     log = tt;
     contents = λ told. from_err (log_of view a) b e (why told);
     unwritten = λ told. inr clock;
@@ -158,6 +158,7 @@ module _ (F Cfg : Type 0) {D Op V : Type 0} (s : Shape) (h : Hashing D) (m : Mea
     images = λ told ops sizes count size greatest least states latest le has.
         keeps_idle (LogLeft view.name) (log_back view.name) (HasWitnesses spelling (map (witness_of {F = F} s h m ops) sizes) greatest least) a b clock (past told) has;
     first = λ told empty. log_call_idle view.name (Begins F s h m spelling) a b clock (past told) (contents told) (λ l. inl (shrinks_same 0 l));
+    errors = fault;
     changes = changes;
   }
 
@@ -205,12 +206,13 @@ module _ (F Cfg : Type 0) {D Op V : Type 0} (s : Shape) (h : Hashing D) (m : Mea
             keeps_later a b c read.clock read.past read.contents (HasWitnesses spelling (map (witness_of {F = F} s h m ops) sizes) greatest least) told has
             (subst (λ (n : List ℕ). LogKeeps n (HasWitnesses spelling (map (witness_of {F = F} s h m ops) sizes) greatest least) b c) named
             (made.images told ops sizes count size greatest least
-            (subst (λ (l : Log). HasStates s h m ops sizes (kept_in l)) (sym (ap (λ (n : List ℕ). b.log n) named ∙ same told)) states)
-            (subst (λ (l : Log). IsLatest sizes l.start cap count size) (sym (ap (λ (n : List ℕ). b.log n) named ∙ same told)) latest) le
+            (subst (λ (l : Log). HasStates s h m ops (take (end_of l) sizes) (kept_in l)) (sym (ap (λ (n : List ℕ). b.log n) named ∙ same told)) states)
+            (subst (λ (l : Log). IsLatest (take (end_of l) sizes) l.start cap count size) (sym (ap (λ (n : List ℕ). b.log n) named ∙ same told)) latest) le
             (subst (λ (n : List ℕ). LogHas b n (HasWitnesses spelling (map (witness_of {F = F} s h m ops) sizes) greatest least)) (sym named)
             (left_later a b c read.clock read.past read.contents (HasWitnesses spelling (map (witness_of {F = F} s h m ops) sizes) greatest least) told has))));
         first = λ told empty. log_call_after_read tells fault view.name (Begins F s h m spelling) (λ l. inl (shrinks_same 0 l)) a b (Ok answer) read c told
             (subst (λ (n : List ℕ). LogCall n (Begins F s h m spelling) b c) named (made.first told (ap (λ (n : List ℕ). b.log n) named ∙ same told ∙ empty)));
+        errors = made.errors;
         changes = changes_after fault answer a b c r read made.changes;
       }
     where

@@ -200,6 +200,15 @@ module _ {F D Op V : Type 0} (s : Shape) (h : Hashing D) (m : Meaning Op V) (ops
 
 -- ---- the front that it is of
 
+-- the last operation of a front
+pub last_taken : {Op V : Type 0} (m : Meaning Op V) (size : ℕ) (ops : List Op) → IsSizeOf m ops size → (op : Op)
+    → slice_get (take size ops) (length (take size ops) - 1) ≡ Some op → slice_get ops (size - 1) ≡ Some op
+last_taken m size ops of op is =
+    let le = of.0 in
+    let some = size_some m ops size of in
+    let count : length (take size ops) ≡ size = omega (arith, le, length-take size ops) in
+    sym (get_before ops size (size - 1) (omega (arith, some))) ∙ ap (λ (k : ℕ). slice_get (take size ops) (k - 1)) (sym count) ∙ is
+
 module _ {D Op V : Type 0} (s : Shape) (h : Hashing D) (m : Meaning Op V) (ops : List Op) (sizes : List ℕ) (start count size : ℕ)
     (within : AllByRecursion (IsSizeOf m ops) (drop start sizes)) (some : start < count) (here : slice_get sizes (count - 1) ≡ Some size) where
   pub kept_size : IsSizeOf m ops size

@@ -1,18 +1,20 @@
 -- At which state a compact database is opened, and why at none.
 use Rattle.std.specs.Prelude.{◌≡◌, ◌⊎◌, ℕ, ◌-◌, ◌<◌, ◌≤◌, false, List, [], ◌∷◌, length, map, take, Option, Some, None, Result, Ok, Err, IfOk, IfErr, OnOk, MatchOption, slice_get}
-use Rattle.std.specs.List.{AllByRecursion}
 use Rattle.codec_base.specs.declared.error.CodecError.{CodecError}
+use Rattle.journal_base.specs.Answers.{IsOfRead, IsOfSize}
 use Rattle.journal_base.specs.Items.{Items, IsCorrupt}
 use Rattle.journal_base.specs.View.{View, SameButBounds, IsHeld, IsDurable, log_of}
 use Rattle.volume_base.specs.Log.{Log, end_of, no_log, cut_to, Shrinks}
 use Rattle.volume_base.specs.Moments.{LogHas, LogKeeps}
 use Rattle.volume_base.specs.Names.{log_alone, NamesCall}
 use Rattle.volume_base.specs.Volume.{State, LogCall, Changes}
+use Rattle.volume_base.specs.declared.error.JournalError.{JournalError}
 use Rattle.volume_base.specs.declared.error.JournalError.TheVariants as journal_error
 use Rattle.tree_shape.specs.Hashing.{Hashing}
 use Rattle.tree_shape.specs.Shape.{Shape}
 use Rattle.log_model.specs.Meaning.{Meaning}
 use Rattle.chain_core.specs.Answers.{IsOutside}
+use Rattle.chain_core.specs.Errors.{from_journal}
 use Rattle.chain_core.specs.declared.error.Error.{Error}
 use Rattle.chain_core.specs.declared.error.Error.TheVariants.{Journal, HistoricalFloorPruned, DataCorrupted, Volume}
 use Rattle.chain_core.specs.declared.error.DataFault.TheVariants as fault
@@ -39,7 +41,8 @@ abbrev pub IsPast : Option ℕ → ℕ → Type 0
 IsPast None n = ⊥
 IsPast (Some cap) n = cap < n
 
--- Of the sizes that are kept from a start on this is the last within a cap, and so many sizes end with it: each behind it is above the cap.
+-- Of the sizes that are kept from a start on this is the last within a cap, and so many sizes end with it: each behind
+-- it is above the cap.
 pub record IsLatest (sizes : List ℕ) (start : ℕ) (cap : Option ℕ) (count size : ℕ) : Type 0 where
   pub kept : start < count
   pub here : slice_get sizes (count - 1) ≡ Some size
@@ -53,8 +56,9 @@ abbrev pub witnesses_in : {F D : Type 0} → (D → List ℕ) → (D → Type 0)
 witnesses_in spelling admits log = record { log = log; spelling = text_of spelling; admits = IsAllowed admits }
 
 module _ {F D : Type 0} (items : Items (Witness F D)) (cap : Option ℕ) where
-  -- What is selected of the witnesses of a log: one within the cap, behind which one above it stands or the log ends, with the end
-  -- behind it; or none, and then the first is above the cap. Where the log keeps the witnesses of a list, it is the last within the cap.
+  -- What is selected of the witnesses of a log: one within the cap, behind which one above it stands or the log ends,
+  -- with the end behind it; or none, and then the first is above the cap. Where the log keeps the witnesses of a list,
+  -- it is the last within the cap.
   pub record IsChosen (found : Option (ℕ × Witness F D)) : Type 0 where
     pub here : MatchOption found (NoneWithin items items.log.start cap)
         (λ s. IsSelected items items.log.start (end_of items.log) cap (s.0, s.1))
@@ -73,8 +77,8 @@ pub record IsFirstCommit {Op V : Type 0} (m : Meaning Op V) (op : Op) : Type 0 w
   pub floored : m.floor op ≡ Some 0
   pub valued : m.value op ≡ None
 
-module _ {F D Op V : Type 0} (s : Shape) (m : Meaning Op V) (decoded : List ℕ → Result Op CodecError) (items : Items (Witness F D))
-    (cap : Option ℕ) where
+module _ {F D Op V : Type 0} (s : Shape) (m : Meaning Op V) (decoded : List ℕ → Result Op CodecError)
+    (items : Items (Witness F D)) (cap : Option ℕ) where
   -- The database is at the state that the selected witness rebuilds, and the log ends behind it.
   pub record IsOpenedAt {Cfg : Type 0} (db : DbView F D Op Cfg) (log : Log) : Type 0 where
     pub end : ℕ
@@ -95,24 +99,37 @@ module _ {F D Op V : Type 0} (s : Shape) (m : Meaning Op V) (decoded : List ℕ 
       ⊎ (((0 < items.log.start) × (items.log.items ≡ []) × (e ≡ DataCorrupted fault.NoTip))
       ⊎ ((0 < length items.log.items) × WhyNotResumed e))
 
+-- What an opening may come to over any volume: a failure of the outside; an empty log past 0; a cap below the first
+-- witness; a failed read, or write, of the log; or a witness that doesn't rebuild.
+abbrev pub IsOpeningFault : {F Op V : Type 0} → (D : Type 0) → Shape → Meaning Op V → (List ℕ → Result Op CodecError)
+    → Option ℕ → Error F → Type 0
+IsOpeningFault {F} D s m decoded cap e = IsOutside e
+    ⊎ ((e ≡ DataCorrupted fault.NoTip)
+    ⊎ (((p : ℕ) × (cap ≡ Some p) × (e ≡ HistoricalFloorPruned p))
+    ⊎ (((cause : JournalError) × (IsOfRead cause ⊎ IsOfSize cause) × (e ≡ from_journal cause))
+    ⊎ ((w : Witness F D) × (rebuild_answer s m decoded w ≡ Err e)))))
+
 -- What a log that begins with a text leaves of an image: a front of it, the empty log at 0, or that with the text.
 abbrev pub BeginsWith : List ℕ → Log → Log → Type 0
 BeginsWith text old new = Shrinks 0 old new ⊎ IsRestarted 0 text new
 
--- Of an image of an empty log at 0 an opening leaves a front, the empty log, or that with the witness of a first commit.
+-- Of an image of an empty log at 0 an opening leaves a front, the empty log, or that with the witness of a first
+-- commit.
 abbrev pub Begins : {D Op V : Type 0} → Type 0 → Shape → Hashing D → Meaning Op V → (D → List ℕ) → Log → Log → Type 0
 Begins {D} {Op} F s h m spelling old new = Shrinks 0 old new
     ⊎ ((op : Op) × IsFirstCommit m op × BeginsWith (text_of spelling (witness_of {F = F} s h m (op ∷ []) 1)) old new)
 
 -- The log of an opened database is that of a view, open and durable.
-pub record IsOpenLog {F D : Type 0} (tells : Type 0) (view : View (Unit {0})) (log : WitnessLog F D) (state : State) : Type 0 where
+pub record IsOpenLog {F D : Type 0} (tells : Type 0) (view : View (Unit {0})) (log : WitnessLog F D) (state : State)
+    : Type 0 where
   pub opened : waits log ≡ false
   pub committed : is_uncommitted log ≡ false
   pub same : SameButBounds view (seen_log log)
   pub held : tells → IsHeld (seen_log log) state
   pub durable : tells → IsDurable view state
 
-module _ {F D Op V Cfg : Type 0} (s : Shape) (h : Hashing D) (m : Meaning Op V) (spelling : D → List ℕ) (admits : D → Type 0)
+module _ {F D Op V Cfg : Type 0} (s : Shape) (h : Hashing D) (m : Meaning Op V) (spelling : D → List ℕ)
+    (admits : D → Type 0)
     (decoded : List ℕ → Result Op CodecError) (allowed : Op → Type 0) (view : View (Unit {0})) (cap : Option ℕ) where
   -- What an opening under a cap comes to over a log with these contents.
   pub record OpensFrom (log : Log) (new : State) (result : Result (DbView F D Op Cfg) (Error F)) : Type 0 where
@@ -124,12 +141,15 @@ module _ {F D Op V Cfg : Type 0} (s : Shape) (h : Hashing D) (m : Meaning Op V) 
     -- Of another one the selected witness is rebuilt.
     pub resumed : IfOk result (λ db. 0 < length log.items →
         IsOpenedAt s m decoded (witnesses_in spelling admits log) cap db (log_of view new))
-    -- A log that keeps the witnesses of a list, whose operations are allowed, is opened at the latest size within the cap.
+    -- A log that keeps the witnesses of a list is opened at the latest size within the cap, where its commit is
+    -- allowed.
     pub held : IfOk result (λ db. (ops : List Op) (sizes : List ℕ) (count size : ℕ) →
         HasStates {F = F} s h m ops sizes (witnesses_in spelling admits log) → IsLatest sizes log.start cap count size →
-        AllByRecursion allowed ops → IsHeldFor s h m spelling admits (take size ops) (take count sizes) db new)
+        ((op : Op) → slice_get ops (size - 1) ≡ Some op → allowed op) →
+        IsHeldFor s h m spelling admits (take size ops) (take count sizes) db new)
     pub refused : IfErr result (WhyNotOpened s m decoded (witnesses_in spelling admits log) cap)
-    -- Where one is within the cap, it is refused by the outside alone, or as the list's witness of that size doesn't rebuild.
+    -- Where one is within the cap, it is refused by the outside alone, or as the list's witness of that size doesn't
+    -- rebuild.
     pub damaged : (ops : List Op) (sizes : List ℕ) (count size : ℕ) →
         HasStates {F = F} s h m ops sizes (witnesses_in spelling admits log) → IsLatest sizes log.start cap count size →
         IfErr result (λ e. IsOutside e ⊎ (rebuild_answer s m decoded (witness_of {F = F} s h m ops size) ≡ Err e))
@@ -141,12 +161,17 @@ module _ {F D Op V Cfg : Type 0} (s : Shape) (h : Hashing D) (m : Meaning Op V) 
     -- A refusal comes before anything is written: nothing is cut off before the selected witness has been rebuilt.
     pub unwritten : tells → IfErr result (λ e. IsOutside e ⊎ (new.clock ≡ old.clock))
     pub names : tells → NamesCall (log_alone view.name) old new
-    -- Where nothing durable is above the cap, at each moment a crash leaves a part of the list within the bounds of before.
+    -- Where the log has a front of a list's witnesses, and nothing durable is above the cap, at each moment a crash
+    -- leaves a part of the list within the bounds of before.
     pub images : tells → (ops : List Op) (sizes : List ℕ) (count size greatest least : ℕ) →
-        HasStates {F = F} s h m ops sizes (witnesses_in spelling admits (log_of view old)) →
-        IsLatest sizes (log_of view old).start cap count size → least ≤ count →
+        let log = log_of view old in
+        let here = take (end_of log) sizes in
+        HasStates {F = F} s h m ops here (witnesses_in spelling admits log) →
+        IsLatest here log.start cap count size → least ≤ count →
         let ws = map (witness_of {F = F} s h m ops) sizes in
         LogHas old view.name (HasWitnesses spelling ws greatest least) →
         LogKeeps view.name (HasWitnesses spelling ws greatest least) old new
     pub first : tells → log_of view old ≡ no_log → LogCall view.name (Begins F s h m spelling) old new
+    -- Over whatever volume it fails by one of these alone.
+    pub errors : IfErr result (IsOpeningFault D s m decoded cap)
     pub changes : Changes tells Volume old new result

@@ -56,13 +56,16 @@ abbrev pub outcome : {F T : Type 0} → Result (T × SyncTicket) (Error F) → R
 outcome (Ok made) = sync_of made.1
 outcome (Err error) = Err error
 
--- What a call that makes the witnesses durable says of the log, whatever it answers; the witness of an import that waits is written before. A
--- refusal by name comes before anything is written.
-pub record SyncsLog {F D T : Type 0} (tells : Type 0) (spelling : D → List ℕ) (log : WitnessLog F D) (tip : Witness F D) (old new : State)
+-- What a call that makes the witnesses durable says of the log, whatever it answers; the witness of an import that
+-- waits is written before. A refusal by name comes before anything is written.
+pub record SyncsLog {F D T : Type 0} (tells : Type 0) (spelling : D → List ℕ) (log : WitnessLog F D)
+    (tip : Witness F D) (old new : State)
     (result : Result T (Error F)) : Type 0 where
   pub call : tells → LogCall (seen_log log).name (Settles spelling log tip old) old new
   pub contents : waits log ≡ false → tells → SameLog (seen_log log) old new
   pub full : tells → IsErrOf result (Journal journal_error.SizeOverflow)
       → (waits log ≡ true) × (end_of (log_of (seen_log log) old) ≡ 2 ^ 64 - 1) × (new.clock ≡ old.clock)
+  -- Over whatever volume it is no such refusal where the log is open.
+  pub waiting : IsErrOf result (Journal journal_error.SizeOverflow) → waits log ≡ true
   pub errors : IfErr result IsOutsideOrFull
   pub writes : Writes tells Volume old new result

@@ -1,7 +1,7 @@
 //! How a compact database begins in an empty log: with the witness of the first commit.
-ghost use Rattle.std.specs.Prelude.{◌≡◌, ◌<◌, ◌^◌, ◌∷◌, [], ℕ, length, false, Option, Some, IfOk, IfErr, OnOk, IsOkUnless};
+ghost use Rattle.std.specs.Prelude.{◌≡◌, ◌⊎◌, ◌<◌, ◌^◌, ◌∷◌, [], ℕ, length, false, Option, Some, IfOk, IfErr, OnOk, IsOkUnless};
 ghost use Rattle.codec_base.specs.Parts.{whole};
-ghost use Rattle.journal_base.specs.Answers.{IsOfVolume};
+ghost use Rattle.journal_base.specs.Answers.{IsOfVolume, IsOfStart, IsOfSize};
 ghost use Rattle.journal_base.specs.View.{seen_of, log_of, SameButBounds, IsHeld, IsDurable};
 ghost use Rattle.volume_base.specs.Log.{no_log, appended};
 ghost use Rattle.volume_base.specs.Volume.{LogCall, Writes};
@@ -61,11 +61,13 @@ fn first_kept<F: Family, D: Digest, V: Volume>(
     ensures written { OnOk result (V.tells → log_of (seen_of recovery) (V.state vol.new)
         ≡ appended no_log (text_of D.spelling witness.now ∷ [])) }
     ensures keeps { OnOk result (V.tells → IsAllowed (D.admits tt) witness.now →
-        Keeps (witnesses_in D.spelling (D.admits tt) (log_of (seen_of recovery) (V.state vol.new))) (witness.now ∷ [])) }
+        Keeps (witnesses_in D.spelling (D.admits tt) (log_of (seen_of recovery) (V.state vol.new)))
+        (witness.now ∷ [])) }
     ensures durable { OnOk result (V.tells → IsDurable (seen_of recovery) (V.state vol.new)) }
     ensures log { V.tells → LogCall (seen_of recovery).name (BeginsWith (text_of D.spelling witness.now))
         (V.state vol.old) (V.state vol.new) }
     ensures errors { V.tells → IfErr result IsOfVolume }
+    ensures any { IfErr result (λ e. IsOfStart e ⊎ IsOfSize e) }
     ensures writes { Writes V.tells journal_error.Volume (V.state vol.old) (V.state vol.new) result }
 {
     // Its length tells that it is one of 64 bits.

@@ -1,6 +1,6 @@
 //! How a compact database goes on to the state of a batch.
 ghost use Rattle.std.specs.Prelude.{◌≡◌, ◌⊎◌, ◌<◌, ◌≤◌, ◌-◌, ◌^◌, ◌++◌, ◌∷◌, [], ℕ, List, length, map, Some, true, false, slice_get, Ok, IsOk, IfOk, IfErr, OnOk, IsErrOf, Contains};
-ghost use Rattle.journal_base.specs.View.{log_of, SameButBounds};
+ghost use Rattle.journal_base.specs.View.{log_of, SameButBounds, IsHeld};
 ghost use Rattle.volume_base.specs.Log.{end_of};
 ghost use Rattle.volume_base.specs.Moments.{LogHas, LogKeeps};
 ghost use Rattle.volume_base.specs.Names.{log_alone, NamesCall};
@@ -57,6 +57,7 @@ impl<F: Family, O: CompactOperation, H: Hasher> CompactDb<F, O, H> {
             × IsHeldFor F.shape H.hash O.meaning H.Digest.spelling (H.Digest.admits tt) ops sizes made
             (V.state vol.new)) }
         ensures log { IfOk result (λ made. SameButBounds (seen_log self.log) (seen_log made.log)) }
+        ensures bounds { IfOk result (λ made. V.tells → IsHeld (seen_log made.log) (V.state vol.new)) }
         ensures uncommitted { IfOk result (λ made. is_uncommitted made.log ≡ true) }
         ensures written { IfOk result (λ made. V.tells → log_of (seen_log self.log) (V.state vol.new)
             ≡ written_log H.Digest.spelling self.log made.tip.witness (V.state vol.old)) }
@@ -132,6 +133,8 @@ impl<F: Family, O: CompactOperation, H: Hasher> CompactDb<F, O, H> {
             × IsHeldFor F.shape H.hash O.meaning H.Digest.spelling (H.Digest.admits tt) ops sizes made
             (V.state vol.new)) }
         ensures log { IfOk result (λ made. SameButBounds (seen_log self.log) (seen_log made.log)) }
+        ensures bounds { V.tells → (waits self.log ≡ false → IsHeld (seen_log self.log) (V.state vol.old)) →
+            IfOk result (λ made. IsHeld (seen_log made.log) (V.state vol.new)) }
         ensures settled { V.tells → IsSettledLog self.log (V.state vol.old) →
             IfOk result (λ made. IsSettledLog made.log (V.state vol.new)) }
         ensures written { waits self.log ≡ true → OnOk result (V.tells → log_of (seen_log self.log) (V.state vol.new)
@@ -200,6 +203,10 @@ impl<F: Family, O: CompactOperation, H: Hasher> CompactDb<F, O, H> {
             item_at pool.now id ≡ Some b →
             IsOfList F.shape H.hash O.meaning ops self → IsMerkleizedOf F.shape H.hash O.meaning (ops ++ more) b →
             IsOfList F.shape H.hash O.meaning (ops ++ more) made) }
+        // Of whichever batch that is longer, its size is the batch's, and its commit the batch's last operation.
+        ensures grows { IfOk result (λ made. (b : MerkleizedView F H.Digest O) → item_at pool.now id ≡ Some b →
+            self.tip.witness.size < b.bounds.tip.size → (made.tip.witness.size ≡ b.bounds.tip.size)
+            × (slice_get b.operations (length b.operations - 1) ≡ Some made.commit)) }
         // Where that list is longer, the volume has one more witness.
         ensures held { IfOk result (λ made. V.tells →
             (ops more : List O) (sizes : List ℕ) (b : MerkleizedView F H.Digest O) → item_at pool.now id ≡ Some b →
@@ -232,6 +239,9 @@ impl<F: Family, O: CompactOperation, H: Hasher> CompactDb<F, O, H> {
             IsHeldFor F.shape H.hash O.meaning H.Digest.spelling (H.Digest.admits tt) ops sizes made
             (V.state vol.new)) }
         ensures log { IfOk result (λ made. SameButBounds (seen_log self.log) (seen_log made.log)) }
+        // The bounds that it knows stay those of the log.
+        ensures bounds { V.tells → (waits self.log ≡ false → IsHeld (seen_log self.log) (V.state vol.old)) →
+            IfOk result (λ made. IsHeld (seen_log made.log) (V.state vol.new)) }
         ensures settled { V.tells → IsSettledLog self.log (V.state vol.old) →
             IfOk result (λ made. IsSettledLog made.log (V.state vol.new)) }
         // One witness is written, behind the others; where an import waits, alone.

@@ -33,8 +33,8 @@ fn check_bound<F: Family>(cap: &Option<Location<F>>) -> Result<(), Error<F>>
 }
 
 impl<F: Family, O: CompactOperation, H: Hasher> CompactDb<F, O, H> {
-    /// The database of a log that is being opened: at the witness that is selected, or at the first commit where the log is
-    /// empty at 0. It refuses with `DataCorrupted(NoTip)` where it is empty past 0.
+    /// The database of a log that is being opened: at the witness that is selected, or at the first commit where the
+    /// log is empty at 0. It refuses with `DataCorrupted(NoTip)` where it is empty past 0.
     fn opened_from<V: Volume>(
         alloc: Global,
         vol: &mut V,
@@ -68,7 +68,8 @@ impl<F: Family, O: CompactOperation, H: Hasher> CompactDb<F, O, H> {
     ) -> Result<Self, Error<F>>
         ensures codec { IfOk result (λ db. db.codec ≡ cfg.commit_codec) }
         ensures opens { Opens F.shape H.hash O.meaning H.Digest.spelling (H.Digest.admits tt)
-            (λ bytes. whole (O.reads cfg.commit_codec bytes)) (O.admits cfg.commit_codec) (config_of (journal_of cfg)) cap
+            (λ bytes. whole (O.reads cfg.commit_codec bytes)) (O.admits cfg.commit_codec) (config_of (journal_of cfg))
+            cap
             V.tells (V.state vol.old) (V.state vol.new) result }
     {
         let journal = JournalConfig {
@@ -80,10 +81,11 @@ impl<F: Family, O: CompactOperation, H: Hasher> CompactDb<F, O, H> {
         Self::opened_from(alloc, vol, recovery, cfg.commit_codec, cap)
     }
 
-    /// The database of a log of witnesses, at the latest one whose size is within a cap, if there is one: it is verified, and
-    /// then newer ones are cut off, and what is left is made durable. An empty log at 0 gets the witness of the first commit.
-    /// Refuses, in this order: `InvalidInitializationBound` of a cap of 0, before the volume is called; `DataCorrupted(NoTip)`
-    /// where the log is empty past 0; `HistoricalFloorPruned` where the first witness is above the cap; or as `rebuild`.
+    /// The database of a log of witnesses, at the latest one whose size is within a cap, if there is one: it is
+    /// verified, and then newer ones are cut off, and what is left is made durable. An empty log at 0 gets the witness
+    /// of the first commit. Refuses, in this order: `InvalidInitializationBound` of a cap of 0, before the volume is
+    /// called; `DataCorrupted(NoTip)` where the log is empty past 0; `HistoricalFloorPruned` where the first witness is
+    /// above the cap; or as `rebuild`.
     pub fn init<V: Volume>(
         alloc: Global,
         vol: &mut V,
@@ -93,16 +95,18 @@ impl<F: Family, O: CompactOperation, H: Hasher> CompactDb<F, O, H> {
         ensures bound { max_size ≡ Some 0 → IsErrOf result Error.InvalidInitializationBound × (vol.new ≡ vol.old) }
         ensures codec { IfOk result (λ db. db.codec ≡ cfg.commit_codec) }
         ensures opens { max_size ≢ Some 0 → Opens F.shape H.hash O.meaning H.Digest.spelling (H.Digest.admits tt)
-            (λ bytes. whole (O.reads cfg.commit_codec bytes)) (O.admits cfg.commit_codec) (config_of (journal_of cfg)) max_size
+            (λ bytes. whole (O.reads cfg.commit_codec bytes)) (O.admits cfg.commit_codec) (config_of (journal_of cfg))
+            max_size
             V.tells (V.state vol.old) (V.state vol.new) result }
     {
         check_bound(&max_size)?;
         Self::opened_under(alloc, vol, cfg, max_size)
     }
 
-    /// The database of an imported state: a commit at a location, and the peaks of the tree before it. Nothing is written before its
-    /// first write. Refuses, in this order: `UnexpectedData` of an operation that is no commit; `DataCorrupted(Witness)` of one that is earlier than
-    /// its floor; `Merkle(LocationOverflow)` at or past `MAX_LEAVES`; `Merkle(InvalidPinnedNodes)` where there are more or fewer pins than peaks.
+    /// The database of an imported state: a commit at a location, and the peaks of the tree before it. Nothing is
+    /// written before its first write. Refuses, in this order: `UnexpectedData` of an operation that is no commit;
+    /// `DataCorrupted(Witness)` of one that is earlier than its floor; `Merkle(LocationOverflow)` at or past
+    /// `MAX_LEAVES`; `Merkle(InvalidPinnedNodes)` where there are more or fewer pins than peaks.
     pub fn import<V: Volume>(
         alloc: Global,
         _vol: &mut V,
@@ -111,18 +115,25 @@ impl<F: Family, O: CompactOperation, H: Hasher> CompactDb<F, O, H> {
         pinned_nodes: Vec<H::Digest>,
         op: O,
     ) -> Result<Self, Error<F>>
-        ensures may { IfOk result (λ db. import_answer {F = F} F.shape O.meaning last_commit_loc (length pinned_nodes.items) op ≡ Ok tt) }
-        ensures refused { RefusedOnlyAs (import_answer {F = F} F.shape O.meaning last_commit_loc (length pinned_nodes.items) op) result }
+        ensures may { IfOk result (λ db. import_answer {F = F} F.shape O.meaning last_commit_loc
+            (length pinned_nodes.items) op ≡ Ok tt) }
+        ensures refused { RefusedOnlyAs
+            (import_answer {F = F} F.shape O.meaning last_commit_loc (length pinned_nodes.items) op) result }
         ensures log { IfOk result (λ db. db.log ≡ WitnessLog.Import (journal_of cfg)) }
         ensures size { IfOk result (λ db. db.tip.witness.size ≡ last_commit_loc + 1) }
         ensures commit { IfOk result (λ db. db.commit ≡ op) }
         ensures codec { IfOk result (λ db. db.codec ≡ cfg.commit_codec) }
         // Of whichever pins, its witness has these.
         ensures witness { IfOk result (λ db. db.tip.witness ≡
-            record { op_bytes = O.meaning.encoding op; size = last_commit_loc + 1; pinned_nodes = pinned_nodes.items }) }
+            record {
+              op_bytes = O.meaning.encoding op;
+              size = last_commit_loc + 1;
+              pinned_nodes = pinned_nodes.items;
+            }) }
         // It is the database of each list with this commit behind so many operations whose peaks these are.
         ensures list { IfOk result (λ db. (before : List O) → length before ≡ last_commit_loc →
-            pinned_nodes.items ≡ map (node_of F.shape H.hash (leaves_from F.shape H.hash O.meaning 0 before)) (peaks F.shape last_commit_loc) →
+            pinned_nodes.items ≡ map (node_of F.shape H.hash (leaves_from F.shape H.hash O.meaning 0 before))
+            (peaks F.shape last_commit_loc) →
             IsOfList F.shape H.hash O.meaning (before ++ op ∷ []) db) }
         ensures still { _vol.new ≡ _vol.old }
     {

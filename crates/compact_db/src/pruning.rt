@@ -23,8 +23,9 @@ use tree_core::{Family, Hasher, Location};
 use volume_base::Volume;
 
 impl<F: Family, O: CompactOperation, H: Hasher> CompactDb<F, O, H> {
-    /// Drops whole blobs of witnesses of fewer operations, and never the last witness. All are durable before, and the new start
-    /// behind it. It refuses with `DataCorrupted(ImportNotApplied)` where an import waits, and with `Volume` where a failed sync is kept.
+    /// Drops whole blobs of witnesses of fewer operations, and never the last witness. All are durable before, and the
+    /// new start behind it. It refuses with `DataCorrupted(ImportNotApplied)` where an import waits, and with `Volume`
+    /// where a failed sync is kept.
     pub fn prune<V: Volume>(self, vol: &mut V, boundary: Location<F>) -> Result<Self, Error<F>>
         ensures kept { (seen_log self.log).failed ≡ true → IsErrOf result Error.Volume × (vol.new ≡ vol.old) }
         ensures waiting { waits self.log ≡ true →
@@ -32,16 +33,19 @@ impl<F: Family, O: CompactOperation, H: Hasher> CompactDb<F, O, H> {
         ensures waiting_only { IsErrOf result (Error.DataCorrupted fault.ImportNotApplied) → waits self.log ≡ true }
         ensures same { IfOk result (SameState self) }
         ensures log { IfOk result (λ made. SameButBounds (seen_log self.log) (seen_log made.log)) }
+        ensures bounds { IfOk result (λ made. V.tells → IsHeld (seen_log made.log) (V.state vol.new)) }
         ensures opened { IfOk result (λ made. waits made.log ≡ false) }
         ensures committed { IfOk result (λ made. is_uncommitted made.log ≡ false) }
         // The witnesses stay those of the list, but for a front.
         ensures held { IfOk result (λ made. V.tells → (ops : List O) (sizes : List ℕ) →
             IsHeldFor F.shape H.hash O.meaning H.Digest.spelling (H.Digest.admits tt) ops sizes self (V.state vol.old) →
-            IsHeldFor F.shape H.hash O.meaning H.Digest.spelling (H.Digest.admits tt) ops sizes made (V.state vol.new)) }
+            IsHeldFor F.shape H.hash O.meaning H.Digest.spelling (H.Digest.admits tt) ops sizes made
+            (V.state vol.new)) }
         ensures pruned { let log = seen_log self.log in OnOk result (V.tells → (ops : List O) (sizes : List ℕ) →
             IsHeldFor F.shape H.hash O.meaning H.Digest.spelling (H.Digest.admits tt) ops sizes self (V.state vol.old) →
             log_of log (V.state vol.new) ≡ pruned_to (log_of log (V.state vol.old))
-            (blob_start log.blob (kept_from (map (witness_of {F = F} F.shape H.hash O.meaning ops) sizes) log.start boundary))) }
+            (blob_start log.blob (kept_from (map (witness_of {F = F} F.shape H.hash O.meaning ops) sizes) log.start
+            boundary))) }
         ensures durable { OnOk result (V.tells → IsDurable (seen_log self.log) (V.state vol.new)) }
         ensures names { V.tells → NamesCall (log_alone (seen_log self.log).name) (V.state vol.old) (V.state vol.new) }
         // Up to a turn a crash leaves what it left, and from it on all witnesses but for a front.
@@ -51,7 +55,8 @@ impl<F: Family, O: CompactOperation, H: Hasher> CompactDb<F, O, H> {
             let ws = map (witness_of {F = F} F.shape H.hash O.meaning ops) sizes in
             LogHas (V.state vol.old) name (HasWitnesses H.Digest.spelling ws greatest least) →
             Steps (LogLeft name) (HasWitnesses H.Digest.spelling ws greatest least)
-            (HasWitnesses H.Digest.spelling ws (max greatest (kept_from ws (seen_log self.log).start boundary)) (length ws))
+            (HasWitnesses H.Digest.spelling ws (max greatest (kept_from ws (seen_log self.log).start boundary))
+            (length ws))
             (V.state vol.old) (V.state vol.new) result }
         ensures outside { waits self.log ≡ false → V.tells → (ops : List O) (sizes : List ℕ) →
             IsHeldFor F.shape H.hash O.meaning H.Digest.spelling (H.Digest.admits tt) ops sizes self (V.state vol.old) →

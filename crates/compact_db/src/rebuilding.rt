@@ -1,6 +1,5 @@
 //! The state of a database, made of its witness.
-ghost use Rattle.std.specs.Prelude.{◌≡◌, ◌+◌, ◌-◌, ◌^◌, ◌<◌, ◌≤◌, ◌++◌, ◌∷◌, [], List, length, map, Ok, Err, Some, IfOk, IsOkUnless};
-ghost use Rattle.std.specs.List.{AllByRecursion};
+ghost use Rattle.std.specs.Prelude.{◌≡◌, ◌+◌, ◌-◌, ◌^◌, ◌<◌, ◌≤◌, ◌++◌, ◌∷◌, [], List, length, map, slice_get, Ok, Err, Some, IfOk, IsOkUnless};
 ghost use Rattle.codec_base.specs.Parts.{whole};
 ghost use Rattle.tree_shape.specs.Shape.{peaks};
 ghost use Rattle.tree_shape.specs.Slow.{leaf, node_of};
@@ -98,9 +97,9 @@ pub fn rebuild<F: Family, O: CompactOperation, H: Hasher>(
     ensures some { IfOk result (λ r. 0 < witness.size) }
     ensures witness { IfOk result (λ r. r.tip.witness ≡ witness) }
     ensures frontier { IfOk result (λ r. IsFrontier F.shape r.merkle) }
-    // Of the witness of a list, whose operations are allowed, it makes the list's state.
+    // Of the witness of a list, whose commit is allowed, it makes the list's state.
     ensures list { IfOk result (λ r. (ops : List O) → EndsWithCommit O.meaning ops → length ops ≤ 2 ^ 62 →
-        AllByRecursion (O.admits codec.now) ops →
+        ((op : O) → slice_get ops (length ops - 1) ≡ Some op → O.admits codec.now op) →
         witness ≡ witness_of F.shape H.hash O.meaning ops (length ops) →
         IsStateOf F.shape H.hash O.meaning ops r.tip r.merkle r.commit) }
 {

@@ -1,8 +1,11 @@
 //! How a compact database is opened at a witness that its log has.
-ghost use Rattle.std.specs.Prelude.{◌≡◌, ◌<◌, ℕ, false, Some, IfOk, IfErr};
+ghost use Rattle.std.specs.Prelude.{◌≡◌, ◌⊎◌, ◌<◌, ℕ, false, Some, IfOk, IfErr};
 ghost use Rattle.codec_base.specs.Parts.{whole};
+ghost use Rattle.journal_base.specs.Answers.{IsOfRead};
 ghost use Rattle.journal_base.specs.View.{seen_of, log_of, IsHeld};
 ghost use Rattle.volume_base.specs.Volume.{Reads};
+ghost use Rattle.volume_base.specs.declared.error.JournalError.{JournalError};
+ghost use Rattle.chain_core.specs.Errors.{from_journal};
 ghost use Rattle.chain_core.specs.declared.error.Error.TheVariants as error;
 ghost use Rattle.compact_db.specs.Opening.{witnesses_in, IsChosen, WhyNoneChosen, Opens};
 
@@ -25,8 +28,8 @@ fn number_of<F: Family>(cap: &Option<Location<F>>) -> u64
     }
 }
 
-/// The witness that is selected under a cap, and the end behind it. It refuses with `HistoricalFloorPruned` where the first
-/// witness is above the cap.
+/// The witness that is selected under a cap, and the end behind it. It refuses with `HistoricalFloorPruned` where the
+/// first witness is above the cap.
 fn chosen<F: Family, D: Digest, V: Volume>(
     recovery: &Recovery<Witness<F, D>>,
     vol: &mut V,
@@ -38,6 +41,8 @@ fn chosen<F: Family, D: Digest, V: Volume>(
         IfOk result (λ s. V.tells → IsChosen (witnesses_in D.spelling (D.admits tt) log) cap (Some (s.0, s.1))) }
     ensures refused { let log = log_of (seen_of recovery.now) (V.state vol.old) in
         V.tells → IfErr result (WhyNoneChosen (witnesses_in {F = F} D.spelling (D.admits tt) log) cap) }
+    ensures errors { IfErr result (λ e. ((p : ℕ) × (cap ≡ Some p) × (e ≡ error.HistoricalFloorPruned p))
+        ⊎ ((cause : JournalError) × IsOfRead cause × (e ≡ from_journal cause))) }
     ensures answers { Reads V.tells error.Volume (V.state vol.old) (V.state vol.new) result }
 {
     let number = number_of(&cap);
@@ -48,8 +53,8 @@ fn chosen<F: Family, D: Digest, V: Volume>(
 }
 
 impl<F: Family, O: CompactOperation, H: Hasher> CompactDb<F, O, H> {
-    /// The database at the witness that is selected under a cap, of a log that isn't empty. The witness is verified before
-    /// newer ones are cut off. It refuses as `chosen`, and as `rebuild`.
+    /// The database at the witness that is selected under a cap, of a log that isn't empty. The witness is verified
+    /// before newer ones are cut off. It refuses as `chosen`, and as `rebuild`.
     pub(crate) fn resumed<V: Volume>(
         alloc: Global,
         vol: &mut V,

@@ -1,6 +1,5 @@
 //! What a compact database serves: the kept states, their commits and the proofs of these.
 ghost use Rattle.std.specs.Prelude.{◌≡◌, ◌⊎◌, ◌<◌, ◌≤◌, ◌-◌, ℕ, List, [], length, drop, take, true, false, Some, None, Ok, Err, slice_get, IfOk, IfErr, IfSome, IsErrOf, IsOkUnless};
-ghost use Rattle.std.specs.List.{AllByRecursion};
 ghost use Rattle.codec_base.specs.Parts.{whole};
 ghost use Rattle.journal_base.specs.Answers.{IsOfRead};
 ghost use Rattle.journal_base.specs.Items.{IsCorrupt};
@@ -111,7 +110,7 @@ impl<F: Family, O: CompactOperation, H: Hasher> CompactDb<F, O, H> {
         ensures list { IfOk result (λ r. V.tells → (ops : List O) (sizes : List ℕ) →
             IsHeldFor F.shape H.hash O.meaning H.Digest.spelling (H.Digest.admits tt) ops sizes self.now
             (V.state vol.old) →
-            AllByRecursion (O.admits self.now.codec) ops →
+            ((op : O) → slice_get ops (size - 1) ≡ Some op → O.admits self.now.codec op) →
             IsStateOf F.shape H.hash O.meaning (take size ops) r.tip r.merkle r.commit) }
         ensures errors { let view = seen_log self.now.log in
             let within = IsWithin view (V.state vol.old) in
@@ -177,12 +176,11 @@ impl<F: Family, O: CompactOperation, H: Hasher> CompactDb<F, O, H> {
             AnswersAs (serve_answer last (size_of request) (start_of request) kept)
             (rebuild_answer {F = F} F.shape O.meaning (λ bytes. whole (O.reads self.now.codec bytes))
             (witness_of F.shape H.hash O.meaning ops (size_of request))) result }
-        // It is the answer of the state of so many of the list's operations.
+        // It is the answer of the state of so many of the list's operations, where the commit is allowed.
         ensures list { IfOk result (λ r. V.tells → (ops : List O) (sizes : List ℕ) →
             IsHeldFor F.shape H.hash O.meaning H.Digest.spelling (H.Digest.admits tt) ops sizes self.now
             (V.state vol.old) →
-            AllByRecursion (O.admits self.now.codec) ops →
-            (commit : O) → slice_get ops (size_of request - 1) ≡ Some commit →
+            (commit : O) → slice_get ops (size_of request - 1) ≡ Some commit → O.admits self.now.codec commit →
             r ≡ response_to request (verified_of F.shape H.hash O.meaning (take (size_of request) ops)) commit) }
         ensures errors { let view = seen_log self.now.log in
             let within = IsWithin view (V.state vol.old) in

@@ -416,3 +416,32 @@ returns-clause-restarts g c waiting told ops more b at was of =
     let rest = c.as_slice.ensures ∙ ap (λ (x : MerkleizedView g.row.F.Denot g.row.H-Digest.Denot g.row.O.Denot). x.operations) same ∙ of.batch.own in
     let read = last_read c.as_slice.result.now (ops ++ more) b.bounds.base.size c.commit-item.result _ rest c.in-len1-up.len_at_least c.commit-item.is in
     c.grown.ensures.restarts waiting told ops more was sealed of.ends of.few (read ∙ ap Some (sym c.in-Ok-duplicate.ensures.same))
+
+-- ---- its bounds, and the batch's
+
+pub returns-then-as_u64-clause-bounds : goal.returns-then-as_u64-clause-bounds
+returns-then-as_u64-clause-bounds g c told was = c.settled.ensures.bounds told was
+
+pub returns-clause-bounds : goal.returns-clause-bounds
+returns-clause-bounds g c told was = both c.grown.result _ _ _ c.grown.ensures.bounds c.grown.ensures.bounds (λ made held too. held told)
+
+pub returns-then-as_u64-clause-grows : goal.returns-then-as_u64-clause-grows
+returns-then-as_u64-clause-grows g c = for_each c.settled.result _ (λ made b at more.
+    let same = c.batch.view_is ∙ one_item (item_at c.args.pool.now c.args.id) c.item-batch.result.now b c.item-batch.ensures at in
+    let tip : c.batch.inside.bounds.tip.size ≡ b.bounds.tip.size = ap (λ (x : MerkleizedView g.row.F.Denot g.row.H-Digest.Denot g.row.O.Denot). x.bounds.tip.size) same in
+    let old : c.self.inside.tip.witness.size ≡ c.args.self.tip.witness.size = ap (λ (d : DbView g.row.F.Denot g.row.H-Digest.Denot g.row.O.Denot g.row.O-Cfg.Denot). d.tip.witness.size) c.self.view_is in
+    let here = c.batch.invariant.tip in
+    let own = c.self.invariant.size in
+    let left = c.as_u64.ensures ∙ c.leaves.ensures.leaves in
+    let right = c.as_u64-2.ensures ∙ c.leaves-2.ensures.leaves in
+    let test = c.if-as_u64.true in
+    absurd (omega (arith, more, test, left, right, here, tip, own, old)))
+
+pub returns-clause-grows : goal.returns-clause-grows
+returns-clause-grows g c = both c.grown.result _ _ _ c.grown.ensures.size c.grown.ensures.commit (λ made size commit b at more.
+    let same = c.batch.view_is ∙ one_item (item_at c.args.pool.now c.args.id) c.item-batch.result.now b c.item-batch.ensures at in
+    let tip : c.batch.inside.bounds.tip.size ≡ b.bounds.tip.size = ap (λ (x : MerkleizedView g.row.F.Denot g.row.H-Digest.Denot g.row.O.Denot). x.bounds.tip.size) same in
+    let here : c.batch.inside.tree.leaves ≡ c.batch.inside.bounds.tip.size = c.batch.invariant.tip in
+    let own : c.as_slice.result.now ≡ b.operations = c.as_slice.ensures ∙ ap (λ (x : MerkleizedView g.row.F.Denot g.row.H-Digest.Denot g.row.O.Denot). x.operations) same in
+    let read = last_read c.as_slice.result.now b.operations 0 c.commit-item.result _ own c.in-len1-up.len_at_least c.commit-item.is in
+    (size ∙ here ∙ tip, read ∙ ap Some (sym c.in-Ok-duplicate.ensures.same ∙ sym commit)))

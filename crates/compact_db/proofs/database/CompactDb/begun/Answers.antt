@@ -18,7 +18,7 @@ returns-in_err-first-clause-opens g c cap =
     subst (λ (r : Result (DbView g.row.F.Denot g.row.H-Digest.Denot g.row.O.Denot g.row.O-Cfg.Denot) (Error g.row.F.Denot)). Opens g.F.Family.shape g.H.Hasher.hash g.O.Logged.meaning g.H.Digest.Spelled.spelling (g.H.Digest.Read.admits tt) decoded (g.O.Read.admits c.args.codec) view cap g.V.Volume.tells old old r)
     (sym (err_is c.from_residual.result c.in_err-first.field-0.0 c.from_residual.ensures.1))
     (uncalled g.row.F.Denot g.row.O-Cfg.Denot g.F.Family.shape g.H.Hasher.hash g.O.Logged.meaning g.H.Digest.Spelled.spelling (g.H.Digest.Read.admits tt) decoded (g.O.Read.admits c.args.codec) view cap g.V.Volume.tells c.in_err-first.field-0.0 old (memory_not c.in_err-first.field-0.0 c.in_err-first.ensures.memory)
-    (λ told. inl (memory_out c.in_err-first.field-0.0 c.in_err-first.ensures.memory)))
+    (λ told. inl (memory_out c.in_err-first.field-0.0 c.in_err-first.ensures.memory)) (inl (memory_out c.in_err-first.field-0.0 c.in_err-first.ensures.memory)))
 
 pub returns-in_err-store-clause-opens : goal.returns-in_err-store-clause-opens
 returns-in_err-store-clause-opens g c cap =
@@ -34,7 +34,7 @@ returns-in_err-store-clause-opens g c cap =
     subst (λ (r : Result (DbView g.row.F.Denot g.row.H-Digest.Denot g.row.O.Denot g.row.O-Cfg.Denot) (Error g.row.F.Denot)). Opens g.F.Family.shape g.H.Hasher.hash g.O.Logged.meaning g.H.Digest.Spelled.spelling (g.H.Digest.Read.admits tt) decoded (g.O.Read.admits c.args.codec) view cap g.V.Volume.tells old new r)
     (sym (err_is c.from_residual-in_err-store.result _ c.from_residual-in_err-store.ensures.1))
     (begins_not g.row.F.Denot g.row.O-Cfg.Denot g.F.Family.shape g.H.Hasher.hash g.O.Logged.meaning g.H.Digest.Spelled.spelling (g.H.Digest.Read.admits tt) decoded (g.O.Read.admits c.args.codec) view cap g.V.Volume.tells g.met.F.Family.lawful first.commit commits first.tip first.merkle is old new c.requires.empty c.in_err-store.ensures.log
-    c.in_err-store.field-0.0 c.in_err-store.ensures.errors c.in_err-store.ensures.writes)
+    c.in_err-store.field-0.0 c.in_err-store.ensures.errors c.in_err-store.ensures.any c.in_err-store.ensures.writes)
 
 pub returns-clause-opens : goal.returns-clause-opens
 returns-clause-opens g c cap =

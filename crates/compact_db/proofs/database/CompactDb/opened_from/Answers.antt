@@ -19,6 +19,7 @@ returns-then-start-gt0-clause-opens g c =
     let start = c.bounds-start.ensures.start in
     let end = c.bounds-start.ensures.end in
     inr (inl (omega (arith, a, start, c.if-start-gt0.true), empty_log (log_of view old) (omega (arith, a, b, start, end, c.if-start-end.false)), refl)))
+    (inr (inl refl))
 
 pub returns-clause-opens : goal.returns-clause-opens
 returns-clause-opens g c = c.begun.ensures.opens c.args.cap

@@ -26,11 +26,12 @@ returns-in_err-recovery-clause-opens g c =
     let d : Error g.row.F.Denot = from_journal e in
     let r : Result (DbView g.row.F.Denot g.row.H-Digest.Denot g.row.O.Denot g.row.O-Cfg.Denot) (Error g.row.F.Denot) = Err d in
     let read = c.in_err-recovery.ensures.answers in
+    let out = start_why g.row.F.Denot e c.in_err-recovery.ensures.errors (λ p is. never_pruned p (c.in_err-recovery.ensures.pruned p (ap Err is)).0) in
     subst (λ (r : Result (DbView g.row.F.Denot g.row.H-Digest.Denot g.row.O.Denot g.row.O-Cfg.Denot) (Error g.row.F.Denot)). Opens g.F.Family.shape g.H.Hasher.hash g.O.Logged.meaning g.H.Digest.Spelled.spelling (g.H.Digest.Read.admits tt) decoded (g.O.Read.admits c.args.cfg.commit_codec) view c.args.cap g.V.Volume.tells old new r)
     (sym (err_is c.from_residual.result d c.from_residual.ensures.1))
     (opens_not g.row.F.Denot g.row.O-Cfg.Denot g.F.Family.shape g.H.Hasher.hash g.O.Logged.meaning g.H.Digest.Spelled.spelling (g.H.Digest.Read.admits tt) decoded (g.O.Read.admits c.args.cfg.commit_codec) view c.args.cap g.V.Volume.tells d old new read.clock read.past read.contents
     (changes_passed g.V.Volume.tells old new (Err e) r refl (changes_of_reads g.V.Volume.tells journal_error.Volume old new _ read))
-    (λ told. inl (start_why g.row.F.Denot e c.in_err-recovery.ensures.errors (λ p is. never_pruned p (c.in_err-recovery.ensures.pruned p (ap Err is)).0))))
+    (λ told. inl out) (inl out))
 
 pub returns-clause-opens : goal.returns-clause-opens
 returns-clause-opens g c =

@@ -1,5 +1,6 @@
-use Rattle.std.proofs.Common.{◌≡◌, map, max, true, false, Ok, Err, refl, sym, ◌∙◌, ap, subst, arith}
+use Rattle.std.proofs.Common.{◌≡◌, ◌<◌, length, map, max, true, false, Ok, Err, refl, sym, ◌∙◌, ap, subst, arith}
 use Rattle.std.specs.Prelude.{IfErr}
+use Rattle.std.proofs.lemmas.List.{length-map}
 use Rattle.journal_base.specs.Blobs.{blob_start}
 use Rattle.journal_base.specs.View.{View, log_of, SameButBounds, IsDurable, IsHeld}
 use Rattle.volume_base.specs.Log.{Log, pruned_to}
@@ -11,6 +12,7 @@ use Rattle.chain_core.specs.Answers.{IsOutside}
 use Rattle.chain_core.specs.declared.error.DataFault.TheVariants.{ImportNotApplied}
 use Rattle.witness_store.specs.StoreView.{StoreView, HasWitnesses}
 use Rattle.witness_store.specs.Witnesses.{witnesses_of, kept_from}
+use Rattle.witness_store.proofs.StoreLemmas.{blob_low}
 use Rattle.compact_db.specs.DbView.{DbView, seen_log, waits}
 use Rattle.compact_db.specs.Held.{IsHeldFor}
 use Rattle.compact_db.specs.Serving.{IsLogFault}
@@ -103,8 +105,11 @@ returns-in-Open-clause-held g c told ops sizes was =
     let made : DbView g.row.F.Denot g.row.H-Digest.Denot g.row.O.Denot g.row.O-Cfg.Denot = record { log = Open c.in_ok-store-in-Open.store; tip = c.self.inside.tip; tree = c.self.inside.merkle; commit = c.self.inside.last_commit; codec = c.self.inside.codec } in
     let cut = c.in_ok-store-in-Open.ensures.pruned told w.bounds (map (witness_of {F = g.row.F.Denot} g.F.Family.shape g.H.Hasher.hash g.O.Logged.meaning ops) sizes) w.witnesses in
     let start : (log_of first (g.V.Volume.state c.prune.new.vol)).start ≡ max (log_of first (g.V.Volume.state c.args.vol.now)).start (blob_start first.blob (kept_from (map (witness_of {F = g.row.F.Denot} g.F.Family.shape g.H.Hasher.hash g.O.Logged.meaning ops) sizes) first.start c.args.boundary)) = ap (λ (x : Log). x.start) cut in
+    let from = kept_from (map (witness_of {F = g.row.F.Denot} g.F.Family.shape g.H.Hasher.hash g.O.Logged.meaning ops) sizes) first.start c.args.boundary in
+    let less : (log_of first (g.V.Volume.state c.prune.new.vol)).start < length sizes =
+    omega (arith, start, w.some, blob_low first.blob from, length-map sizes (witness_of {F = g.row.F.Denot} g.F.Family.shape g.H.Hasher.hash g.O.Logged.meaning ops)) in
     behind_held s h m g.met.F.Family.lawful sp ad made (g.V.Volume.state c.prune.new.vol) first (ap (λ (v : View (Unit {0})). v.name) c.in_ok-store-in-Open.ensures.made.0) refl (c.in_ok-store-in-Open.ensures.held told)
-    (witnesses_of sp ad first (g.V.Volume.state c.args.vol.now)) ops sizes (omega (arith, start)) w.list w.last (states_of s h m sp ad db (g.V.Volume.state c.args.vol.now) ops sizes w)
+    (witnesses_of sp ad first (g.V.Volume.state c.args.vol.now)) ops sizes (omega (arith, start)) less w.list w.last (states_of s h m sp ad db (g.V.Volume.state c.args.vol.now) ops sizes w)
     (c.in_ok-store-in-Open.ensures.keeps told w.bounds (map (witness_of {F = g.row.F.Denot} g.F.Family.shape g.H.Hasher.hash g.O.Logged.meaning ops) sizes) w.witnesses)
 
 pub returns-in-Open-clause-pruned : goal.returns-in-Open-clause-pruned

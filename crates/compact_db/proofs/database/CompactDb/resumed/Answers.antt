@@ -19,7 +19,7 @@ returns-in_err-end-clause-opens g c =
     subst (λ (r : Result (DbView g.row.F.Denot g.row.H-Digest.Denot g.row.O.Denot g.row.O-Cfg.Denot) (Error g.row.F.Denot)). Opens g.F.Family.shape g.H.Hasher.hash g.O.Logged.meaning g.H.Digest.Spelled.spelling (g.H.Digest.Read.admits tt) decoded (g.O.Read.admits c.args.codec) view c.args.cap g.V.Volume.tells old new r)
     (sym (err_is c.from_residual.result c.in_err-end.field-0.0 c.from_residual.ensures.1))
     (chosen_not g.row.F.Denot g.row.O-Cfg.Denot g.F.Family.shape g.H.Hasher.hash g.O.Logged.meaning g.H.Digest.Spelled.spelling (g.H.Digest.Read.admits tt) decoded (g.O.Read.admits c.args.codec) view c.args.cap g.V.Volume.tells
-    c.in_err-end.field-0.0 old new c.in_err-end.ensures.answers (λ told. some_held view old c.requires.some (c.requires.held told)) c.in_err-end.ensures.refused)
+    c.in_err-end.field-0.0 old new c.in_err-end.ensures.answers (λ told. some_held view old c.requires.some (c.requires.held told)) c.in_err-end.ensures.refused c.in_err-end.ensures.errors)
 
 pub returns-in_err-rebuilt-clause-opens : goal.returns-in_err-rebuilt-clause-opens
 returns-in_err-rebuilt-clause-opens g c =

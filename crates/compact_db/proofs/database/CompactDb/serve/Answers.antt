@@ -1,4 +1,5 @@
 use Rattle.std.proofs.Common.{◌≡◌, ◌⊎◌, ◌-◌, ◌<◌, inl, inr, true, false, ℕ, List, [], drop, take, Ok, Err, refl, sym, ◌∙◌, ap, subst}
+use Rattle.std.specs.Prelude.{slice_get}
 use Rattle.codec_base.specs.Parts.{whole}
 use Rattle.journal_base.specs.View.{IsWithin}
 use Rattle.volume_base.proofs.ReadLemmas.{only_read_none, only_read_joins, reads_of}
@@ -12,6 +13,7 @@ use Rattle.compact_db.specs.Rebuild.{rebuild_answer}
 use Rattle.compact_db.specs.Serving.{has_size, is_kept, kept_answer, serve_answer, AnswersAs, IsDamaged, IsLogFault}
 use Rattle.compact_db.specs.StateOf.{IsStateOf}
 use Rattle.compact_db.specs.WitnessOf.{witness_of}
+use Rattle.compact_db.proofs.ApplyLemmas.{one_item}
 use Rattle.compact_db.proofs.AnswerLemmas.{serve_is, serve_refused, serve_some, tip_kept, other_kept, memory_as, memory_alone, memory_err, tip_response, front_response}
 use Rattle.compact_db.proofs.DbLemmas.{size_of_list}
 use Rattle.compact_db.proofs.ServingLemmas.{if_ok}
@@ -52,7 +54,7 @@ returns-then-size-tip-clause-list g c =
     let size : c.as_u64-size.result ≡ n = c.as_u64-size.ensures ∙ c.size.ensures in
     let same : n ≡ last = sym size ∙ c.if-size-tip.true ∙ tip in
     let d = c.args.self.now in
-    if_ok c.serve_tip.result _ _ c.serve_tip.ensures.response (λ x is told ops sizes held all commit there.
+    if_ok c.serve_tip.result _ _ c.serve_tip.ensures.response (λ x is told ops sizes held commit there all.
     is ∙ tip_response s h m c.args.request ops n commit there d.tip d.tree d.commit held.list (same ∙ size_of_list s h m ops d.tip d.tree d.commit held.list))
 
 pub returns-then-size-tip-clause-errors : goal.returns-then-size-tip-clause-errors
@@ -151,9 +153,11 @@ returns-clause-list g c =
     let passed : serve_answer {F = g.row.F.Denot} last n at true ≡ Ok tt = subst (λ (t : ℕ). serve_answer {F = g.row.F.Denot} t n at true ≡ Ok tt) tip (sym c.in-Ok.ensures) in
     let size : c.as_u64-size.result ≡ n = c.as_u64-size.ensures ∙ c.size.ensures in
     let r = c.in-Ok-state_at.rebuilt in
-    if_ok c.response.result _ _ c.response.ensures.response (λ x is told ops sizes held all commit there.
+    if_ok c.response.result _ _ c.response.ensures.response (λ x is told ops sizes held commit there all.
     let state = subst (λ (k : ℕ). IsStateOf s h m (take k ops) r.tip r.merkle r.commit) size
-    (c.in-Ok-state_at.ensures.list told ops sizes held all) in
+    (c.in-Ok-state_at.ensures.list told ops sizes held (λ op at.
+    let place = ap (λ (k : ℕ). slice_get ops (k - 1)) size in
+    subst (g.O.Read.admits c.args.self.now.codec) (one_item (slice_get ops (n - 1)) commit op there (sym place ∙ at)) all)) in
     is r.tip refl refl ∙ front_response s h m c.args.request ops n commit there r.tip r.merkle r.commit (serve_some last n at passed) state)
 
 pub returns-clause-errors : goal.returns-clause-errors

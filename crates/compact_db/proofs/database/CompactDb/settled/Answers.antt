@@ -1,6 +1,6 @@
 use Rattle.std.proofs.Common.{◌≡◌, inl, ℕ, ◌-◌, ◌^◌, true, false, List, length, Err, refl, sym, ◌∙◌, ap, subst}
 use Rattle.std.specs.Prelude.{IsOk}
-use Rattle.journal_base.specs.View.{log_of, SameButBounds}
+use Rattle.journal_base.specs.View.{log_of, SameButBounds, IsHeld}
 use Rattle.volume_base.specs.Log.{end_of}
 use Rattle.volume_base.specs.Names.{log_alone, NamesCall}
 use Rattle.volume_base.specs.Volume.{LogCall}
@@ -9,7 +9,7 @@ use Rattle.compact_db.specs.DbView.{DbView, IsOfList, seen_log, waits}
 use Rattle.compact_db.specs.declared.database.WitnessLog.TheVariants.{Open}
 use Rattle.compact_db.proofs.HeldLemmas.{imported_held, allowed_tip}
 use Rattle.compact_db.specs.Writing.{written_log, Settles, IsOutsideOrFull, IsSettledLog}
-use Rattle.compact_db.proofs.SettleLemmas.{full_cause, err_each, size_is, settled_later}
+use Rattle.compact_db.proofs.SettleLemmas.{bounds_opened, full_cause, err_each, size_is, settled_later}
 use Rattle.compact_db.proofs.database.CompactDb.settled.Goals as goal
 
 pub returns-clause-imported : goal.returns-clause-imported
@@ -84,3 +84,10 @@ returns-clause-call g c told =
     let b = g.V.Volume.state c.opened.new.vol in
     subst (λ (d : DbView g.row.F.Denot g.row.H-Digest.Denot g.row.O.Denot g.row.O-Cfg.Denot). LogCall (seen_log d.log).name (Settles g.H.Digest.Spelled.spelling d.log d.tip.witness a) a b) c.self.view_is
     (c.opened.ensures.log told)
+
+pub returns-clause-bounds : goal.returns-clause-bounds
+returns-clause-bounds g c told was =
+    let held : waits c.self.inside.log ≡ false → IsHeld (seen_log c.self.inside.log) (g.V.Volume.state c.args.vol.now) = subst (λ (d : DbView g.row.F.Denot g.row.H-Digest.Denot g.row.O.Denot g.row.O-Cfg.Denot). waits d.log ≡ false → IsHeld (seen_log d.log) (g.V.Volume.state c.args.vol.now)) (sym c.self.view_is) was in
+    bounds_opened c.self.inside.log c.in_ok-store.store.log (g.V.Volume.state c.args.vol.now) (g.V.Volume.state c.opened.new.vol)
+    (λ opened. ap (λ (v : g.row.V.Denot). g.V.Volume.state v) (c.in_ok-store.ensures.idle opened).1) (λ opened. (c.in_ok-store.ensures.same_log opened).0)
+    (λ waiting. c.in_ok-store.ensures.held waiting told) held

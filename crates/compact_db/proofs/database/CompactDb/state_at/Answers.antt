@@ -1,5 +1,5 @@
 use Rattle.std.proofs.Common.{rules, ◌≡◌, ◌⊎◌, ◌-◌, inl, inr, false, ℕ, List, map, drop, take, Option, Some, None, Err, sym, ◌∙◌, subst, arith}
-use Rattle.std.specs.Prelude.{IfSome, IfErr}
+use Rattle.std.specs.Prelude.{slice_get, IfSome, IfErr}
 use Rattle.std.specs.List.{AllByRecursion}
 use Rattle.std.proofs.lemmas.List.{length-take}
 use Rattle.codec_base.specs.Parts.{whole}
@@ -17,7 +17,8 @@ use Rattle.compact_db.specs.Held.{IsHeldFor, IsSizeOf}
 use Rattle.compact_db.specs.Rebuild.{RefusedOnlyAs, rebuild_answer}
 use Rattle.compact_db.specs.Serving.{has_size, kept_answer, AnswersAs, IsDamaged, IsLogFault}
 use Rattle.compact_db.specs.WitnessOf.{witness_of}
-use Rattle.compact_db.proofs.ServingLemmas.{all_taken, size_ended, size_none, size_here, witness_here, front_witness, kept_true, kept_false, none_kept, rebuilt_as, damaged_as, fault_outside, never_volume, not_volume, if_ok}
+use Rattle.compact_db.proofs.ServingLemmas.{size_ended, size_none, size_here, witness_here, front_witness, kept_true, kept_false, none_kept, rebuilt_as, damaged_as, fault_outside, never_volume, not_volume, if_ok}
+use Rattle.compact_db.proofs.StateLemmas.{last_taken}
 use Rattle.compact_db.proofs.database.CompactDb.state_at.Goals as goal
 
 pub returns-in-Ok-Some-clause-kept : goal.returns-in-Ok-Some-clause-kept
@@ -85,8 +86,8 @@ returns-in-Ok-Some-clause-list g c = if_ok c.rebuild.result _ _ c.rebuild.ensure
     let kept_sizes = subst (λ (k : ℕ). AllByRecursion (IsSizeOf m ops) (drop k sizes)) (sym was.bounds.start_is) was.within in
     let ended = size_ended m ops sizes first c.in-Ok-Some.field-0-0-0 c.args.size kept_sizes here in
     let within = ended.0 in
-    let allowed = subst (λ (d : DbView g.row.F.Denot g.row.H-Digest.Denot g.row.O.Denot g.row.O-Cfg.Denot). AllByRecursion (g.O.Read.admits d.codec) ops) (sym c.self.view_is) all in
-    list (take c.args.size ops) ended.1 (omega (arith, few, length-take c.args.size ops)) (all_taken (g.O.Read.admits c.self.inside.codec) c.args.size ops allowed)
+    let allowed = subst (λ (d : DbView g.row.F.Denot g.row.H-Digest.Denot g.row.O.Denot g.row.O-Cfg.Denot). (op : g.row.O.Denot) → slice_get ops (c.args.size - 1) ≡ Some op → g.O.Read.admits d.codec op) (sym c.self.view_is) all in
+    list (take c.args.size ops) ended.1 (omega (arith, few, length-take c.args.size ops)) (λ op at. allowed op (last_taken m c.args.size ops ended op at))
     (same ∙ front_witness s h m ops sizes first c.args.size c.requires within))
 
 pub returns-in-Ok-Some-clause-errors : goal.returns-in-Ok-Some-clause-errors

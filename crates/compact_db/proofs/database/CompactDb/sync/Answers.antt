@@ -1,6 +1,6 @@
 use Rattle.std.proofs.Common.{◌<◌, ◌^◌, ◌-◌, ◌≡◌, ℕ, List, length, true, false, Ok, Err, refl, sym, ◌∙◌, ap, subst}
 use Rattle.std.specs.Prelude.{IsErrOf}
-use Rattle.journal_base.specs.View.{View, SameLog, SameButBounds, log_of, IsDurable}
+use Rattle.journal_base.specs.View.{View, SameLog, SameButBounds, log_of, IsDurable, IsHeld}
 use Rattle.volume_base.specs.Log.{end_of}
 use Rattle.volume_base.specs.declared.error.JournalError.TheVariants as journal_error
 use Rattle.chain_core.specs.declared.error.Error.TheVariants.{Volume}
@@ -10,7 +10,7 @@ use Rattle.compact_db.specs.Held.{IsHeldFor}
 use Rattle.compact_db.specs.Writing.{SyncsLog, written_log}
 use Rattle.compact_db.specs.declared.database.WitnessLog.TheVariants.{Open}
 use Rattle.compact_db.proofs.HeldLemmas.{still_held, imported_held, allowed_tip}
-use Rattle.compact_db.proofs.SettleLemmas.{syncs_at, failed_open, passed_err, kept_err, syncs_not, syncs_then, log_later, durable_as}
+use Rattle.compact_db.proofs.SettleLemmas.{bounds_opened, bounds_stay, syncs_at, failed_open, passed_err, kept_err, syncs_not, syncs_then, log_later, durable_as}
 use Rattle.compact_db.proofs.database.CompactDb.sync.Goals as goal
 
 pub returns-in_err-store-clause-kept : goal.returns-in_err-store-clause-kept
@@ -106,3 +106,12 @@ pub returns-clause-fits : goal.returns-clause-fits
 returns-clause-fits g c =
     subst (λ (d : DbView g.row.F.Denot g.row.H-Digest.Denot g.row.O.Denot g.row.O-Cfg.Denot). waits d.log ≡ true → g.V.Volume.tells → end_of (log_of (seen_log d.log) (g.V.Volume.state c.args.vol.now)) < 2 ^ 64 - 1) c.self.view_is
     c.in_ok-store.ensures.fits
+
+pub returns-clause-bounds : goal.returns-clause-bounds
+returns-clause-bounds g c told was =
+    let held : waits c.self.inside.log ≡ false → IsHeld (seen_log c.self.inside.log) (g.V.Volume.state c.args.vol.now) = subst (λ (d : DbView g.row.F.Denot g.row.H-Digest.Denot g.row.O.Denot g.row.O-Cfg.Denot). waits d.log ≡ false → IsHeld (seen_log d.log) (g.V.Volume.state c.args.vol.now)) (sym c.self.view_is) was in
+    let first = bounds_opened c.self.inside.log c.in_ok-store.store.log (g.V.Volume.state c.args.vol.now) (g.V.Volume.state c.opened.new.vol)
+    (λ opened. ap (λ (v : g.row.V.Denot). g.V.Volume.state v) (c.in_ok-store.ensures.idle opened).1) (λ opened. (c.in_ok-store.ensures.same_log opened).0)
+    (λ waiting. c.in_ok-store.ensures.held waiting told) held in
+    let later = bounds_stay c.in_ok-store.store.log c.in_ok-store.store.log.failed (g.V.Volume.state c.opened.new.vol) (g.V.Volume.state c.sync.new.vol) (c.in_ok-store-2.ensures.contents told) first in
+    subst (λ (v : View (Unit {0})). IsHeld v (g.V.Volume.state c.sync.new.vol)) (sym (ap (λ (x : StoreView). x.log) c.in_ok-store-2.ensures.made)) later
