@@ -11,11 +11,9 @@ use Rattle.std.proofs.lemmas.Option.{none-some, same_Some, cond_some}
 use Rattle.chain_core.specs.Slots as slots
 use Rattle.chain_core.specs.Slots.{holds_of, IsAlive, link_held, link_released}
 use Rattle.chain_core.specs.Reached.{item_at}
-use Rattle.chain_core.specs.Answers.{IsOutside}
 use Rattle.chain_core.specs.States.{sizes}
 use Rattle.chain_core.specs.declared.bounds.Bounds.{Bounds}
 use Rattle.chain_core.specs.declared.commitment.Commitment.{Commitment}
-use Rattle.chain_core.specs.declared.error.Error.{Error}
 use Rattle.chain_core.specs.declared.pool.HeldBatch.{HeldBatch}
 use Rattle.tree_shape.specs.declared.mmr.Mmr.{Mmr}
 use Rattle.tree_shape.specs.declared.sha256.Sha256Digest.{Sha256Digest}
@@ -35,14 +33,18 @@ use Rattle.twin_run.specs.Told.{IsTold}
 use Rattle.volume_base.specs.Moments.{Image}
 use Rattle.twin_run.specs.Kind.{Kind, Kept, kept_of, with_list, IsKnown, size_of, snapshot_of}
 use Rattle.twin_run.specs.Step.{Outcome, refused, metadata_length, sealed_or_lost, seal_refusal, begin, begin_on, append_to, seal, apply, hold, release, snapshot, size, metadata}
-use Rattle.twin_run.specs.StateOf.{Likeness, LinkIs, IsUnsealedOf, IsItemOf, IsSealedOf, IsEntryOf, AreBatchesOf, AreFew, HasRoom, if_held, held_in, IsSealedAs, IsUnsealedAs, same_lists, any_lists, IsShaped, IsStateOf, Meets, AnyState, IsToldBy, Follows, Answers}
+use Rattle.twin_run.specs.StateOf.{HaveMarks, Likeness, LinkIs, IsUnsealedOf, IsItemOf, IsSealedOf, IsEntryOf, AreBatchesOf, AreFew, HasRoom, if_held, held_in, IsSealedAs, IsUnsealedAs, same_lists, any_lists, IsShaped, IsStateOf, Meets, AnyState, IsToldBy, Follows, Answers}
 use Rattle.twin_run.specs.declared.numbers.Batch.{Batch}
 use Rattle.twin_run.specs.declared.numbers.Batch.TheVariants.{Unsealed, Sealed, Gone}
 use Rattle.twin_run.specs.declared.numbers.Holding.{Holding}
 use Rattle.twin_run.specs.declared.numbers.Numbers.{Numbers}
 use Rattle.chain_core.proofs.PoolLemmas.{some_held, alive_is, put_new}
 use Rattle.twin_run.proofs.Fronts.{lt_false, lt_true, le_false, le_true, stands_decides}
-use Rattle.twin_run.proofs.Matching.{sealed_within, unsealed_there, sealed_there, parent_held}
+use Rattle.twin_run.proofs.Matching.{not_both, sealed_within, unsealed_within, unsealed_there, sealed_there, parent_held}
+use Rattle.chain_core.specs.MarkedPool.{IsMarkedAt}
+use Rattle.chain_core.specs.Marks.{marks_of}
+use Rattle.chain_core.proofs.MarkedPoolLemmas.{marked_alone}
+use Rattle.twin_run.proofs.Marking.{parent_drawn, marks_none, marks_first, marks_child, marks_appended, marks_held, marks_released, marks_taken}
 use Rattle.twin_run.proofs.Changes.{pool_holds, batches_put, batches_lost, batches_appended, batches_begun, batches_added, batches_held, batches_released, few_held, few_released, few_put}
 
 pub same_sealed : (c d : batches.SealedBatch Operation) → batches.Sealed c ≡ batches.Sealed d → c ≡ d
@@ -50,6 +52,9 @@ same_sealed c d e = cc
 
 pub same_machine : (u v : batches.UnsealedBatch Operation) → batches.Unsealed u ≡ batches.Unsealed v → u ≡ v
 same_machine u v e = cc
+
+never_gone : {U : Type 0} (u : U) → Gone ≡ Unsealed u → ⊥
+never_gone u e = cc
 
 -- a batch that is put in its own place
 pub set_same : {U : Type 0} (bs : List (Batch U)) (b : ℕ) (x : Batch U) → get_or bs b Gone ≡ x → set bs b x ≡ bs
@@ -254,10 +259,11 @@ module _ {Db S U : Type 0} (k : Kind Db S U) where
   }
 
   pub state_from : (image : Image) (db : Db) (n : Numbers S U) (s : State Operation) (bs : List (Batch U)) (pool : List (Option (HeldBatch S))) → n.batches.items ≡ bs → n.pool ≡ pool → k.is_of (kept_of s) image db
-      → AreBatchesOf (same_lists k) bs pool s.batches → IsStateOf k image db n s
-  state_from image db n s bs pool e f log is = record {
+      → AreBatchesOf (same_lists k) bs pool s.batches → HaveMarks k bs pool → IsStateOf k image db n s
+  state_from image db n s bs pool e f log is marks = record {
     log = log;
     batches = subst (λ (xs : List (Batch U)). AreBatchesOf (same_lists k) xs n.pool s.batches) (sym e) (subst (λ (p : List (Option (HeldBatch S))). AreBatchesOf (same_lists k) bs p s.batches) (sym f) is);
+    marks = subst (λ (xs : List (Batch U)). HaveMarks k xs n.pool) (sym e) (subst (λ (p : List (Option (HeldBatch S))). HaveMarks k bs p) (sym f) marks);
   }
 
   pub meets : (image : Image) (db : Db) (new : Numbers S U) (o p : Outcome) (a : Answer) → o ≡ p → a ≡ p.0 → IsStateOf k image db new p.1 → Meets k o image db new a
@@ -287,6 +293,9 @@ module _ {Db S U : Type 0} (k : Kind Db S U) where
     abbrev Old : List (Batch U)
     Old = old.batches.items
 
+    drawn_in : (image : Image) (s : State Operation) → IsStateOf k image db old s → (b : ℕ) (u : U) → get_or Old b Gone ≡ Unsealed u → ForSome (k.parent u) (λ p. p < length old.pool)
+    drawn_in image s is b u at = parent_drawn (same_lists k) Old old.pool s.batches is.batches b u at
+
     -- ---- nothing changes
 
     module _ (items : new.batches.items ≡ Old) (pool : new.pool ≡ old.pool) where
@@ -294,7 +303,7 @@ module _ {Db S U : Type 0} (k : Kind Db S U) where
       still = shape_from new Old old.pool old.taken sh.all items pool taken sh.batches sh.few
 
       still_state : (image : Image) (s : State Operation) → IsStateOf k image db old s → IsStateOf k image db new s
-      still_state image s is = state_from image db new s Old old.pool items pool is.log is.batches
+      still_state image s is = state_from image db new s Old old.pool items pool is.log is.batches is.marks
 
       pub stays : (of : State Operation → Type 0) (step : State Operation → Outcome) (a : Answer) → ((image : Image) (s : State Operation) → of s → IsStateOf k image db old s → step s ≡ (a, s)) → Answers k of step db old new a
       stays of step a e = λ image. record { shaped = still; follows = λ s in_these is. meets image db new (step s) (a, s) a (e image s in_these is) refl (still_state image s is) }
@@ -306,7 +315,7 @@ module _ {Db S U : Type 0} (k : Kind Db S U) where
       begun_few link held = few_held old.taken old.pool sh.few room.holds link held
 
       -- on the present list
-      module _ (parent : k.parent u ≡ None) (pool : new.pool ≡ old.pool) (list : (kept : Kept) (image : Image) → k.is_of kept image db → k.is_unsealed kept.ops u) where
+      module _ (parent : k.parent u ≡ None) (pool : new.pool ≡ old.pool) (list : (kept : Kept) (image : Image) → k.is_of kept image db → k.is_unsealed kept.ops u) (marked : k.is_marked [] u) where
         none_held : ForSome (k.parent u) (λ id. 0 < holds_of old.pool id)
         none_held = λ id e. absurd (none-some id (sym parent ∙ e))
 
@@ -325,13 +334,15 @@ module _ {Db S U : Type 0} (k : Kind Db S U) where
               let w : batches.UnsealedBatch Operation = begun_on None s.ops in
               let made = batches_begun (same_lists k) Old old.pool s.batches is.batches u w (record { list = list (kept_of s) image is.log; base = refl; pending = sym pending }) none_link none_held in (
                 ap answer.Batch (sym is.batches.count),
-                state_from image db new (begun s None s.ops) (Old ++ (Unsealed u ∷ [])) (link_held old.pool (k.parent u)) items (pool ∙ sym none_pool) is.log made,
+                state_from image db new (begun s None s.ops) (Old ++ (Unsealed u ∷ [])) (link_held old.pool (k.parent u)) items (pool ∙ sym none_pool) is.log made
+                    (marks_first k Old old.pool is.marks (drawn_in image s is) u parent marked),
               );
         }
 
       -- on a sealed batch
       module _ (p : ℕ) (j : Holding) (at : held_in Old p ≡ Some j) (parent : k.parent u ≡ Some j.id) (pool : new.pool ≡ link_held old.pool (Some j.id))
-          (list : (x : S) → item_at old.pool j.id ≡ Some x → (l : List Operation) → k.is_sealed l x → k.is_unsealed l u) where
+          (list : (x : S) → item_at old.pool j.id ≡ Some x → (l : List Operation) → k.is_sealed l x → k.is_unsealed l u)
+          (marked : (x : S) → item_at old.pool j.id ≡ Some x → (l : List Operation) → k.is_sealed l x → k.is_marked (marks_of (k.bounds x)) u) where
         some_link : LinkIs Old (length Old) (k.parent u) (Some p)
         some_link = let sealed = (held_some (get_or Old p Gone) j at).0 in
             subst (λ (l : Option ℕ). LinkIs Old (length Old) l (Some p)) (sym parent) (sealed_within Old p j sealed, record { holding = j; sealed = sealed; id_is = refl })
@@ -353,12 +364,15 @@ module _ {Db S U : Type 0} (k : Kind Db S U) where
               let t = held_there (same_lists k) Old old.pool s.batches is.batches p j at in
               let e = held_item (same_lists k) Old old.pool s.batches is.batches p j t in
               let w : batches.UnsealedBatch Operation = begun_on (Some p) t.batch.list in
-              let same : IsUnsealedAs k u w = record { list = list e.0.item (item_is (same_lists k) Old old.pool s.batches is.batches p j t e.0 e.1) t.batch.list e.2.is.list; base = refl; pending = sym pending } in
+              let item = item_is (same_lists k) Old old.pool s.batches is.batches p j t e.0 e.1 in
+              let unsealed = list e.0.item item t.batch.list e.2.is.list in
+              let same : IsUnsealedAs k u w = record { list = unsealed; base = refl; pending = sym pending } in
               let made = batches_begun (same_lists k) Old old.pool s.batches is.batches u w same some_link (some_parent t.pool_held) in
               meets image db new (begin s (Some p)) (answer.Batch (length s.batches), begun s (Some p) t.batch.list) (answer.Batch (length Old))
               (ap (begin_on s p) t.machine ∙ begin_held s p t.batch t.held)
               (ap answer.Batch (sym is.batches.count))
-              (state_from image db new (begun s (Some p) t.batch.list) (Old ++ (Unsealed u ∷ [])) (link_held old.pool (k.parent u)) items some_pool is.log made);
+              (state_from image db new (begun s (Some p) t.batch.list) (Old ++ (Unsealed u ∷ [])) (link_held old.pool (k.parent u)) items some_pool is.log made
+              (marks_child k Old old.pool is.marks (drawn_in image s is) u j.id e.0 t.batch.list parent e.1 item e.2.is.list unsealed (marked e.0.item item t.batch.list e.2.is.list)));
         }
 
     -- ---- an append
@@ -381,7 +395,7 @@ module _ {Db S U : Type 0} (k : Kind Db S U) where
             ap (append_to limit s b value) w.1 ∙ append_full s b w.0 limit value short (omega (arith, same, full)) ∙ ap (λ n. refused s (LocationOverflow (n + 1))) (sym same))
 
       module _ (v : U) (items : new.batches.items ≡ set Old b (Unsealed v)) (pool : new.pool ≡ old.pool) (parent : k.parent v ≡ k.parent u) (pending : k.pending v ≡ k.pending u ++ (Append value ∷ []))
-          (list : (l : List Operation) → k.is_unsealed l u → k.is_unsealed l v) where
+          (list : (l : List Operation) → k.is_unsealed l u → k.is_unsealed l v) (marked : (ms : List ℕ) → k.is_marked ms u → k.is_marked ms v) where
         pub append_follows : length value ≤ limit → size_of k u < max_leaves → Answers k AnyState (λ s. append_to limit s b value (batch_at s b)) db old new answer.Done
         append_follows short few = λ image. record {
           shaped =
@@ -396,7 +410,8 @@ module _ {Db S U : Type 0} (k : Kind Db S U) where
               (ap (append_to limit s b value) w.1 ∙ append_done s b w.0 limit value short (omega (arith, same, few)))
               refl
               (state_from image db new (with_batch s b (batches.Unsealed (batches.appended w.0 (Append value)))) (set Old b (Unsealed v)) old.pool items pool is.log
-              (batches_appended (same_lists k) Old old.pool s.batches is.batches b u at w.0 w.1 w.2 v (Append value) parent is_as));
+              (batches_appended (same_lists k) Old old.pool s.batches is.batches b u at w.0 w.1 w.2 v (Append value) parent is_as)
+              (marks_appended k Old old.pool is.marks (drawn_in image s is) b u v at parent (k.base_is w.0.list v is_as.list ∙ sym (k.base_is w.0.list u w.2.is.list)) marked));
         }
 
     -- ---- holds
@@ -429,7 +444,8 @@ module _ {Db S U : Type 0} (k : Kind Db S U) where
               let t = at_state image s is in
               meets image db new (hold s b (batch_at s b)) (answer.Done, with_batch s b (batches.Sealed (batches.with_hold t.batch))) answer.Done (ap (hold s b) t.machine ∙ hold_done s b t.batch t.held) refl
               (state_from image db new (with_batch s b (batches.Sealed (batches.with_hold t.batch))) _ _ items pool is.log
-              (batches_held (same_lists k) Old old.pool s.batches is.batches b j t.sealed t.batch t.machine t.is t.some (record { id = j.id; holds = j.holds + 1 }) refl (batches.with_hold t.batch) (keeps_held t.batch) refl refl refl));
+              (batches_held (same_lists k) Old old.pool s.batches is.batches b j t.sealed t.batch t.machine t.is t.some (record { id = j.id; holds = j.holds + 1 }) refl (batches.with_hold t.batch) (keeps_held t.batch) refl refl refl)
+              (marks_held k Old old.pool is.marks (drawn_in image s is) b _ (sealed_within Old b j at) (λ w e. not_both w _ (sym e)) (Some j.id)));
         }
 
       module _ (items : new.batches.items ≡ set Old b (Sealed (record { id = j.id; holds = j.holds - 1 }))) (pool : new.pool ≡ link_released old.pool (Some j.id)) where
@@ -444,7 +460,8 @@ module _ {Db S U : Type 0} (k : Kind Db S U) where
               let t = at_state image s is in
               meets image db new (release s b (batch_at s b)) (answer.Done, with_batch s b (batches.Sealed (batches.without_hold t.batch))) answer.Done (ap (release s b) t.machine ∙ release_done s b t.batch t.held) refl
               (state_from image db new (with_batch s b (batches.Sealed (batches.without_hold t.batch))) _ _ items pool is.log
-              (batches_released (same_lists k) Old old.pool s.batches is.batches b j t.sealed t.batch t.machine t.is t.some (record { id = j.id; holds = j.holds - 1 }) refl (batches.without_hold t.batch) (keeps_let_go t.batch) refl refl refl));
+              (batches_released (same_lists k) Old old.pool s.batches is.batches b j t.sealed t.batch t.machine t.is t.some (record { id = j.id; holds = j.holds - 1 }) refl (batches.without_hold t.batch) (keeps_let_go t.batch) refl refl refl)
+              (marks_released k Old old.pool is.marks (drawn_in image s is) b _ (sealed_within Old b j at) (λ w e. not_both w _ (sym e)) (Some j.id)));
         }
 
     -- ---- an unsealed batch is given up
@@ -460,6 +477,7 @@ module _ {Db S U : Type 0} (k : Kind Db S U) where
       lost_state image s is =
           let w = unsealed_there (same_lists k) Old old.pool s.batches is.batches b u at in
           state_from image db new (with_batch s b batches.Gone) _ _ items pool is.log (batches_lost (same_lists k) Old old.pool s.batches is.batches b u at w.0 w.1 w.2)
+          (marks_released k Old old.pool is.marks (drawn_in image s is) b Gone (unsealed_within Old b u at) (λ w e. never_gone w e) (k.parent u))
 
     -- ---- a snapshot
 
@@ -470,6 +488,9 @@ module _ {Db S U : Type 0} (k : Kind Db S U) where
 
       new_there : slots.slot_at (old.pool ++ (Some Taken ∷ [])) j.id ≡ Some Taken
       new_there = subst (λ i. slots.slot_at (old.pool ++ (Some Taken ∷ [])) i ≡ Some Taken) (sym number) (put_new old.pool (Some Taken))
+
+      taken_alone : IsMarkedAt k.bounds old.pool None (k.bounds x)
+      taken_alone = subst (IsMarkedAt k.bounds old.pool None) (sym bounds) (marked_alone k.bounds old.pool (snapshot_of k db) refl refl (omega arith))
 
       taken_as : (image : Image) (s : State Operation) → k.is_of (kept_of s) image db → IsSealedAs k x (batches.snapshot_of s.ops (floor_of meaning s.ops))
       taken_as image s log =
@@ -498,7 +519,8 @@ module _ {Db S U : Type 0} (k : Kind Db S U) where
               state_from image db new (snapshot s).1 _ _ items pool is.log
                   (batches_added (same_lists k) Old (old.pool ++ (Some Taken ∷ [])) s.batches put j c Taken new_there refl once refl
                   (λ q i sealed same. let d = (sealed_there (same_lists k) Old old.pool s.batches is.batches q i sealed).2.drawn in omega (arith, d, same, number))
-                  (record { is = taken_as image s is.log; link = tt })),
+                  (record { is = taken_as image s is.log; link = tt }))
+                  (marks_taken k Old old.pool is.marks (drawn_in image s is) (Sealed j) (λ w e. not_both w j (sym e)) Taken taken_alone),
             );
       }
 
@@ -558,14 +580,20 @@ module _ {Db S U : Type 0} (k : Kind Db S U) where
             let more = begins_here s told.1 is in
             let log : k.is_of (with_list (kept_of s) (s.ops ++ more.0)) after made = goes told.0 e.0.item e.1 (kept_of s) more.0 is.log (sealed_here s told.1 is) in
             meets after made old (apply s b (batch_at s b)) (answer.Applied, applied s c) answer.Applied (ap (apply s b) t.machine ∙ apply_done s b c t.held (applies s told.1 is ∙ alike)) refl
-            (record { log = subst (λ (l : List Operation). k.is_of (with_list (kept_of s) l) after made) (sym more.1) log; batches = is.batches });
+            (record { log = subst (λ (l : List Operation). k.is_of (with_list (kept_of s) l) after made) (sym more.1) log; batches = is.batches; marks = is.marks });
       }
 
-      pub apply_fails : (tells : Type 0) (e : Error Mmr)
+      pub apply_answers : (s : State Operation) → IsTold s → IsStateOf k image db old s → answer.Applied ≡ (apply s b (batch_at s b)).0
+      apply_answers s told is =
+          let t = there_in s is in
+          let done : apply s b (batch_at s b) ≡ (answer.Applied, applied s t.batch) = ap (apply s b) t.machine ∙ apply_done s b t.batch t.held (applies s told is ∙ alike) in
+          sym (ap (λ (o : Outcome). o.0) done)
+
+      pub apply_fails : (tells P : Type 0)
           → (IsKnown k tells → (x : S) → item_at old.pool j.id ≡ Some x → (kept : Kept) (more : List Operation) → k.is_of kept image db → k.is_sealed (kept.ops ++ more) x
-          → Contains ((k.bounds x).db ∷ (k.bounds x).ancestors) (k.state db) → IsOutside e)
-          → (s : State Operation) → IsToldBy k tells s → IsStateOf k image db old s → IsOutside e
-      apply_fails tells e fails = λ s told is.
+          → Contains ((k.bounds x).db ∷ (k.bounds x).ancestors) (k.state db) → P)
+          → (s : State Operation) → IsToldBy k tells s → IsStateOf k image db old s → P
+      apply_fails tells P fails = λ s told is.
           let x = item_in s is in
           let more = begins_here s told.1 is in
           fails told.0 x.0.item x.1 (kept_of s) more.0 is.log (sealed_here s told.1 is) ((stands x.0.item x.1).0 alike)
@@ -579,7 +607,7 @@ module _ {Db S U : Type 0} (k : Kind Db S U) where
   opened_shape n items pool taken = shape_from n [] [] 0 [] items pool taken (none_of (any_lists k)) (record { drawn = omega arith; holds = λ id. omega arith })
 
   pub opened_state : (image : Image) (db : Db) (n : Numbers S U) (s : State Operation) → s.batches ≡ [] → n.batches.items ≡ [] → n.pool ≡ [] → k.is_of (kept_of s) image db → IsStateOf k image db n s
-  opened_state image db n s none items pool log = state_from image db n s [] [] items pool log (rw none (none_of (same_lists k)))
+  opened_state image db n s none items pool log = state_from image db n s [] [] items pool log (rw none (none_of (same_lists k))) (marks_none k)
 
   -- ---- a step is counted
 
@@ -598,4 +626,4 @@ module _ {Db S U : Type 0} (k : Kind Db S U) where
     }
 
     pub counted_state : (image : Image) (db : Db) (s : State Operation) → IsStateOf k image db old s → IsStateOf k image db new s
-    counted_state image db s is = state_from image db new s old.batches.items old.pool (ap (λ v. v.items) items) pool is.log is.batches
+    counted_state image db s is = state_from image db new s old.batches.items old.pool (ap (λ v. v.items) items) pool is.log is.batches is.marks

@@ -7,6 +7,7 @@ pub mod ListLemmas
 pub mod Fronts
 pub mod Matching
 pub mod Changes
+pub mod Marking
 pub mod Reaching
 pub mod Handlers
 pub mod Writing

@@ -140,4 +140,4 @@ bounds_in pool list own parent below floor fl op base tip place at chain base_is
 
 -- what a volume holds tells nothing of it
 pub any_contents : (image other : Image) (db : ListDb) (n : Numbers SealedBatch UnsealedBatch) (s : State Operation) → IsStateOf list_kind image db n s → IsStateOf list_kind other db n s
-any_contents image other db n s is = record { log = is.log; batches = is.batches }
+any_contents image other db n s is = record { log = is.log; batches = is.batches; marks = is.marks }

@@ -4,6 +4,7 @@ use Rattle.std.specs.Prelude.{IsSome}
 use Rattle.std.specs.Option.{ForSome, option_map}
 use Rattle.std.proofs.lemmas.Option.{none-some, same_Some}
 use Rattle.chain_core.specs.Chains.{IsPoolOf, IsRefusedBy, WhyUnsealed, IsSealedAt}
+use Rattle.chain_core.specs.Marks.{IsMarkedOn}
 use Rattle.chain_core.specs.Reached.{item_at, IsPlaceOf}
 use Rattle.chain_core.specs.Slots as slots
 use Rattle.chain_core.specs.Slots.{IsAlive, link_released}
@@ -15,6 +16,7 @@ use Rattle.chain_core.specs.declared.commitment.Commitment.{Commitment}
 use Rattle.chain_core.specs.declared.place.Place.{Place}
 use Rattle.chain_core.specs.declared.pool.HeldBatch.{HeldBatch}
 use Rattle.chain_core.proofs.PoolLemmas.{released_length, put_new, alive_is}
+use Rattle.chain_core.proofs.MarkedPoolLemmas.{marked_sealed}
 use Rattle.chain_core.proofs.StateLemmas.{stands_there}
 use Rattle.tree_shape.specs.Mmr.{mmr}
 use Rattle.tree_shape.specs.Sha256Codec.{bytes_of}
@@ -33,12 +35,13 @@ use Rattle.twin_run.specs.Told.{IsTold}
 use Rattle.volume_base.specs.Moments.{Image}
 use Rattle.twin_run.specs.Kind.{Kind, kept_of, size_of, sealing_of}
 use Rattle.twin_run.specs.Step.{lost, done_sealing, metadata_length, seal, sealed_or_lost, seal_refusal}
-use Rattle.twin_run.specs.StateOf.{IsUnsealedOf, HasRoom, IsSealedAs, same_lists, any_lists, IsShaped, IsStateOf, Meets}
+use Rattle.twin_run.specs.StateOf.{HasMarks, IsUnsealedOf, HasRoom, IsSealedAs, same_lists, any_lists, IsShaped, IsStateOf, Meets}
 use Rattle.twin_run.specs.declared.numbers.Batch.{Batch}
 use Rattle.twin_run.specs.declared.numbers.Batch.TheVariants.{Unsealed, Sealed, Gone}
 use Rattle.twin_run.specs.declared.numbers.Holding.{Holding}
 use Rattle.twin_run.specs.declared.numbers.Numbers.{Numbers}
-use Rattle.twin_run.proofs.Matching.{unsealed_there, parent_held, alive_where}
+use Rattle.twin_run.proofs.Matching.{not_both, unsealed_within, unsealed_there, parent_held, alive_where}
+use Rattle.twin_run.proofs.Marking.{parent_drawn, marks_sealed}
 use Rattle.twin_run.proofs.Changes.{batches_sealed, few_put, few_released}
 use Rattle.twin_run.proofs.Reaching.{pool_of, place_floor, place_tips, place_tips_in, place_boundary, place_boundary_in}
 use Rattle.twin_run.proofs.Handlers.{same_machine, stands_same, shape_from, state_from, meets, size_is, seal_short}
@@ -119,6 +122,9 @@ module _ {Db S U : Type 0} (k : Kind Db S U) (old : Numbers S U) (b : ℕ) (u : 
     alive : ForSome (k.parent u) (IsAlive old.pool)
     alive = alive_where old.pool (k.parent u) (parent_held (same_lists k) Old old.pool s.batches is.batches b u at)
 
+    marks_here : HasMarks k old.pool u
+    marks_here = is.marks.unsealed b u at
+
     pub pool_here : IsPoolOf k.bounds mmr sha meaning old.pool (k.parent u) w.list
     pool_here = pool_of k Old old.pool s is.batches told.parents b u w machine was
 
@@ -155,13 +161,14 @@ module _ {Db S U : Type 0} (k : Kind Db S U) (old : Numbers S U) (b : ℕ) (u : 
           meets k image db new _ (lost s b refusal) (answer.Refused refusal) (ap (sealed_or_lost s b w metadata floor) (refused_here floor (Some refusal) r)) refl gone
 
       module _ (x : S) (in_place : IsSealedAt k.bounds bytes_of old.pool (sealing_of k u) (k.state db) (k.floor db) floor (k.bounds x))
-          (sealed : (list : List Operation) → k.is_unsealed list u → IsPoolOf k.bounds mmr sha meaning old.pool (k.parent u) list → k.is_sealed (list ++ (k.pending u ++ (Commit metadata floor ∷ []))) x) where
+          (sealed : (list : List Operation) (marks : List ℕ) → k.is_unsealed list u → k.is_marked marks u → IsPoolOf k.bounds mmr sha meaning old.pool (k.parent u) list
+          → IsMarkedOn k.bounds old.pool (k.parent u) (k.base u) marks → k.is_sealed (list ++ (k.pending u ++ (Commit metadata floor ∷ []))) x) where
         abbrev Made : batches.SealedBatch Operation
         Made = sealed_here s w (Commit metadata floor) floor
 
         made_as : IsSealedAs k x Made
         made_as = record {
-          list = subst (λ (ops : List Operation). k.is_sealed (w.list ++ (ops ++ (Commit metadata floor ∷ []))) x) (sym was.is.pending) (sealed w.list was.is.list pool_here);
+          list = subst (λ (ops : List Operation). k.is_sealed (w.list ++ (ops ++ (Commit metadata floor ∷ []))) x) (sym was.is.pending) (sealed w.list marks_here.marks was.is.list marks_here.has pool_here marks_here.on);
           base = was.is.base ∙ sym (ap (λ (d : Commitment Mmr Sha256Digest). d.size) (in_place.base ∙ k.base_is w.list u was.is.list));
           boundary = sym (ap (λ (d : Commitment Mmr Sha256Digest). d.size) in_place.db ∙ boundary_size in_place.place in_place.place_of);
           tips = sym (ap sizes in_place.ancestors ∙ tips_are in_place.place in_place.place_of);
@@ -180,4 +187,7 @@ module _ {Db S U : Type 0} (k : Kind Db S U) (old : Numbers S U) (b : ℕ) (u : 
             (ap (sealed_or_lost s b w metadata floor) (sym (place_refuses in_place.place in_place.place_of floor) ∙ in_place.may))
             (ap₂ answer.Sealed (size_at ∙ ap (λ (d : Commitment Mmr Sha256Digest). d.size) bounds.tip) (root_at ∙ ap (λ (d : Commitment Mmr Sha256Digest). d.root) bounds.tip))
             (state_from k image db new (with_batch s b (batches.Sealed Made)) _ _ items pool is.log
-            (batches_sealed (same_lists k) Old old.pool s.batches is.batches b u at w machine was x Made fits refl refl j number once))
+            (batches_sealed (same_lists k) Old old.pool s.batches is.batches b u at w machine was x Made fits refl refl j number once)
+            (marks_sealed k Old old.pool is.marks (parent_drawn (same_lists k) Old old.pool s.batches is.batches) b (Sealed j) (unsealed_within Old b u at) (λ v e. not_both v j (sym e)) (k.parent u)
+            (record { item = x; parent = k.parent u; holds = 1 })
+            (marked_sealed k.bounds bytes_of old.pool (sealing_of k u) (k.state db) (k.floor db) floor (k.bounds x) is.marks.sealed alive (omega arith) marks_here.on.base_is in_place)))

@@ -27,11 +27,12 @@ abbrev pub with_list : Kept → List Operation → Kept
 with_list kept list = record kept { ops = list; sizes = sizes_with kept.sizes (length kept.ops) (length list) }
 
 -- A database is, with these contents of a volume, of what it keeps, and has a state and a floor. A sealed batch is of a list, and carries its
--- states. An unsealed one stands on a list, has appends behind it, and names its parent in the pool.
+-- states. An unsealed one stands on a list, has appends behind it, and names its parent in the pool; its chain has marks at these sizes.
 pub record Kind (Db Sealed Unsealed : Type 0) : Type 1 where
   pub is_of : Kept → Image → Db → Type 0
   pub is_sealed : List Operation → Sealed → Type 0
   pub is_unsealed : List Operation → Unsealed → Type 0
+  pub is_marked : List ℕ → Unsealed → Type 0
   pub state : Db → Commitment Mmr Sha256Digest
   pub floor : Db → ℕ
   pub bounds : Sealed → Bounds Mmr Sha256Digest
@@ -42,6 +43,7 @@ pub record Kind (Db Sealed Unsealed : Type 0) : Type 1 where
   pub names : Db → Names
   -- it keeps nothing on a volume
   pub in_memory : Type 0
+  pub nothing : in_memory → (db : Db) → names db ≡ record { logs = []; maps = [] }
   -- the states and the floor are the lists'
   pub state_is : (kept : Kept) (image : Image) (db : Db) → is_of kept image db → state db ≡ commitment_of kept.ops
   pub floor_is : (kept : Kept) (image : Image) (db : Db) → is_of kept image db → floor db ≡ floor_of meaning kept.ops

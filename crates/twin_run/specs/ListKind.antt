@@ -1,6 +1,6 @@
 -- What the database that is a list in memory and its batches stand for.
 use Rattle.std.specs.Prelude.{◌≡◌, []}
-use Rattle.std.proofs.Common.{ap}
+use Rattle.std.proofs.Common.{ap, refl}
 use Rattle.log_model.specs.Operations.{floor_of}
 use Rattle.chain_core.specs.declared.bounds.Bounds.{Bounds}
 use Rattle.tree_shape.specs.declared.mmr.Mmr.{Mmr}
@@ -16,12 +16,13 @@ use Rattle.twin_run.specs.declared.list_db.ListDb.{ListDb}
 abbrev pub bounds_of : SealedBatch → Bounds Mmr Sha256Digest
 bounds_of x = x.bounds
 
--- Each is its list, of which nothing is given up, and all are in memory.
+-- Each is its list, of which nothing is given up, and all are in memory. It has no use for marks.
 abbrev pub list_kind : Kind ListDb SealedBatch UnsealedBatch
 list_kind = record {
   is_of = λ kept image db. (db.list ≡ kept.ops) × (kept.start ≡ 0);
   is_sealed = λ list x. (x.list ≡ list) × AreBounds list x.bounds;
   is_unsealed = λ list u. u.list ≡ list;
+  is_marked = λ marks u. Unit {0};
   state = λ db. commitment_of db.list;
   floor = λ db. floor_of meaning db.list;
   bounds = bounds_of;
@@ -30,6 +31,7 @@ list_kind = record {
   parent = λ u. u.parent;
   names = λ db. record { logs = []; maps = [] };
   in_memory = Unit {0};
+  nothing = λ memory db. refl;
   state_is = λ kept image db is. ap commitment_of is.0;
   floor_is = λ kept image db is. ap (floor_of meaning) is.0;
   bounded = λ list x is. is.1;

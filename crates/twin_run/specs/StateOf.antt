@@ -6,6 +6,8 @@ use Rattle.log_model.specs.StateBatches as batches
 use Rattle.log_model.specs.Machine.{State}
 use Rattle.log_model.specs.Reach.{is_child, link_bound}
 use Rattle.twin_run.specs.Operation.{Operation}
+use Rattle.chain_core.specs.MarkedPool.{AreMarked}
+use Rattle.chain_core.specs.Marks.{IsMarkedOn}
 use Rattle.chain_core.specs.Slots.{slot_at, holds_of}
 use Rattle.chain_core.specs.States.{sizes}
 use Rattle.chain_core.specs.declared.pool.HeldBatch.{HeldBatch}
@@ -144,11 +146,23 @@ module _ {Db S U : Type 0} (k : Kind Db S U) where
     pub batches : AreBatchesOf any_lists n.batches.items n.pool all
     pub few : AreFew n.taken n.pool
 
+  -- An unsealed batch has the marks that its seal needs: on a parent that is alive, the parent's.
+  pub record HasMarks (pool : List (Option (HeldBatch S))) (u : U) : Type 0 where
+    pub marks : List ℕ
+    pub has : k.is_marked marks u
+    pub on : IsMarkedOn k.bounds pool (k.parent u) (k.base u) marks
+
+  -- So has each, and those in the pool have theirs.
+  pub record HaveMarks (bs : List (Batch U)) (pool : List (Option (HeldBatch S))) : Type 0 where
+    pub sealed : AreMarked k.bounds pool
+    pub unsealed : (b : ℕ) (u : U) → slice_index_or bs b Gone ≡ Unsealed u → HasMarks pool u
+
   -- With these contents of a volume a side stands for a state of the list machine: its database is what is kept of the state, and its batches are
-  -- the state's.
+  -- the state's, and have their marks.
   pub record IsStateOf (image : Image) (db : Db) (n : Numbers S U) (s : State Operation) : Type 0 where
     pub log : k.is_of (kept_of s) image db
     pub batches : AreBatchesOf same_lists n.batches.items n.pool s.batches
+    pub marks : HaveMarks n.batches.items n.pool
 
   -- An answer, and the side after it, are an outcome.
   abbrev pub Meets : Outcome → Image → Db → Numbers S U → Answer → Type 0

@@ -1,10 +1,12 @@
 //! A database of the run: what a side asks of it.
-ghost use Rattle.std.specs.Prelude.{◌≡◌, ◌↔◌, ◌<◌, ◌+◌, ◌-◌, ◌^◌, ◌++◌, ◌∷◌, [], List, length, Some, None, IsOk, IfOk, IfErr, OnOk, OnErr, IsOkUnless, Contains};
+ghost use Rattle.std.specs.Prelude.{◌≡◌, ℕ, ◌↔◌, ◌<◌, ◌+◌, ◌-◌, ◌^◌, ◌++◌, ◌∷◌, [], List, length, Some, None, IsOk, IfOk, IfErr, OnOk, OnErr, IsOkUnless, Contains};
 ghost use Rattle.std.specs.Option.{ForSome};
 ghost use Rattle.log_model.specs.Operations.{last_value};
 ghost use Rattle.chain_core.specs.Answers.{IsOutside};
 ghost use Rattle.chain_core.specs.Chains.{IsPoolOf, IsSealedAt, WhyUnsealed};
+ghost use Rattle.chain_core.specs.Marks.{marks_of, IsMarkedOn};
 ghost use Rattle.chain_core.specs.Reached.{item_at};
+ghost use Rattle.chain_core.specs.Sealing.{refusal_of};
 ghost use Rattle.chain_core.specs.Slots.{IsAlive, holds_of, link_held, link_released};
 ghost use Rattle.op_codec.specs.declared.keyless.Operation.TheVariants.{Append, Commit};
 ghost use Rattle.tree_shape.specs.Mmr.{mmr};
@@ -51,6 +53,7 @@ pub trait Database: Drop + Sized {
         ensures parent { IfOk result (λ u. kind.parent u ≡ None) }
         ensures list { IfOk result (λ u. (kept : Kept) (image : Image) → kind.is_of kept image self.now →
             kind.is_unsealed kept.ops u) }
+        ensures marks { IfOk result (kind.is_marked []) }
         ensures memory { IsOkUnless result Error.Memory };
 
     /// A batch on a sealed one, which it holds.
@@ -63,6 +66,9 @@ pub trait Database: Drop + Sized {
         ensures parent { IfOk result (λ u. kind.parent u ≡ Some id) }
         ensures list { IfOk result (λ u. (x : Self.Sealed) → item_at pool.old id ≡ Some x →
             (list : List Operation) → kind.is_sealed list x → kind.is_unsealed list u) }
+        // It has its parent's marks.
+        ensures marks { IfOk result (λ u. (x : Self.Sealed) → item_at pool.old id ≡ Some x →
+            (list : List Operation) → kind.is_sealed list x → kind.is_marked (marks_of (kind.bounds x)) u) }
         ensures memory { IsOkUnless result Error.Memory };
 
     /// How many operations a batch has, with its appends. The coming commit isn't counted.
@@ -76,6 +82,8 @@ pub trait Database: Drop + Sized {
         ensures pending { OnOk result (kind.pending batch.new ≡ kind.pending batch.old ++ Append value.now ∷ []) }
         ensures list { OnOk result ((list : List Operation) → kind.is_unsealed list batch.old →
             kind.is_unsealed list batch.new) }
+        ensures marks { OnOk result ((marks : List ℕ) → kind.is_marked marks batch.old →
+            kind.is_marked marks batch.new) }
         ensures parent { OnOk result (kind.parent batch.new ≡ kind.parent batch.old) }
         ensures memory { IsOkUnless result Error.Memory };
 
@@ -101,8 +109,9 @@ pub trait Database: Drop + Sized {
             Some (record { item = x; parent = kind.parent batch; holds = 1 }) ∷ [])
             × IsSealedAt kind.bounds bytes_of pool.old (sealing_of kind batch) (kind.state self.now) (kind.floor self.now) floor
             (kind.bounds x)
-            × ((list : List Operation) → kind.is_unsealed list batch →
+            × ((list : List Operation) (marks : List ℕ) → kind.is_unsealed list batch → kind.is_marked marks batch →
             IsPoolOf kind.bounds mmr sha meaning pool.old (kind.parent batch) list →
+            IsMarkedOn kind.bounds pool.old (kind.parent batch) (kind.base batch) marks →
             kind.is_sealed (list ++ (kind.pending batch ++ Commit metadata floor ∷ [])) x)) }
         ensures released { OnErr result (pool.new ≡ link_released pool.old (kind.parent batch)) }
         ensures refused { IfErr result (WhyUnsealed kind.bounds bytes_of pool.old (sealing_of kind batch)
@@ -148,6 +157,11 @@ pub trait Database: Drop + Sized {
             (kept : Kept) (more : List Operation) → kind.is_of kept (present (V.state volume.old)) self →
             kind.is_sealed (kept.ops ++ more) x →
             Contains ((kind.bounds x).db ∷ (kind.bounds x).ancestors) (kind.state self) → IsOutside e) }
+        // Over any contents it refuses no such batch.
+        ensures unrefused { IfErr result (λ e. (x : Self.Sealed) → item_at pool.now id ≡ Some x →
+            (kept : Kept) (image : Image) (more : List Operation) → kind.is_of kept image self →
+            kind.is_sealed (kept.ops ++ more) x →
+            Contains ((kind.bounds x).db ∷ (kind.bounds x).ancestors) (kind.state self) → refusal_of e ≡ None) }
         // Whatever it answers, it touches its own logs and maps alone.
         ensures names { V.tells → NamesCall (kind.names self) (V.state volume.old) (V.state volume.new) }
         ensures same_names { IfOk result (λ made. kind.names made ≡ kind.names self) }

@@ -1,8 +1,9 @@
 //! One side of the run: a database, and the batches of the run's numbers.
-ghost use Rattle.std.specs.Prelude.{◌≡◌, ◌<◌, ◌≤◌, length, slice_index_or, IfOk, IfErr, IsOkUnless};
+ghost use Rattle.std.specs.Prelude.{◌≡◌, ◌<◌, ◌≤◌, length, slice_index_or, None, IfOk, IfErr, IsOkUnless};
 ghost use Rattle.log_model.specs.StateBatches as batches;
 ghost use Rattle.log_model.specs.Machine.{State, batch_at, with_batch};
 ghost use Rattle.chain_core.specs.Answers.{IsOutside};
+ghost use Rattle.chain_core.specs.Sealing.{refusal_of};
 ghost use Rattle.command_text.specs.declared.command.Answer.TheVariants as answer;
 ghost use Rattle.log_model.specs.declared.refusal.Refusal.{Refusal};
 ghost use Rattle.volume_base.specs.Moments.{Image, present};
@@ -170,6 +171,12 @@ impl<D: Database> Side<D> {
         requires { IsShaped D.kind self.numbers }
         ensures ok { IfOk result (λ r. Follows D.kind (IsToldBy D.kind V.tells) (λ s. apply s b (batch_at s b))
             (present (V.state volume.old)) (present (V.state volume.new)) self.db r.0.db self.numbers r.0.numbers r.1) }
+        // Over any contents it answers as the list machine, and fails by no refusal.
+        ensures answers { IfOk result (λ r. (image : Image) (s : State Operation) → IsTold s →
+            IsStateOf D.kind image self.db self.numbers s → r.1 ≡ (apply s b (batch_at s b)).0) }
+        ensures unrefused { IfErr result (λ e. (image : Image) (s : State Operation) → IsTold s →
+            IsStateOf D.kind image self.db self.numbers s → refusal_of e ≡ None) }
+        ensures numbers { IfOk result (λ r. r.0.numbers ≡ self.numbers) }
         // A refusal leaves the side and the volume.
         ensures refused { IfOk result (λ r. (why : Refusal) → r.1 ≡ answer.Refused why →
             (r.0 ≡ self) × (volume.new ≡ volume.old)) }

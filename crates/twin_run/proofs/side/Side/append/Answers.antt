@@ -39,7 +39,7 @@ returns-in_ok-append-in-Unsealed-clause-ok g c =
     let e = read_at n.batches.items b c.index_mut.result.now (omega arith) c.index_mut.ensures.value ∙ c.in-Unsealed.is in
     let done = c.in_ok-append-in-Unsealed.ensures in
     let few = c.size-size.ensures.size in
-    append_follows g.D.Database.kind c.args.self.now.db n c.requires _ refl b u e c.args.self.now.limit c.args.value.now c.append.new.batch refl refl done.parent done.pending done.list (omega arith) (omega (arith, few))
+    append_follows g.D.Database.kind c.args.self.now.db n c.requires _ refl b u e c.args.self.now.limit c.args.value.now c.append.new.batch refl refl done.parent done.pending done.list done.marks (omega arith) (omega (arith, few))
 
 pub returns-in_default : goal.returns-in_default
 returns-in_default g c =

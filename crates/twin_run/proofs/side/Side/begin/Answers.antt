@@ -14,7 +14,7 @@ returns-in_default-clause-ok g c =
     let new : Numbers g.row.D-Sealed.Denot g.row.D-Unsealed.Denot = record { batches = c.push.new.self; pool = n.pool; taken = n.taken } in
     let count : c.len-number.result ≡ length n.batches.items = omega (arith, c.len-number.ensures) in
     rw (c.in_default.is, count)
-    (begun_here g.D.Database.kind c.args.self.now.db n c.requires.shaped new refl c.requires.room c.in_ok-batch.batch c.in_ok-push.ensures.items made.pending made.parent refl made.list)
+    (begun_here g.D.Database.kind c.args.self.now.db n c.requires.shaped new refl c.requires.room c.in_ok-batch.batch c.in_ok-push.ensures.items made.pending made.parent refl made.list made.marks)
 
 pub returns-in_default-held-clause-ok : goal.returns-in_default-held-clause-ok
 returns-in_default-held-clause-ok g c =
@@ -44,4 +44,4 @@ returns-clause-ok g c =
     let count : c.len-number.result ≡ length n.batches.items = omega (arith, c.len-number.ensures) in
     rw (c.in-Some.is, count)
     (begun_on_batch g.D.Database.kind c.args.self.now.db n c.requires.shaped new refl c.requires.room c.in_ok-batch-2.batch c.in_ok-push-2.ensures.items made.pending
-    c.in-Some.p c.in-Some-held.held (sym c.in-Some-held.ensures.held) made.parent made.held made.list)
+    c.in-Some.p c.in-Some-held.held (sym c.in-Some-held.ensures.held) made.parent made.held made.list made.marks)
