@@ -72,8 +72,8 @@ module _ {F D Op V : Type 0} (s : Shape) (h : Hashing D) (m : Meaning Op V) wher
   abbrev pub StandsIn : List Op → MerkleizedView F D Op → Type 0
   StandsIn list b = IsStateIn s h m list b.bounds.base × IsStateIn s h m list b.bounds.tip
 
-  -- Of a parent that is alive the chain began at a state of a front of this list, and base and tip of each batch that is reached from it are such
-  -- states.
+  -- Of a parent that is alive the chain began at a state of a front of this list, and base and tip of each batch that
+  -- is reached from it are such states.
   pub record IsPoolOf (pool : List (Option (HeldBatch (MerkleizedView F D Op)))) (parent : Option ℕ)
       (list : List Op) : Type 0 where
     pub boundary : (b : MerkleizedView F D Op) → linked_item pool parent ≡ Some b → IsStateIn s h m list b.bounds.db

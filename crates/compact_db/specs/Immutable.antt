@@ -30,7 +30,8 @@ module _ {K : Type 0} (cmp : K → K → Ordering) where
   abbrev pub set_among : {F V A D C : Type 0} → K → A → List (Operation F K V D A C) → List (Operation F K V D A C)
   set_among key value [] = Set key value ∷ []
   set_among key value (Set k old ∷ ops) =
-      match_ordering (cmp key k) (Set key value ∷ Set k old ∷ ops) (Set k value ∷ ops) (Set k old ∷ set_among key value ops)
+      match_ordering (cmp key k) (Set key value ∷ Set k old ∷ ops) (Set k value ∷ ops)
+      (Set k old ∷ set_among key value ops)
   set_among key value (Commit metadata floor ∷ ops) = Commit metadata floor ∷ set_among key value ops
 
   -- The batch in which the key has this value.

@@ -23,7 +23,8 @@ module _ {F Op V : Type 0} (s : Shape) (m : Meaning Op V) where
 
   abbrev pub floor_answer : ℕ → ℕ → Option ℕ → Result (Unit {0}) (Error F)
   floor_answer loc pins None = Err (UnexpectedData loc)
-  floor_answer loc pins (Some floor) = if nat_le floor loc then pins_answer loc pins else Err (DataCorrupted fault.Witness)
+  floor_answer loc pins (Some floor) =
+      if nat_le floor loc then pins_answer loc pins else Err (DataCorrupted fault.Witness)
 
   -- Whether an operation at this location, with so many pins before it, is a state: it is a commit, no earlier than
   -- its floor; a tree has such a location; and there are as many pins as peaks. The first test that fails answers.

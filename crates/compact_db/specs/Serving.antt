@@ -52,10 +52,12 @@ module _ {F : Type 0} where
       else Err (Merkle (RangeOutOfBounds start)))
       else Err (Merkle (RangeOutOfBounds size))
 
-  -- The call answers as this says; or it fails by the volume, for want of memory, or, where this refuses nothing, as that says.
+  -- The call answers as this says; or it fails by the volume, for want of memory, or, where this refuses nothing, as
+  -- that says.
   abbrev pub AnswersAs : {T U : Type 0} → Result (Unit {0}) (Error F) → Result U (Error F) → Result T (Error F) → Type 0
   AnswersAs answer other result =
-      MatchResult result (λ r. answer ≡ Ok tt) (λ e. (answer ≡ Err e) ⊎ (IsOutside e ⊎ ((answer ≡ Ok tt) × (other ≡ Err e))))
+      MatchResult result (λ r. answer ≡ Ok tt)
+      (λ e. (answer ≡ Err e) ⊎ (IsOutside e ⊎ ((answer ≡ Ok tt) × (other ≡ Err e))))
 
   -- The error is one of a read of these items, as a database's. Where they are told, corruption is of bytes that are
   -- none of them; and where the view of the log is within it besides, no position is missed.

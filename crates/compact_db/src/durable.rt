@@ -18,8 +18,8 @@ use tree_core::{Digest, Family};
 use volume_base::{JournalError, Volume};
 use witness_store::{Store, Witness};
 
-/// The log with one more witness. Where an import waits, the log is made with this witness alone. It refuses with `SizeOverflow` where its
-/// end would pass 2^64 - 1.
+/// The log with one more witness. Where an import waits, the log is made with this witness alone. It refuses with
+/// `SizeOverflow` where its end would pass 2^64 - 1.
 pub(crate) fn extended<F: Family, D: Digest, V: Volume>(
     log: WitnessLog<F, D>,
     vol: &mut V,
@@ -42,12 +42,14 @@ pub(crate) fn extended<F: Family, D: Digest, V: Volume>(
     ensures begins { waits log ≡ true → OnOk result (V.tells → (ws : List (Witness F D)) →
         length ws ≡ place_in log (V.state vol.old) → IsAllowed (D.admits tt) witness.now →
         Keeps (witnesses_of D.spelling (D.admits tt) (seen_log log) (V.state vol.new)) (ws ++ witness.now ∷ [])) }
-    ensures log { V.tells → LogCall (seen_log log).name (Extends D.spelling log witness.now (V.state vol.old)) (V.state vol.old) (V.state vol.new) }
+    ensures log { V.tells → LogCall (seen_log log).name (Extends D.spelling log witness.now (V.state vol.old))
+        (V.state vol.old) (V.state vol.new) }
     // At each moment a crash leaves of an open log a part of the longer list, within the bounds of before.
     ensures images { waits log ≡ false → V.tells → (ws : List (Witness F D)) (greatest least : ℕ) →
         Spells (text_of D.spelling) ws (log_of (seen_log log) (V.state vol.old)) →
         LogHas (V.state vol.old) (seen_log log).name (HasWitnesses D.spelling ws greatest least) →
-        LogKeeps (seen_log log).name (HasWitnesses D.spelling (ws ++ witness.now ∷ []) greatest least) (V.state vol.old) (V.state vol.new) }
+        LogKeeps (seen_log log).name (HasWitnesses D.spelling (ws ++ witness.now ∷ []) greatest least) (V.state vol.old)
+        (V.state vol.new) }
     // Of one that is made none of before is left.
     ensures left { waits log ≡ true → OnOk result (V.tells → LogHas (V.state vol.new) (seen_log log).name
         (IsRestarted (place_in log (V.state vol.old)) (text_of D.spelling witness.now))) }
@@ -63,27 +65,31 @@ pub(crate) fn extended<F: Family, D: Digest, V: Volume>(
     }
 }
 
-/// The log, open. Where an import waits, it is made with this witness. It refuses with `SizeOverflow` where the log's end is then 2^64 - 1.
+/// The log, open. Where an import waits, it is made with this witness. It refuses with `SizeOverflow` where the log's
+/// end is then 2^64 - 1.
 pub(crate) fn opened<F: Family, D: Digest, V: Volume>(
     log: WitnessLog<F, D>,
     vol: &mut V,
     tip: &Witness<F, D>,
 ) -> Result<Store<F, D>, JournalError>
     ensures idle { waits log ≡ false → IsOk result × (vol.new ≡ vol.old) }
-    ensures same_log { waits log ≡ false → IfOk result (λ made. (made.log ≡ seen_log log) × (made.uncommitted ≡ is_uncommitted log)) }
+    ensures same_log { waits log ≡ false →
+        IfOk result (λ made. (made.log ≡ seen_log log) × (made.uncommitted ≡ is_uncommitted log)) }
     ensures made { waits log ≡ true → IfOk result (λ made. made.uncommitted ≡ true) }
     ensures short { waits log ≡ true → OnOk result (length tip.now.op_bytes < 2 ^ 64) }
     ensures same { IfOk result (λ made. SameButBounds (seen_log log) made.log) }
     ensures held { waits log ≡ true → IfOk result (λ made. V.tells → IsHeld made.log (V.state vol.new)) }
     ensures overflow { V.tells → IsErrOf result journal_error.SizeOverflow →
         (waits log ≡ true) × (end_of (log_of (seen_log log) (V.state vol.old)) ≡ 2 ^ 64 - 1) }
-    ensures fits { waits log ≡ true → OnOk result (V.tells → end_of (log_of (seen_log log) (V.state vol.old)) < 2 ^ 64 - 1) }
+    ensures fits { waits log ≡ true →
+        OnOk result (V.tells → end_of (log_of (seen_log log) (V.state vol.old)) < 2 ^ 64 - 1) }
     ensures written { waits log ≡ true → OnOk result (V.tells →
         log_of (seen_log log) (V.state vol.new) ≡ written_log D.spelling log tip.now (V.state vol.old)) }
     ensures begins { waits log ≡ true → OnOk result (V.tells → (ws : List (Witness F D)) →
         length ws ≡ place_in log (V.state vol.old) → IsAllowed (D.admits tt) tip.now →
         Keeps (witnesses_of D.spelling (D.admits tt) (seen_log log) (V.state vol.new)) (ws ++ tip.now ∷ [])) }
-    ensures log { V.tells → LogCall (seen_log log).name (Settles D.spelling log tip.now (V.state vol.old)) (V.state vol.old) (V.state vol.new) }
+    ensures log { V.tells → LogCall (seen_log log).name (Settles D.spelling log tip.now (V.state vol.old))
+        (V.state vol.old) (V.state vol.new) }
     ensures left { waits log ≡ true → OnOk result (V.tells → LogHas (V.state vol.new) (seen_log log).name
         (IsRestarted (place_in log (V.state vol.old)) (text_of D.spelling tip.now))) }
     ensures refused { V.tells → RefusesUnwritten (V.state vol.old) (V.state vol.new) result }

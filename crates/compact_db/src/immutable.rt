@@ -123,7 +123,8 @@ impl<F: Family, K: Key, V: Codec<K>, H: Hasher> crate::UnmerkleizedBatch<F, Oper
         ensures ok { OnOk result (self.new ≡ with_set K.cmp self.old key value) }
         // Each key stands once, in the order of keys.
         ensures ordered { OnOk result (IsStrictlySortedBy K.cmp (keys_in self.new.pending)) }
-        ensures full { 2 ^ 62 ≤ self.old.base.size + length self.old.pending → sets_key K.cmp key self.old.pending ≡ false →
+        ensures full { 2 ^ 62 ≤ self.old.base.size + length self.old.pending →
+            sets_key K.cmp key self.old.pending ≡ false →
             result ≡ Err (Error.Merkle (LocationOverflow (self.old.base.size + length self.old.pending + 1))) }
         ensures memory { self.old.base.size + length self.old.pending < 2 ^ 62 → IsOkUnless result Error.Memory }
         ensures again { sets_key K.cmp key self.old.pending ≡ true → IsOkUnless result Error.Memory }

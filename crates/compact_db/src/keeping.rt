@@ -203,10 +203,6 @@ impl<F: Family, O: CompactOperation, H: Hasher> CompactDb<F, O, H> {
             item_at pool.now id ≡ Some b →
             IsOfList F.shape H.hash O.meaning ops self → IsMerkleizedOf F.shape H.hash O.meaning (ops ++ more) b →
             IsOfList F.shape H.hash O.meaning (ops ++ more) made) }
-        // Of whichever batch that is longer, its size is the batch's, and its commit the batch's last operation.
-        ensures grows { IfOk result (λ made. (b : MerkleizedView F H.Digest O) → item_at pool.now id ≡ Some b →
-            self.tip.witness.size < b.bounds.tip.size → (made.tip.witness.size ≡ b.bounds.tip.size)
-            × (slice_get b.operations (length b.operations - 1) ≡ Some made.commit)) }
         // Where that list is longer, the volume has one more witness.
         ensures held { IfOk result (λ made. V.tells →
             (ops more : List O) (sizes : List ℕ) (b : MerkleizedView F H.Digest O) → item_at pool.now id ≡ Some b →
@@ -221,6 +217,10 @@ impl<F: Family, O: CompactOperation, H: Hasher> CompactDb<F, O, H> {
             IsMerkleizedOf F.shape H.hash O.meaning (ops ++ more) b → (sizes : List ℕ)
             × IsHeldFor F.shape H.hash O.meaning H.Digest.spelling (H.Digest.admits tt) (ops ++ more) sizes made
             (V.state vol.new)) }
+        // Of whichever batch that is longer, its size is the batch's, and its commit the batch's last operation.
+        ensures grows { IfOk result (λ made. (b : MerkleizedView F H.Digest O) → item_at pool.now id ≡ Some b →
+            self.tip.witness.size < b.bounds.tip.size → (made.tip.witness.size ≡ b.bounds.tip.size)
+            × (slice_get b.operations (length b.operations - 1) ≡ Some made.commit)) }
         // Where the batch has no more operations, the state stays, and what is held. Nothing is written but for an
         // import, and without one it is done.
         ensures stays { IfOk result (λ made. (b : MerkleizedView F H.Digest O) → item_at pool.now id ≡ Some b →

@@ -131,8 +131,8 @@ impl<F: Family, O: CompactOperation, D: Digest> MerkleizedBatch<F, O, D> {
             map (node_over F.shape self.now.tree db.now.tree) (pins F.shape self.now.bounds.base.size)) }
         ensures unread { IsInChain self.now db.now → let told = node_over F.shape self.now.tree db.now.tree in
             Lifts (λ below. IfErr below (IsUnread told (pins F.shape self.now.bounds.base.size))) result }
-        // Over a tree at no later state than the batch's base, which has what stands before the batch's nodes, no peak is
-        // wanting.
+        // Over a tree at no later state than the batch's base, which has what stands before the batch's nodes, no peak
+        // is wanting.
         ensures kept { IsInChain self.now db.now → db.now.tree.leaves ≤ self.now.bounds.base.size →
             self.now.tree.first ≤ db.now.tree.leaves → IsOkUnless result Error.Memory }
         // Of a list that begins with the database's, they are the list's.
