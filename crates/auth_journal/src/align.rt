@@ -22,7 +22,7 @@ use merkle_full::Merkle;
 use std::alloc::Global;
 use std::num::NonZeroU64;
 use tree_core::{Family, Hasher, Standard};
-use volume_base::Volume;
+use volume_base::{JournalError, Volume};
 
 /// The tree with a leaf for each item of the log from its own leaves up to an end. The items are read so many at a
 /// time.
@@ -64,7 +64,9 @@ pub(crate) fn align<F: Family, C: Contiguous, H: Hasher, V: Volume>(
     Ok(merkle)
 }
 
-/// The tree with a leaf for each item of the log up to an end, and its own log durable.
+/// The tree with a leaf for each item of the log up to an end, and its own log durable. Where the tree would then have
+/// another number of leaves than the log has items, it refuses with `Corruption` of the tree's leaves, under `Journal`,
+/// before anything is read.
 pub(crate) fn catch_up<F: Family, C: Contiguous, H: Hasher, V: Volume>(
     alloc: Global,
     vol: &mut V,
@@ -77,6 +79,8 @@ pub(crate) fn catch_up<F: Family, C: Contiguous, H: Hasher, V: Volume>(
     requires few { end ≤ 2 ^ 62 }
     requires fresh { merkle.log.failed ≡ false }
     ensures aligned { IfOk result (λ t. IsAligned merkle (max merkle.tree.leaves end) t) }
+    // Whatever the volume tells, the tree has a leaf for each item of the log, and no more.
+    ensures whole { IfOk result (λ t. t.tree.leaves ≡ (C.view journal.now).end) }
     // Each item that the tree lacked can be read.
     ensures replayed { let items = items_of C.Item.spelling C.Item.admits (C.view journal.now) (V.state vol.old) in
         OnOk result (V.tells → AreReadable items merkle.tree.leaves end) }
@@ -92,6 +96,7 @@ pub(crate) fn catch_up<F: Family, C: Contiguous, H: Hasher, V: Volume>(
         (leaves_of F.shape H.hash C.Item.spelling (take t.tree.leaves list)) t (present (V.state vol.new))) }
     ensures refused { let items = items_of C.Item.spelling C.Item.admits (C.view journal.now) (V.state vol.old) in
         V.tells → IsSeated F.shape merkle (present (V.state vol.old)) →
+        (C.view journal.now).end ≡ max merkle.tree.leaves end →
         IfErr result (NotAligned V.tells items merkle.tree.leaves end) }
     // Whatever the volume tells.
     ensures lifted { IfErr result IsLifted }
@@ -117,6 +122,12 @@ pub(crate) fn catch_up<F: Family, C: Contiguous, H: Hasher, V: Volume>(
         AllKeepStanding F.shape H.hash H.Digest.spelling all durable top merkle (V.state vol.old) (V.state vol.new) }
     ensures changes { Changes V.tells Error.Volume (V.state vol.old) (V.state vol.new) result }
 {
+    let (_, last) = journal.bounds();
+    let leaves = merkle.leaves().as_u64();
+    let reached = leaves.max(end);
+    if last != reached {
+        return Err(Error::Journal(JournalError::Corruption(leaves)));
+    }
     let aligned = align(alloc, vol, merkle, journal, hasher, end, apply_batch)?;
     let synced = aligned.sync(vol)?;
     Ok(synced)

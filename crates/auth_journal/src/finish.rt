@@ -25,11 +25,14 @@ impl<F: Family, C: Backing, H: Hasher> Recovery<F, C, H> {
 
     /// Cuts the log to the end and makes it durable. Then the tree is opened, the leaves that it lacks are made of the
     /// log's items, which are read so many at a time, and it is synced. It refuses an item that it can't read as
-    /// `read`.
+    /// `read`. Where the log is cut to another number of items than the tree gets leaves, which no volume that tells its
+    /// contents brings about, it refuses with `Corruption` of the tree's leaves, under `Journal`.
     pub fn finish<V: Volume>(self, vol: &mut V) -> Result<Journal<F, C, H>, Error<F>>
         ensures from { IfOk result (λ t. IsOpenedFrom self t) }
         ensures reached { IfOk result (λ t. V.tells → IsReadyIn self (V.state vol.old) →
             (t.items.end ≡ self.end) × (t.tree.tree.leaves ≡ self.end)) }
+        // Whatever the volume tells, the tree has a leaf for each item, and no more.
+        ensures whole { IfOk result (λ t. t.tree.tree.leaves ≡ t.items.end) }
         ensures rests { IfOk result (λ t. Rests F.shape t.tree) }
         // Each item that the tree lacked can be read.
         ensures replayed { let items = items_of C.Item.spelling C.Item.admits self.items (V.state vol.old) in

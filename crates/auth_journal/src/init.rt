@@ -49,13 +49,14 @@ impl<F: Family, C: Backing, H: Hasher> Journal<F, C, H> {
         ensures cut { let view = C.config journal_cfg in IfOk result (λ t. V.tells →
             (log_of view (V.state vol.new) ≡ cut_to (log_of view (V.state vol.old)) t.items.end)
             × IsHeld t.items (V.state vol.new)) }
-        // The tree is opened under that end, the items that it lacks can be read, and it has a leaf for each item.
+        // The tree is opened under that end, and the items that it lacks can be read.
         ensures opens { let map = (V.state vol.old).map (string_bytes merkle_cfg.metadata) in
             let log = (V.state vol.old).log (string_bytes merkle_cfg.nodes) in
             let items = items_of C.Item.spelling C.Item.admits (C.config journal_cfg) (V.state vol.old) in
             IfOk result (λ t. V.tells → OpensUpTo F H.Digest.spelling (H.Digest.Read.admits tt) F.shape map log items
             t.items.end t.tree.boundary) }
-        ensures whole { IfOk result (λ t. V.tells → t.tree.tree.leaves ≡ t.items.end) }
+        // Whatever the volume tells, it has a leaf for each item, and no more.
+        ensures whole { IfOk result (λ t. t.tree.tree.leaves ≡ t.items.end) }
         ensures rests { IfOk result (λ t. Rests F.shape t.tree) }
         ensures seated { IfOk result (λ t. V.tells → IsSeated F.shape t.tree (present (V.state vol.new))) }
         // For each list that the contents stood for, it is the journal of its first items.
@@ -110,8 +111,8 @@ impl<F: Family, C: Backing, H: Hasher> Journal<F, C, H> {
     }
 
     /// Opens the journal up to the last item that a predicate accepts, or at 0 where none does; an empty log keeps its
-    /// position. The items that the tree lacks are read so many at a time. It refuses as `prepare`, and an item that it
-    /// can't read as `read`.
+    /// position. The items that the tree lacks are read so many at a time. It refuses as `prepare`, and then as
+    /// `Recovery::finish`.
     pub fn new<V: Volume, P: Fn(&C::Item) -> bool>(
         alloc: Global,
         vol: &mut V,
@@ -134,13 +135,14 @@ impl<F: Family, C: Backing, H: Hasher> Journal<F, C, H> {
         ensures cut { let view = C.config journal_cfg in IfOk result (λ t. V.tells →
             (log_of view (V.state vol.new) ≡ cut_to (log_of view (V.state vol.old)) t.items.end)
             × IsHeld t.items (V.state vol.new)) }
-        // The tree is opened under that end, the items that it lacks can be read, and it has a leaf for each item.
+        // The tree is opened under that end, and the items that it lacks can be read.
         ensures opens { let map = (V.state vol.old).map (string_bytes merkle_cfg.metadata) in
             let log = (V.state vol.old).log (string_bytes merkle_cfg.nodes) in
             let items = items_of C.Item.spelling C.Item.admits (C.config journal_cfg) (V.state vol.old) in
             IfOk result (λ t. V.tells → OpensUpTo F H.Digest.spelling (H.Digest.Read.admits tt) F.shape map log items
             t.items.end t.tree.boundary) }
-        ensures whole { IfOk result (λ t. V.tells → t.tree.tree.leaves ≡ t.items.end) }
+        // Whatever the volume tells, it has a leaf for each item, and no more.
+        ensures whole { IfOk result (λ t. t.tree.tree.leaves ≡ t.items.end) }
         ensures rests { IfOk result (λ t. Rests F.shape t.tree) }
         ensures seated { IfOk result (λ t. V.tells → IsSeated F.shape t.tree (present (V.state vol.new))) }
         // For each list that the contents stood for, it is the journal of its first items.
@@ -193,8 +195,8 @@ impl<F: Family, C: Backing, H: Hasher> Journal<F, C, H> {
     }
 
     /// Opens the journal up to the last item that a predicate accepts and that ends at or below a size, or at 0 where none
-    /// does. The items that the tree lacks are read so many at a time. It refuses as `prepare`, and an item that it can't
-    /// read as `read`.
+    /// does. The items that the tree lacks are read so many at a time. It refuses as `prepare`, and then as
+    /// `Recovery::finish`.
     pub fn init_at_most<V: Volume, P: Fn(&C::Item) -> bool>(
         alloc: Global,
         vol: &mut V,
@@ -218,13 +220,14 @@ impl<F: Family, C: Backing, H: Hasher> Journal<F, C, H> {
         ensures cut { let view = C.config journal_cfg in IfOk result (λ t. V.tells →
             (log_of view (V.state vol.new) ≡ cut_to (log_of view (V.state vol.old)) t.items.end)
             × IsHeld t.items (V.state vol.new)) }
-        // The tree is opened under that end, the items that it lacks can be read, and it has a leaf for each item.
+        // The tree is opened under that end, and the items that it lacks can be read.
         ensures opens { let map = (V.state vol.old).map (string_bytes merkle_cfg.metadata) in
             let log = (V.state vol.old).log (string_bytes merkle_cfg.nodes) in
             let items = items_of C.Item.spelling C.Item.admits (C.config journal_cfg) (V.state vol.old) in
             IfOk result (λ t. V.tells → OpensUpTo F H.Digest.spelling (H.Digest.Read.admits tt) F.shape map log items
             t.items.end t.tree.boundary) }
-        ensures whole { IfOk result (λ t. V.tells → t.tree.tree.leaves ≡ t.items.end) }
+        // Whatever the volume tells, it has a leaf for each item, and no more.
+        ensures whole { IfOk result (λ t. t.tree.tree.leaves ≡ t.items.end) }
         ensures rests { IfOk result (λ t. Rests F.shape t.tree) }
         ensures seated { IfOk result (λ t. V.tells → IsSeated F.shape t.tree (present (V.state vol.new))) }
         // For each list that the contents stood for, it is the journal of its first items.

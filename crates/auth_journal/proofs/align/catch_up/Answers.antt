@@ -1,4 +1,4 @@
-use Rattle.std.proofs.Common.{ℕ, List, Ok, take, sym, ◌∙◌, ap, subst}
+use Rattle.std.proofs.Common.{ℕ, List, Ok, take, sym, ◌∙◌, ap, subst, arith}
 use Rattle.volume_base.specs.Moments.{present}
 use Rattle.volume_base.specs.Names.{log_alone, NamesCall}
 use Rattle.volume_base.specs.Volume.{OnlyLeft}
@@ -8,7 +8,7 @@ use Rattle.journal_base.specs.View.{View, SameButBounds}
 use Rattle.tree_store.specs.declared.error.Error.TheVariants as tree
 use Rattle.merkle_full.specs.Lists.{IsFullOf}
 use Rattle.merkle_full.proofs.FullLemmas.{full_later}
-use Rattle.merkle_full.proofs.StandLemmas.{pair_idle}
+use Rattle.merkle_full.proofs.StandLemmas.{pair_idle, pair_none}
 use Rattle.auth_journal.specs.Errors.{from_tree, IsLifted}
 use Rattle.auth_journal.specs.Joined.{leaves_of}
 use Rattle.auth_journal.specs.declared.error.Error.TheVariants as joined
@@ -27,6 +27,19 @@ returns-clause-aligned g c =
       log = subst (λ (v : View _). SameButBounds v c.in_ok-synced.synced.log) one.beside.log two.log;
       metadata = two.metadata ∙ one.beside.metadata;
     }
+
+pub returns-clause-whole : goal.returns-clause-whole
+returns-clause-whole g c =
+    let aligned = (c.in_ok-aligned.ensures {u = tt}).longer.leaves in
+    let synced = (c.in_ok-synced.ensures {u = tt}).same.leaves in
+    omega (arith, synced, aligned, c.if-last-reached.false, c.bounds-last.ensures.end, c.max-reached.ensures, c.as_u64-leaves.ensures, c.leaves.ensures.leaves)
+
+pub returns-then-last-reached-clause-refused : goal.returns-then-last-reached-clause-refused
+returns-then-last-reached-clause-refused g c told seated is =
+    absurd (c.if-last-reached.true (omega (arith, is, c.bounds-last.ensures.end, c.max-reached.ensures, c.as_u64-leaves.ensures, c.leaves.ensures.leaves)))
+
+pub returns-then-last-reached-clause-images : goal.returns-then-last-reached-clause-images
+returns-then-last-reached-clause-images g c told list rest durable top run few full has = pair_none c.args.merkle.log.name c.args.merkle.metadata _ (g.V.Volume.state c.args.vol.now) has
 
 pub returns-clause-seated : goal.returns-clause-seated
 returns-clause-seated g c told seated =
@@ -52,7 +65,7 @@ returns-clause-full g c told list run few full =
     subst (λ (n : ℕ). IsFullOf s h digest admits (leaves_of s h spelling (take n list)) c.in_ok-synced.synced (present s2)) (sym two.same.leaves) (two.full told h all here)
 
 pub returns-in_err-synced-clause-refused : goal.returns-in_err-synced-clause-refused
-returns-in_err-synced-clause-refused g c told seated =
+returns-in_err-synced-clause-refused g c told seated is =
     let one = c.in_ok-aligned.ensures {u = tt} in
     let here = seated_later g.F.Family.shape c.args.merkle c.in_ok-aligned.aligned (g.V.Volume.state c.args.vol.now) (g.V.Volume.state c.align.new.vol) one.beside one.longer.boundary ((one.reads.contents told).logs c.args.merkle.log.name) seated in
     outside_above g.V.Volume.tells _ _ _ c.in_err-synced.field-0.0 _ c.from_residual-in_err-synced.ensures.1 ((c.in_err-synced.ensures {u = tt}).bounded told here)

@@ -153,31 +153,7 @@ returns-clause-opens g c told =
     (subst (λ n. OpensUpTo g.row.F.Denot digest admitted s (s0.map metadata) (s0.log nodes) items n r.tree.pruned) (sym end) up_to)
 
 pub returns-clause-whole : goal.returns-clause-whole
-returns-clause-whole g c told =
-    let tells = g.V.Volume.tells in
-    let s = g.F.Family.shape in
-    let h = g.H.Hasher.hash in
-    let digest = g.H.Digest.Spelled.spelling in
-    let admitted = g.H.Digest.Read.admits tt in
-    let spelling = g.C.Item.Spelled.spelling in
-    let admits = g.C.Item.Read.admits in
-    let says = FnReturnsAt g.P.Fn c.args.predicate in
-    let cap = c.args.max_size in
-    let s0 = g.V.Volume.state c.args.vol.now in
-    let s1 = g.V.Volume.state c.prepare.new.vol in
-    let first = g.C.Backing.config c.args.journal_cfg in
-    let nodes = string_bytes c.args.merkle_cfg.nodes in
-    let metadata = string_bytes c.args.merkle_cfg.metadata in
-    let r = c.in_ok-recovery.recovery in
-    let did = c.in_ok-recovery.ensures {u = tt} in
-    let name : r.items.name ≡ first.name = ap (λ (v : View g.row.C-Item-Cfg.Denot). v.name) did.named.0 in
-    let s2 = g.V.Volume.state c.finish.new.vol in
-    let t = c.in_ok-opened.opened in
-    let did_finish = c.in_ok-opened.ensures {u = tt} in
-    let from = did_finish.from in
-    let within = did.within told in
-    let ends = did_finish.reached told within in
-    ends.1 ∙ sym ends.0
+returns-clause-whole g c = (c.in_ok-opened.ensures {u = tt}).whole
 
 pub returns-clause-seated : goal.returns-clause-seated
 returns-clause-seated g c told =

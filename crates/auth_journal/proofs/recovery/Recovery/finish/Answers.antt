@@ -330,9 +330,12 @@ returns-in_err-merkle-clause-refused g c told held =
     let low : (log_of r.items s0).start ≤ r.end = omega (arith, sound.reached, ready.items.start_is) in
     let high : r.end ≤ end_of (log_of r.items s0) = omega (arith, sound.within, ready.items.end_is) in
     let second = (opened.names told).others.logs items.name (apart, tt) in
+    let held_one : IsHeld items s1 = subst (λ (v : View g.row.C-Item-Cfg.Denot). IsHeld v s1) opened_is (cut.held told) in
+    let ends : items.end ≡ r.end = held_one.end_is ∙ ap (λ n. end_of (s1.log n)) name ∙ ap end_of (cut.cut told) ∙ end_cut (log_of r.items s0) r.end low high in
+    let reaches : items.end ≡ max t.tree.leaves r.end = omega (arith, ends, opened.from.leaves, ready.high) in
     let e = c.in_err-merkle.field-0.0 in
     let admits = g.C.Item.Read.admits in
-    let here = c.in_err-merkle.ensures.refused told (opened.seated told prepared) in
+    let here = c.in_err-merkle.ensures.refused told (opened.seated told prepared) reaches in
     let at : s2.log r.items.name ≡ cut_to (s0.log r.items.name) r.end = sym (ap s2.log name) ∙ second ∙ ap s1.log name ∙ cut.cut told in
     let seen = subst (λ (l : Log). NotAligned tells (record { log = l; spelling = spelling; admits = admits r.items.codec }) r.tree.tree.leaves r.end e) at
     (subst (λ n. NotAligned tells (items_of spelling admits r.items s2) n r.end e) opened.from.leaves (subst (λ (w : View g.row.C-Item-Cfg.Denot). NotAligned tells (items_of spelling admits w s2) t.tree.leaves r.end e) items_is here)) in
