@@ -22,9 +22,9 @@ use Rattle.tree_core.specs.Tree.{IsSound}
 use Rattle.merkle_full.specs.Full.{told_at}
 use Rattle.merkle_full.specs.Proving.{history_answer, IsProved}
 use Rattle.merkle_full.proofs.FullLemmas.{held_of_full}
-use Rattle.merkle_full.proofs.ProvedLemmas.{history_within}
+use Rattle.merkle_full.proofs.ProvedLemmas.{history_within, taken_there}
 use Rattle.auth_journal.specs.Joined.{Joined, IsJoinedOf, leaves_of}
-use Rattle.auth_journal.specs.Proving.{items_answer, range_end, WhyUnproved, IsItemsProof}
+use Rattle.auth_journal.specs.Proving.{items_answer, range_end, AreThere, WhyUnproved, IsItemsProof}
 use Rattle.auth_journal.specs.Reading.{positions, IsUnreadAt, AreUnread, AreAdmitted}
 use Rattle.auth_journal.proofs.ErrorLemmas.{volume_from_tree, tree_outside, log_outside}
 use Rattle.auth_journal.proofs.LeafLemmas.{length-leaves_of}
@@ -84,9 +84,9 @@ tree_because told ps items a b tree.Memory o = inl tt
 tree_because told ps items a b (tree.ElementPruned p) o = inr (inl (p, refl, o))
 tree_because told ps items a b _ o = absurd o
 
-log_because : {F D Item : Type 0} (told : ℕ → Option D) (ps : List ℕ) (tells : Type 0) (items : Items Item) (a b : ℕ) (e : JournalError) → tells → AreUnread tells items a b e → WhyUnproved {F = F} told ps items a b (from_journal e)
-log_because {F = F} told ps tells items a b e t (inl o) = inl (log_outside F e o)
-log_because {F = F} told ps tells items a b e t (inr first) = inr (inr (e, named first.why, record { position = first.position; low = first.low; high = first.high; first = λ u. first.first t; why = known first.why }))
+log_because : {F D Item : Type 0} (told : ℕ → Option D) (ps : List ℕ) (tells : Type 0) (items : Items Item) (a b : ℕ) (e : JournalError) → tells → AreThere told ps → AreUnread tells items a b e → WhyUnproved {F = F} told ps items a b (from_journal e)
+log_because {F = F} told ps tells items a b e t there (inl o) = inl (log_outside F e o)
+log_because {F = F} told ps tells items a b e t there (inr first) = inr (inr (e, named first.why, there, record { position = first.position; low = first.low; high = first.high; first = λ u. first.first t; why = known first.why }))
   where
     named : IsUnreadAt tells items first.position e → from_journal {F = F} e ≡ joined.Journal e
     named (inl y) = ap from_journal y.0 ∙ sym (ap joined.Journal y.0)
@@ -143,15 +143,18 @@ module _ (F : Type 0) {D Codec Item : Type 0} (tells : Type 0) (s : Shape) (h : 
         (did.first (hist list jn) told (held_of_full s h digest admits (leaves_of s h spelling list) j.tree image jn.tree sound.within));
   })
 
-  pub log_refused : (e : JournalError) (result : Result (Proof F D × Vec Item) (Error F)) → IsErrAnd result (λ d. d ≡ from_journal e) → (tells → AreUnread tells items a b e)
+  pub log_refused : (e : JournalError) (result : Result (Proof F D × Vec Item) (Error F)) → IsErrAnd result (λ d. d ≡ from_journal e)
+      → (proof : Proof F D) → IsProved tells s digest admits reads j.tree image (history_answer j.tree.tree.leaves n a b) n inactive a b (Ok proof) → (tells → AreUnread tells items a b e)
       → (tells → (list : List Item) → Spells spelling list (image.log j.items.name) → (image.log j.items.name).start ≤ a → b ≤ length list → AreAdmitted (allowed j.items.codec) list a b → IsOfVolume e) → Says result
-  log_refused e (Ok y) is unread outside = absurd is
-  log_refused e (Err d) is unread outside = subst (λ (x : Error F). Says (Err x)) (sym is) (record {
+  log_refused e (Ok y) is proof did unread outside = absurd is
+  log_refused e (Err d) is proof did unread outside = subst (λ (x : Error F). Says (Err x)) (sym is) (record {
     refused = λ d bad. absurd (never d bad);
     within = tt;
     list = tt;
     kept = λ ok low start told list jn al. log_outside F e (outside told list jn.items (omega (arith, start, jn.start_is)) (within_list list jn) al);
-    why = λ ok told list jn. log_because (told_at reads j.tree image) (cover_positions s (meets a b) n) tells items a b e told (unread told);
+    why = λ ok told list jn. log_because (told_at reads j.tree image) (cover_positions s (meets a b) n) tells items a b e told
+        (taken_there s (told_at reads j.tree image) n (meets a b) proof (did.told told (held_of_full s h digest admits (leaves_of s h spelling list) j.tree image jn.tree sound.within)))
+        (unread told);
   })
 
   pub both_made : (proof : Proof F D) (made : Vec Item) → IsProved tells s digest admits reads j.tree image (history_answer j.tree.tree.leaves n a b) n inactive a b (Ok proof)
