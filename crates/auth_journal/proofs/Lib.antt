@@ -19,3 +19,4 @@ pub mod LowerLemmas
 pub mod GrowLemmas
 pub mod OverLemmas
 pub mod MutableLemmas
+pub mod SettledLemmas

@@ -18,7 +18,7 @@ use Rattle.auth_journal.specs.Errors.{from_journal, from_tree}
 use Rattle.auth_journal.specs.Joined.{Joined, leaves_of}
 use Rattle.auth_journal.specs.Reading.{AreReadable}
 use Rattle.auth_journal.specs.Searching.{EndsAt, NotFound}
-use Rattle.auth_journal.specs.Standing.{Marks, NamesKeepStanding}
+use Rattle.auth_journal.specs.Standing.{Marks, NamesKeepStanding, NamesSettle}
 use Rattle.auth_journal.specs.declared.error.Error.{Error}
 use Rattle.auth_journal.specs.declared.error.Error.TheVariants.{Merkle, Journal}
 
@@ -95,3 +95,13 @@ StandsWhileOpened s h digest spelling list marks r old new =
     IsOf s h (leaves_of s h spelling (take r.tree.tree.leaves list)) r.tree.tree →
     marks.durable ≤ r.end → marks.node_durable ≤ r.tree.complete →
     NamesKeepStanding s h digest spelling list marks r.items.name r.tree.log.name r.tree.metadata old new
+
+-- Where it goes on standing so, what is left of it after the call stands for the list's items up to the end: all of these
+-- are durable, and so are their nodes.
+abbrev pub SettlesOpened : {D Codec Item : Type 0} → Shape → Hashing D → (D → List ℕ) → (Item → List ℕ) → List Item → Marks
+    → Readied D Codec → State → State → Type 0
+SettlesOpened s h digest spelling list marks r old new =
+    IsReadyIn r old → Spells spelling list (log_of r.items old) → length list ≤ 2 ^ 62 →
+    IsOf s h (leaves_of s h spelling (take r.tree.tree.leaves list)) r.tree.tree →
+    marks.durable ≤ r.end → marks.node_durable ≤ r.tree.complete →
+    NamesSettle s h digest spelling list r.end marks r.items.name r.tree.log.name r.tree.metadata old new

@@ -19,7 +19,7 @@ impl<F: Family, C: Backing, H: Hasher> Recovery<F, C, H> {
     ghost use Rattle.auth_journal.specs.Aligning.{NotAligned};
     ghost use Rattle.auth_journal.specs.Errors.{IsLifted};
     ghost use Rattle.auth_journal.specs.Joined.{IsJoinedOf, leaves_of};
-    ghost use Rattle.auth_journal.specs.Opening.{IsReadyIn, IsOpenedFrom, StandsWhileOpened};
+    ghost use Rattle.auth_journal.specs.Opening.{IsReadyIn, IsOpenedFrom, StandsWhileOpened, SettlesOpened};
     ghost use Rattle.auth_journal.specs.Reading.{AreReadable};
     ghost use Rattle.auth_journal.specs.Standing.{Marks};
 
@@ -70,6 +70,9 @@ impl<F: Family, C: Backing, H: Hasher> Recovery<F, C, H> {
         // Where no more is durable than what stays, each image of all three goes on standing for the list.
         ensures images { V.tells → (list : List C.Item) (marks : Marks) → StandsWhileOpened F.shape H.hash
             H.Digest.spelling C.Item.spelling list marks self (V.state vol.old) (V.state vol.new) }
+        // What is then left of it stands for the items up to the end, and all of these are durable.
+        ensures settled { OnOk result (V.tells → (list : List C.Item) (marks : Marks) → SettlesOpened F.shape H.hash
+            H.Digest.spelling C.Item.spelling list marks self (V.state vol.old) (V.state vol.new)) }
         ensures changes { Changes V.tells Error.Volume (V.state vol.old) (V.state vol.new) result }
     {
         let journal = self.journal.finish(vol, self.end)?;

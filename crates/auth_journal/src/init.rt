@@ -23,7 +23,7 @@ impl<F: Family, C: Backing, H: Hasher> Journal<F, C, H> {
     ghost use Rattle.auth_journal.specs.Joined.{IsJoinedOf, leaves_of};
     ghost use Rattle.auth_journal.specs.Opening.{OpensUpTo, NotOpened, ShrinksToEnd};
     ghost use Rattle.auth_journal.specs.Searching.{EndsAt};
-    ghost use Rattle.auth_journal.specs.Standing.{Marks, NamesKeepStanding};
+    ghost use Rattle.auth_journal.specs.Standing.{Marks, NamesKeepStanding, NamesSettle};
 
     /// The journal up to the last item below a cap, or any, that a predicate accepts.
     fn open_under<V: Volume, P: Fn(&C::Item) -> bool>(
@@ -94,6 +94,15 @@ impl<F: Family, C: Backing, H: Hasher> Journal<F, C, H> {
             Spells C.Item.spelling list (log_of view old) → length list ≤ 2 ^ 62 →
             NamesKeepStanding F.shape H.hash H.Digest.spelling C.Item.spelling list marks
             view.name (string_bytes merkle_cfg.nodes) (string_bytes merkle_cfg.metadata) old (V.state vol.new) }
+        // What is then left of it stands for the items up to the end, and all of these are durable.
+        ensures settled { let view = C.config journal_cfg in let old = V.state vol.old in
+            let items = items_of C.Item.spelling C.Item.admits view old in
+            let says = FnReturnsAt P.Fn predicate in
+            IfOk result (λ t. V.tells → (list : List C.Item) (marks : Marks) →
+            ((end : ℕ) → EndsAt items says max_size end → (marks.durable ≤ end) × (marks.node_durable ≤ end)) →
+            Spells C.Item.spelling list (log_of view old) → length list ≤ 2 ^ 62 →
+            NamesSettle F.shape H.hash H.Digest.spelling C.Item.spelling list t.items.end marks
+            view.name (string_bytes merkle_cfg.nodes) (string_bytes merkle_cfg.metadata) old (V.state vol.new)) }
         ensures changes { Changes V.tells Error.Volume (V.state vol.old) (V.state vol.new) result }
     {
         let recovery = Journal::prepare(
@@ -180,6 +189,15 @@ impl<F: Family, C: Backing, H: Hasher> Journal<F, C, H> {
             Spells C.Item.spelling list (log_of view old) → length list ≤ 2 ^ 62 →
             NamesKeepStanding F.shape H.hash H.Digest.spelling C.Item.spelling list marks
             view.name (string_bytes merkle_cfg.nodes) (string_bytes merkle_cfg.metadata) old (V.state vol.new) }
+        // What is then left of it stands for the items up to the end, and all of these are durable.
+        ensures settled { let view = C.config journal_cfg in let old = V.state vol.old in
+            let items = items_of C.Item.spelling C.Item.admits view old in
+            let says = FnReturnsAt P.Fn predicate in
+            IfOk result (λ t. V.tells → (list : List C.Item) (marks : Marks) →
+            ((end : ℕ) → EndsAt items says None end → (marks.durable ≤ end) × (marks.node_durable ≤ end)) →
+            Spells C.Item.spelling list (log_of view old) → length list ≤ 2 ^ 62 →
+            NamesSettle F.shape H.hash H.Digest.spelling C.Item.spelling list t.items.end marks
+            view.name (string_bytes merkle_cfg.nodes) (string_bytes merkle_cfg.metadata) old (V.state vol.new)) }
         ensures changes { Changes V.tells Error.Volume (V.state vol.old) (V.state vol.new) result }
     {
         Journal::open_under(
@@ -265,6 +283,15 @@ impl<F: Family, C: Backing, H: Hasher> Journal<F, C, H> {
             Spells C.Item.spelling list (log_of view old) → length list ≤ 2 ^ 62 →
             NamesKeepStanding F.shape H.hash H.Digest.spelling C.Item.spelling list marks
             view.name (string_bytes merkle_cfg.nodes) (string_bytes merkle_cfg.metadata) old (V.state vol.new) }
+        // What is then left of it stands for the items up to the end, and all of these are durable.
+        ensures settled { let view = C.config journal_cfg in let old = V.state vol.old in
+            let items = items_of C.Item.spelling C.Item.admits view old in
+            let says = FnReturnsAt P.Fn predicate in
+            IfOk result (λ t. V.tells → (list : List C.Item) (marks : Marks) →
+            ((end : ℕ) → EndsAt items says (Some max_size) end → (marks.durable ≤ end) × (marks.node_durable ≤ end)) →
+            Spells C.Item.spelling list (log_of view old) → length list ≤ 2 ^ 62 →
+            NamesSettle F.shape H.hash H.Digest.spelling C.Item.spelling list t.items.end marks
+            view.name (string_bytes merkle_cfg.nodes) (string_bytes merkle_cfg.metadata) old (V.state vol.new)) }
         ensures changes { Changes V.tells Error.Volume (V.state vol.old) (V.state vol.new) result }
     {
         Journal::open_under(

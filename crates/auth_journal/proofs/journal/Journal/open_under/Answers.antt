@@ -25,6 +25,7 @@ use Rattle.auth_journal.specs.Standing.{NamesStand, NamesKeepStanding}
 use Rattle.auth_journal.specs.declared.error.Error.TheVariants as joined
 use Rattle.auth_journal.proofs.AlignLemmas.{changes_same}
 use Rattle.auth_journal.proofs.OpeningLemmas.{seen_items, keeps_behind}
+use Rattle.auth_journal.proofs.SettledLemmas.{opened_settled, renamed_settles}
 use Rattle.auth_journal.specs.Errors.{IsLifted}
 use Rattle.auth_journal.proofs.journal.Journal.open_under.Goals as goal
 
@@ -554,3 +555,25 @@ pub returns-in_err-opened-clause-lifted : goal.returns-in_err-opened-clause-lift
 returns-in_err-opened-clause-lifted g c =
     let e = c.in_err-opened.field-0.0 in
     err_same _ e IsLifted c.from_residual-in_err-opened.ensures.1 c.in_err-opened.ensures.lifted
+
+pub returns-clause-settled : goal.returns-clause-settled
+returns-clause-settled g c told list marks low run long has =
+    let s = g.F.Family.shape in
+    let h = g.H.Hasher.hash in
+    let digest = g.H.Digest.Spelled.spelling in
+    let spelling = g.C.Item.Spelled.spelling in
+    let s0 = g.V.Volume.state c.args.vol.now in
+    let s2 = g.V.Volume.state c.finish.new.vol in
+    let first = g.C.Backing.config c.args.journal_cfg in
+    let nodes = string_bytes c.args.merkle_cfg.nodes in
+    let metadata = string_bytes c.args.merkle_cfg.metadata in
+    let names = two_logs_and_map first.name nodes metadata in
+    let stands = (has (present s0) (names_of_image names s0 s0.clock (present s0) (g.met.V.Volume.contents_left c.args.vol.now told))).tree in
+    let here = now_after (NamesLeft names) (NamesStand s h digest spelling list marks first.name nodes metadata) s0 s2 (returns-clause-images g c told list marks low run long has) in
+    let t = c.in_ok-opened.opened in
+    let joined = returns-clause-joined g c told list marks.node_durable (s0.log first.name).start run long stands in
+    let durable = returns-clause-durable g c told in
+    let whole = opened_settled s h digest (g.H.Digest.Read.admits tt) spelling list marks t s2 g.met.F.Family.lawful (c.in_ok-opened.ensures {u = tt}).rests (returns-clause-whole g c) joined durable.0 durable.1 in
+    let is = returns-clause-tree_named g c in
+    renamed_settles s h digest spelling list t.items.end marks t.items.name t.tree.log.name t.tree.metadata first.name nodes metadata s2
+    (ap (λ (v : View g.row.C-Item-Cfg.Denot). v.name) (returns-clause-named g c).0) is.0 is.2 whole here

@@ -1,12 +1,12 @@
 use Rattle.std.proofs.Common.{◌≡◌, ◌≢◌, ◌≤◌, ◌^◌, ◌++◌, inl, List, Ok, Err, max, take, drop, length, map, false, refl, sym, ◌∙◌, ap, subst, arith}
 use Rattle.volume_base.specs.Log.{Log, Shrinks, end_of, cut_to}
-use Rattle.volume_base.specs.Moments.{present, LogKeeps}
+use Rattle.volume_base.specs.Moments.{present, LogKeeps, NamesLeft, Now}
 use Rattle.volume_base.specs.Names.{log_alone, two_logs_and_map, NamesCall}
 use Rattle.volume_base.specs.Volume.{Map, Follows, OnlyLeft}
 use Rattle.volume_base.specs.declared.error.JournalError.TheVariants as journal
 use Rattle.volume_base.proofs.CallLemmas.{names_call_log, names_call_joins}
 use Rattle.volume_base.proofs.JoinLemmas.{went_of_writes, went_joins, changes_of_writes, changes_joins}
-use Rattle.volume_base.proofs.NameLemmas.{durable_after}
+use Rattle.volume_base.proofs.NameLemmas.{durable_after, names_of_image}
 use Rattle.journal_base.specs.Items.{items_of, Spells}
 use Rattle.journal_base.specs.View.{View, SameButBounds, IsHeld, log_of, at_bounds}
 use Rattle.tree_core.specs.Tree.{IsOf}
@@ -20,11 +20,13 @@ use Rattle.auth_journal.specs.Aligning.{NotAligned}
 use Rattle.auth_journal.specs.Joined.{Joined, IsJoinedOf, leaves_of}
 use Rattle.auth_journal.specs.Opening.{Readied, IsSoundReady, IsReadyIn, IsOpenedFrom, StandsWhileOpened}
 use Rattle.auth_journal.specs.Reading.{AreReadable}
+use Rattle.auth_journal.specs.Standing.{NamesStand, all_synced}
 use Rattle.auth_journal.specs.declared.error.Error.TheVariants as joined
 use Rattle.auth_journal.proofs.AlignLemmas.{outside_above, changes_above, changes_same}
 use Rattle.auth_journal.proofs.LeafLemmas.{all_digests, length-leaves_of}
 use Rattle.auth_journal.proofs.OpenedLemmas.{Left, Stands, opened_as, cut_keeps, opened_keeps, caught_keeps, named_keeps, cut_at, leaves_split}
 use Rattle.auth_journal.proofs.ReadingLemmas.{run_end}
+use Rattle.auth_journal.proofs.SettledLemmas.{opened_settled, renamed_settles}
 use Rattle.auth_journal.proofs.StandingLemmas.{tree_beside}
 use Rattle.auth_journal.proofs.OpeningLemmas.{prepared_later, start_not, aligned_cut, readable_cut, names_of_tree, names_of_nodes, log_keeps_beside, keeps_cut, finish_joined, leaves_take}
 use Rattle.auth_journal.specs.Errors.{from_journal, from_tree, IsLifted}
@@ -749,3 +751,31 @@ pub returns-in_err-merkle-clause-lifted : goal.returns-in_err-merkle-clause-lift
 returns-in_err-merkle-clause-lifted g c =
     let e = c.in_err-merkle.field-0.0 in
     err_and _ e IsLifted c.from_residual-in_err-merkle.ensures.1 c.in_err-merkle.ensures.lifted
+
+pub returns-clause-settled : goal.returns-clause-settled
+returns-clause-settled g c told list marks ready run long of low_items low_nodes has =
+    let s = g.F.Family.shape in
+    let h = g.H.Hasher.hash in
+    let digest = g.H.Digest.Spelled.spelling in
+    let spelling = g.C.Item.Spelled.spelling in
+    let s0 = g.V.Volume.state c.args.vol.now in
+    let s3 = g.V.Volume.state c.catch_up.new.vol in
+    let r = c.args.self in
+    let names = two_logs_and_map r.items.name r.tree.log.name r.tree.metadata in
+    let Stands = NamesStand s h digest spelling list marks r.items.name r.tree.log.name r.tree.metadata in
+    let image = has (present s0) (names_of_image names s0 s0.clock (present s0) (g.met.V.Volume.contents_left c.args.vol.now told)) in
+    let stands = subst (λ (m : Map). TreeStands s h digest (leaves_of s h spelling list) marks.node_durable (s0.log r.items.name).start (s0.log r.tree.log.name) m) ready.tree.read image.tree in
+    let here = now_after (NamesLeft names) Stands s0 s3 (returns-clause-images g c told list marks ready run long of low_items low_nodes has) in
+    let j : Joined g.row.H-Digest.Denot g.row.C-Item-Cfg.Denot = record { items = g.C.Contiguous.view c.in_ok-journal.journal; tree = c.in_ok-merkle.merkle; bagging = c.self.inside.hasher; failed = false } in
+    let from = returns-clause-from g c in
+    let end : j.items.end ≡ r.end = (returns-clause-reached g c told ready).0 in
+    let joined = returns-clause-joined g c told list marks.node_durable (s0.log r.items.name).start ready run long stands of in
+    let at_end = subst (λ n. IsJoinedOf s h digest (g.H.Digest.Read.admits tt) spelling (take n list) j (present s3)) (sym end) joined in
+    let durable = returns-clause-durable g c told in
+    let item_name : j.items.name ≡ r.items.name = ap (λ (v : View g.row.C-Item-Cfg.Denot). v.name) from.items in
+    let node_name : j.tree.log.name ≡ r.tree.log.name = ap (λ (v : View (Unit {0})). v.name) from.log in
+    let item_log = subst (λ n. OnlyLeft (s3.log_left s3.clock n) (s3.log n)) (sym item_name) durable.0 in
+    let node_log = subst (λ n. OnlyLeft (s3.log_left s3.clock n) (s3.log n)) (sym node_name) durable.1 in
+    let whole = opened_settled s h digest (g.H.Digest.Read.admits tt) spelling list marks j s3 g.met.F.Family.lawful (c.in_ok-merkle.ensures {u = tt}).rests (c.in_ok-merkle.ensures {u = tt}).whole at_end item_log node_log in
+    let named = renamed_settles s h digest spelling list j.items.end marks j.items.name j.tree.log.name j.tree.metadata r.items.name r.tree.log.name r.tree.metadata s3 item_name node_name from.metadata whole in
+    subst (λ n. Now (NamesLeft names) (NamesStand s h digest spelling (take n list) (all_synced n marks) r.items.name r.tree.log.name r.tree.metadata) s3) end (named here)
