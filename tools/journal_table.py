@@ -243,7 +243,7 @@ def print_history(family, kind):
 
 
 def main():
-    pairs = (Mmr, Fixed), (Mmb, Variable)
+    pairs = [(family, kind) for family in (Mmr, Mmb) for kind in (Fixed, Variable)]
     for pair in pairs:
         print_rows(*pair)
     for pair in pairs:

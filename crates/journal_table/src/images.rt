@@ -79,10 +79,10 @@ fn parts_of(
         start: MOST,
         end: MOST,
     };
-    let (first, _) = picked(alloc, vol, log, least)?;
+    let (first, fewest) = picked(alloc, vol, log, least)?;
     let (last, most) = picked(alloc, vol, log, greatest)?;
     for start in first..last.saturating_add(1) {
-        for end in start..most.saturating_add(1) {
+        for end in start.max(fewest)..most.saturating_add(1) {
             let part = Part {
                 version,
                 start,

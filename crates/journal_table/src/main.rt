@@ -17,7 +17,11 @@ use tree_core::{Mmb, Mmr};
 
 fn main(rt: HostRuntime) -> Result<(), TableError> {
     print_rows::<Mmr, FixedJournal<u64>>(&rt, rt.alloc(), "mmr fixed")?;
+    print_rows::<Mmr, VariableJournal<Bytes>>(&rt, rt.alloc(), "mmr variable")?;
+    print_rows::<Mmb, FixedJournal<u64>>(&rt, rt.alloc(), "mmb fixed")?;
     print_rows::<Mmb, VariableJournal<Bytes>>(&rt, rt.alloc(), "mmb variable")?;
     print_history::<Mmr, FixedJournal<u64>>(&rt, rt.alloc(), "mmr fixed")?;
+    print_history::<Mmr, VariableJournal<Bytes>>(&rt, rt.alloc(), "mmr variable")?;
+    print_history::<Mmb, FixedJournal<u64>>(&rt, rt.alloc(), "mmb fixed")?;
     print_history::<Mmb, VariableJournal<Bytes>>(&rt, rt.alloc(), "mmb variable")
 }
