@@ -85,9 +85,9 @@ fn append_to<C: Backing, V: Volume>(
 
 impl<F: Family, C: Backing, H: Hasher> Journal<F, C, H> {
     ghost use Rattle.std.specs.Prelude.{◌⊎◌, ℕ, Err};
-    ghost use Rattle.tree_core.specs.Applied.{IsLonger, FitsTree, EndsAtTree, RefusedByTree};
+    ghost use Rattle.tree_core.specs.Applied.{IsLonger, FitsTree, EndsAtTree, Refused, RefusedByTree};
     ghost use Rattle.tree_core.specs.Batches.{IsSealedOf, sealed_node};
-    ghost use Rattle.tree_core.specs.Tree.{node_at};
+    ghost use Rattle.tree_core.specs.Tree.{node_at, IsOf};
     ghost use Rattle.tree_store.specs.Stored.{size};
     ghost use Rattle.tree_store.specs.declared.error.Error as tree_error;
     ghost use Rattle.tree_store.specs.declared.error.Error.TheVariants.{LocationOverflow};
@@ -246,6 +246,10 @@ impl<F: Family, C: Backing, H: Hasher> Journal<F, C, H> {
         ensures marked { OnOk result ((i : ℕ) × FitsTree F.shape self.tree.tree batch.now.nodes i) }
         ensures refused { (e : tree_error.Error F) → IsErrOf result (Error.Merkle e) →
             RefusedByTree F.shape self.tree.tree batch.now.nodes e × (vol.new ≡ vol.old) }
+        // Of a list's tree it refuses no batch that has the mark of that list.
+        ensures misfit { (e : tree_error.Error F) → IsErrOf result (Error.Merkle e) → (all : List H.Digest) →
+            IsOf F.shape H.hash all self.tree.tree →
+            Refused F.shape H.hash all self.tree.tree.leaves batch.now.nodes e }
         // Of any journal, whatever the volume holds.
         ensures lifted { IfErr result IsLifted }
         ensures overflow { (e : JournalError) → IsErrOf result (Error.Journal e) →

@@ -1,8 +1,16 @@
-use Rattle.std.proofs.Common.{◌≡◌, ◌≢◌, Global, List, ◌++◌, length, map, drop, refl, sym, ◌∙◌, ap, subst, arith, Ok, Err}
+use Rattle.std.proofs.Common.{◌≡◌, ◌≢◌, ◌≤◌, Global, List, ◌++◌, length, map, drop, refl, sym, ◌∙◌, ap, subst, arith, Ok, Err}
 use Rattle.std.specs.declared.rc.Rc.{Rc}
 use Rattle.codec_base.specs.declared.list.ListOf.{ListOf}
 use Rattle.journal_base.specs.View.{log_of}
-use Rattle.tree_core.specs.Batches.{IsSealedOf}
+use Rattle.std.specs.Prelude.{Result, IsErrOf}
+use Rattle.std.specs.Result.{IsErrAnd}
+use Rattle.tree_shape.specs.Shape.{Shape}
+use Rattle.tree_store.specs.Stored.{size}
+use Rattle.tree_store.specs.declared.error.Error as tree_error
+use Rattle.tree_store.specs.declared.error.Error.TheVariants as tree
+use Rattle.tree_core.specs.Applied.{EndsAtTree, Refused, RefusedByTree}
+use Rattle.tree_core.specs.Batches.{Sealed, IsSealedOf, sealed_node}
+use Rattle.tree_core.specs.Tree.{Tree, IsOf}
 use Rattle.volume_base.specs.Log.{end_of}
 use Rattle.volume_base.specs.Moments.{present}
 use Rattle.volume_base.specs.declared.error.JournalError.TheVariants as journal
@@ -10,6 +18,7 @@ use Rattle.merkle_full.specs.Lists.{AreDigests}
 use Rattle.auth_journal.specs.Appending.{Appends, unapplied}
 use Rattle.auth_journal.specs.Batched.{SealedItems, joined_items}
 use Rattle.auth_journal.specs.Joined.{Joined, IsJoinedOf, leaves_of}
+use Rattle.auth_journal.specs.declared.error.Error.{Error}
 use Rattle.auth_journal.specs.declared.error.Error.TheVariants as joined
 use Rattle.auth_journal.specs.Errors.{from_journal, from_tree, IsLifted}
 use Rattle.auth_journal.proofs.DurableLemmas.{err_and}
@@ -151,3 +160,60 @@ pub returns-in_err-journal-clause-lifted : goal.returns-in_err-journal-clause-li
 returns-in_err-journal-clause-lifted g c =
     let e = c.in_err-journal.field-0.0 in
     err_and _ (from_journal e) IsLifted c.from_residual-in_err-journal.ensures.1 (journal_lifted g.row.F.Denot e)
+
+-- ---- what the tree refuses
+
+refusal_is : {F D T : Type 0} (s : Shape) (t : Tree D) (b : Sealed D) (e d : tree_error.Error F) (result : Result T (Error F)) → RefusedByTree s t b e → IsErrAnd result (λ x. x ≡ from_tree e)
+    → IsErrOf result (joined.Merkle d) → e ≡ d
+refusal_is s t b e d (Ok x) why is at = absurd is
+refusal_is {F} s t b e d (Err x) why is at =
+    let here : x ≡ joined.Merkle d = cc in
+    by e why (sym is ∙ here)
+  where
+    by : (r : tree_error.Error F) → RefusedByTree s t b r → from_tree r ≡ joined.Merkle d → r ≡ d
+    by tree.StaleBatch told same = cc
+    by (tree.AncestorDropped m n) told same = cc
+    by tree.Memory told same = absurd cc
+    by r told same = absurd told
+
+pub returns-in_err-merkle-clause-refused : goal.returns-in_err-merkle-clause-refused
+returns-in_err-merkle-clause-refused g c e at =
+    let s = g.F.Family.shape in
+    let why = (c.in_err-merkle.ensures {u = tt}).answer in
+    let same = refusal_is s c.self.inside.merkle.tree c.batch.inside.nodes c.in_err-merkle.field-0.0 e _ why c.from_residual-in_err-merkle.ensures.1 at in
+    let here = subst (λ (x : tree_error.Error g.row.F.Denot). RefusedByTree s c.self.inside.merkle.tree c.batch.inside.nodes x) same why in
+    let there = subst (λ (j : Joined g.row.H-Digest.Denot g.row.C-Item-Cfg.Denot). RefusedByTree s j.tree.tree c.batch.inside.nodes e) c.self.view_is here in
+    (subst (λ (b : SealedItems g.row.H-Digest.Denot g.row.C-Item.Denot). RefusedByTree s c.args.self.tree.tree b.nodes e) c.batch.view_is there, refl)
+
+pub returns-in_err-merkle-clause-misfit : goal.returns-in_err-merkle-clause-misfit
+returns-in_err-merkle-clause-misfit g c e at all of =
+    let s = g.F.Family.shape in
+    let h = g.H.Hasher.hash in
+    let same = refusal_is s c.self.inside.merkle.tree c.batch.inside.nodes c.in_err-merkle.field-0.0 e _ (c.in_err-merkle.ensures {u = tt}).answer c.from_residual-in_err-merkle.ensures.1 at in
+    let tree = subst (λ (j : Joined g.row.H-Digest.Denot g.row.C-Item-Cfg.Denot). IsOf s h all j.tree.tree) (sym c.self.view_is) of in
+    let here = subst (λ (x : tree_error.Error g.row.F.Denot). Refused s h all c.self.inside.merkle.tree.leaves c.batch.inside.nodes x) same ((c.in_err-merkle.ensures {u = tt}).refused h all tree) in
+    let there = subst (λ (j : Joined g.row.H-Digest.Denot g.row.C-Item-Cfg.Denot). Refused s h all j.tree.tree.leaves c.batch.inside.nodes e) c.self.view_is here in
+    subst (λ (b : SealedItems g.row.H-Digest.Denot g.row.C-Item.Denot). Refused s h all c.args.self.tree.tree.leaves b.nodes e) c.batch.view_is there
+
+pub returns-in_err-place-clause-misfit : goal.returns-in_err-place-clause-misfit
+returns-in_err-place-clause-misfit g c e at all of =
+    let s = g.F.Family.shape in
+    let h = g.H.Hasher.hash in
+    let mem : c.mem.result.now ≡ c.args.self.tree.tree = c.mem.ensures ∙ ap (λ (j : Joined g.row.H-Digest.Denot g.row.C-Item-Cfg.Denot). j.tree.tree) c.self.view_is in
+    let same = refusal_is s c.mem.result.now c.batch.inside.nodes c.in_err-place.field-0.0 e _ (c.in_err-place.ensures {u = tt}).answer c.from_residual.ensures.1 at in
+    let tree = subst (IsOf s h all) (sym mem) of in
+    let here = subst (λ (x : tree_error.Error g.row.F.Denot). Refused s h all c.mem.result.now.leaves c.batch.inside.nodes x) same ((c.in_err-place.ensures {u = tt}).refused h all tree) in
+    let there = subst (λ (t : Tree g.row.H-Digest.Denot). Refused s h all t.leaves c.batch.inside.nodes e) mem here in
+    subst (λ (b : SealedItems g.row.H-Digest.Denot g.row.C-Item.Denot). Refused s h all c.args.self.tree.tree.leaves b.nodes e) c.batch.view_is there
+
+-- ---- the new nodes
+
+pub returns-clause-since : goal.returns-clause-since
+returns-clause-since g c p le =
+    let s = g.F.Family.shape in
+    let low = subst (λ (j : Joined g.row.H-Digest.Denot g.row.C-Item-Cfg.Denot). size s j.tree.tree.leaves ≤ p) (sym c.self.view_is) le in
+    (c.in_ok-merkle.ensures {u = tt}).since p low ∙ ap (λ (b : SealedItems g.row.H-Digest.Denot g.row.C-Item.Denot). sealed_node s b.nodes p) c.batch.view_is
+
+pub returns-clause-behind : goal.returns-clause-behind
+returns-clause-behind g c =
+    subst (λ (b : SealedItems g.row.H-Digest.Denot g.row.C-Item.Denot). EndsAtTree g.F.Family.shape b.nodes c.in_ok-merkle.merkle.tree) c.batch.view_is (c.in_ok-merkle.ensures {u = tt}).behind
