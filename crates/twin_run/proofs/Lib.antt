@@ -13,3 +13,4 @@ pub mod Handlers
 pub mod Writing
 pub mod Sealing
 pub mod NamesApart
+pub mod CompactLemmas

@@ -9,6 +9,7 @@ pub mod Told
 pub mod Lists
 pub mod Kind
 pub mod ListKind
+pub mod CompactKind
 pub mod StateOf
 pub mod Outcome
 pub mod Report

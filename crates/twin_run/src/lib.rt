@@ -2,6 +2,7 @@
 #![tactic(auto)]
 
 mod batch;
+mod compact_side;
 mod config;
 mod database;
 mod ending;
