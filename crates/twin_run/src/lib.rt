@@ -1,4 +1,5 @@
-//! A run of commands over one list in memory, which stands for both forms of the log, and the top call of the program `twins`.
+//! A run of commands over one list in memory, which stands for both forms of the log, and the top call of the program `twins`. The compact
+//! database can take the list's place.
 #![tactic(auto)]
 
 mod batch;
