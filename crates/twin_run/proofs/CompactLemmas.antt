@@ -47,7 +47,7 @@ value_by_last (x ∷ y ∷ ops) op at =
     value_by_last (y ∷ ops) op (rw n at at)
 
 -- what has a floor is a commit
-commit_by : (op : Operation) (metadata : Option (List ℕ)) (floor : ℕ) → meaning.floor op ≡ Some floor → meaning.value op ≡ metadata → op ≡ Commit metadata floor
+pub commit_by : (op : Operation) (metadata : Option (List ℕ)) (floor : ℕ) → meaning.floor op ≡ Some floor → meaning.value op ≡ metadata → op ≡ Commit metadata floor
 commit_by (Append value) metadata floor f v = absurd cc
 commit_by (Commit m k) metadata floor f v = let e : k ≡ floor = cc in rw (e, v) refl
 
@@ -99,7 +99,7 @@ written_start : (log : WitnessLog Mmr Sha256Digest) (w : Witness Mmr Sha256Diges
 written_start (Open store) w state here = refl
 written_start (Import cfg) w state here = absurd cc
 
-same_name : (was is : View (Unit {0})) → SameButBounds was is → is.name ≡ was.name
+pub same_name : (was is : View (Unit {0})) → SameButBounds was is → is.name ≡ was.name
 same_name was is same = ap (λ (v : View (Unit {0})). v.name) same
 
 -- a list without more

@@ -14,3 +14,4 @@ pub mod Writing
 pub mod Sealing
 pub mod NamesApart
 pub mod CompactLemmas
+pub mod CompactOpening

@@ -1,5 +1,5 @@
 -- What the compact database and its batches stand for.
-use Rattle.std.specs.Prelude.{◌≡◌, ℕ, ◌<◌, ◌≤◌, List, length, map, drop}
+use Rattle.std.specs.Prelude.{◌≡◌, ℕ, ◌<◌, ◌≤◌, List, length, map, take, drop}
 use Rattle.std.specs.List.{AllByRecursion}
 use Rattle.std.proofs.Common.{ap, refl, sym, ◌∙◌, subst}
 use Rattle.volume_base.specs.Log.{Log, end_of}
@@ -54,6 +54,15 @@ pub record IsCompactOf (kept : Kept) (image : Image) (db : CompactView) : Type 0
   pub held : IsHeldAt kept.ops kept.sizes db (at_rest image)
   pub few : length kept.sizes ≤ length kept.ops
   pub begins : (image.log (seen_log db.log).name).start ≡ kept.wstart
+
+-- What is kept of a list up to a size, which is the last of so many, from these places on.
+abbrev pub kept_to : List Operation → List ℕ → (count size start wstart : ℕ) → Kept
+kept_to ops sizes count size start wstart = record {
+  ops = take size ops;
+  sizes = take count sizes;
+  start = start;
+  wstart = wstart;
+}
 
 -- It reads no more of a volume than its log.
 pub held_over : (ops : List Operation) (sizes : List ℕ) (db : CompactView) (was is : State)

@@ -1,11 +1,25 @@
 //! The compact database, which keeps a witness of each applied state on a volume, as a database of the run.
-ghost use Rattle.twin_run.specs.CompactKind.{compact_kind};
+ghost use Rattle.std.specs.Prelude.{◌≡◌, ◌≢◌, ◌-◌, ◌≤◌, ℕ, List, Some, IfOk, IsErrOf, slice_get, string_bytes};
+ghost use Rattle.volume_base.specs.Log.{no_log};
+ghost use Rattle.volume_base.specs.Moments.{present};
+ghost use Rattle.volume_base.specs.Names.{log_alone, NamesCall};
+ghost use Rattle.volume_base.specs.Volume.{Changes};
+ghost use Rattle.tree_shape.specs.Mmr.{mmr};
+ghost use Rattle.tree_shape.specs.Sha256Codec.{bytes_of, IsDigest};
+ghost use Rattle.tree_shape.specs.declared.mmr.Mmr.{Mmr};
+ghost use Rattle.compact_db.specs.Held.{HasStates};
+ghost use Rattle.compact_db.specs.Opening.{IsLatest, witnesses_in};
+ghost use Rattle.twin_run.specs.CompactKind.{IsCompactOf, compact_kind, kept_to};
+ghost use Rattle.twin_run.specs.Kind.{kept_of};
+ghost use Rattle.twin_run.specs.Operation.{Operation, meaning, sha};
+ghost use Rattle.twin_run.specs.Trace.{fresh_state};
 
 use crate::database::Database;
 use crate::operation::Operation;
 use chain_core::{BatchId, Bounds, Commitment, Error, Pool};
-use codec_base::{Bytes, Duplicate};
-use compact_db::{CompactDb, MerkleizedBatch, UnmerkleizedBatch};
+use codec_base::{Bytes, Duplicate, LengthCfg, Read};
+use compact_db::{CompactConfig, CompactDb, MerkleizedBatch, UnmerkleizedBatch};
+use std::alloc::Global;
 use tree_shape::{Location, Mmr, Sha256Digest, Sha256Hasher};
 use volume_base::Volume;
 
@@ -97,4 +111,31 @@ impl Database for CompactDb<Mmr, Operation, Sha256Hasher> {
     ) -> Result<Self, Error<Mmr>> {
         self.apply_batch(volume, pool, id)
     }
+}
+
+/// The compact database of a log of witnesses, at the latest size within a cap. It refuses as `CompactDb::init`.
+pub fn open_compact<V: Volume>(
+    alloc: Global,
+    volume: &mut V,
+    cfg: CompactConfig<LengthCfg>,
+    cap: Option<Location<Mmr>>,
+) -> Result<CompactDb<Mmr, Operation, Sha256Hasher>, Error<Mmr>>
+    ensures bound { cap ≡ Some 0 → IsErrOf result Error.InvalidInitializationBound × (volume.new ≡ volume.old) }
+    // Of an empty log it is the database of the state in which a fresh volume is opened.
+    ensures fresh { cap ≢ Some 0 → V.tells → (V.state volume.old).log (string_bytes cfg.witness) ≡ no_log →
+        IfOk result (IsCompactOf (kept_of fresh_state) (present (V.state volume.new))) }
+    // Of a log with the witnesses of a list, it is the list's up to the latest size within the cap.
+    ensures held { cap ≢ Some 0 → V.tells →
+        let log = (V.state volume.old).log (string_bytes cfg.witness) in
+        IfOk result (λ db. (ops : List Operation) (sizes : List ℕ) (count size start : ℕ) →
+        HasStates {F = Mmr} mmr sha meaning ops sizes (witnesses_in bytes_of IsDigest log) →
+        IsLatest sizes log.start cap count size → count ≤ size →
+        ((op : Operation) → slice_get ops (size - 1) ≡ Some op → ⟦<Operation as Read>⟧.admits cfg.commit_codec op) →
+        IsCompactOf (kept_to ops sizes count size start log.start) (present (V.state volume.new)) db) }
+    ensures names { V.tells → NamesCall (log_alone (string_bytes cfg.witness)) (V.state volume.old)
+        (V.state volume.new) }
+    ensures same_names { IfOk result (λ db. compact_kind.names db ≡ log_alone (string_bytes cfg.witness)) }
+    ensures changes { cap ≢ Some 0 → Changes V.tells Error.Volume (V.state volume.old) (V.state volume.new) result }
+{
+    CompactDb::init(alloc, volume, cfg, cap)
 }

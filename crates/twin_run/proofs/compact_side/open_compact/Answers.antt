@@ -1,0 +1,20 @@
+use Rattle.std.proofs.Common.{sym, subst}
+use Rattle.std.specs.Prelude.{string_bytes}
+use Rattle.volume_base.specs.Names.{log_alone, NamesCall}
+use Rattle.volume_base.proofs.CallLemmas.{names_call_none}
+use Rattle.twin_run.proofs.CompactOpening.{either_cap, opened_fresh, opened_held}
+use Rattle.twin_run.proofs.compact_side.open_compact.Goals as goal
+
+pub returns-clause-fresh : goal.returns-clause-fresh
+returns-clause-fresh g c = λ capped told none. opened_fresh _ _ _ _ _ _ _ c.init.result (c.init.ensures.opens capped) told none
+
+pub returns-clause-held : goal.returns-clause-held
+returns-clause-held g c = λ capped told. opened_held _ _ _ _ _ _ _ c.init.result (c.init.ensures.opens capped) told
+
+pub returns-clause-names : goal.returns-clause-names
+returns-clause-names g c = λ told.
+    let state = g.V.Volume.state in
+    let names = log_alone (string_bytes c.args.cfg.witness) in
+    either_cap c.args.cap (NamesCall names (state c.args.volume.now) (state c.init.new.vol))
+    (λ none. subst (λ v. NamesCall names (state c.args.volume.now) (state v)) (sym (c.init.ensures.bound none).1) (names_call_none _ _))
+    (λ capped. (c.init.ensures.opens capped).names told)
