@@ -15,3 +15,5 @@ pub mod Sealing
 pub mod NamesApart
 pub mod CompactLemmas
 pub mod CompactOpening
+pub mod CompactSizes
+pub mod CompactStanding

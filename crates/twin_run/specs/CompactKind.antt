@@ -1,5 +1,5 @@
 -- What the compact database and its batches stand for.
-use Rattle.std.specs.Prelude.{◌≡◌, ℕ, ◌<◌, ◌≤◌, List, length, map, take, drop}
+use Rattle.std.specs.Prelude.{◌≡◌, ℕ, ◌^◌, ◌<◌, ◌≤◌, List, [], ◌∷◌, length, map, take, drop, Some, slice_get}
 use Rattle.std.specs.List.{AllByRecursion}
 use Rattle.std.proofs.Common.{ap, refl, sym, ◌∙◌, subst}
 use Rattle.volume_base.specs.Log.{Log, end_of}
@@ -11,6 +11,9 @@ use Rattle.tree_shape.specs.Sha256Codec.{bytes_of, IsDigest}
 use Rattle.tree_shape.specs.declared.mmr.Mmr.{Mmr}
 use Rattle.tree_shape.specs.declared.sha256.Sha256Digest.{Sha256Digest}
 use Rattle.codec_base.specs.declared.parts.LengthCfg.{LengthCfg}
+use Rattle.log_model.specs.Good.{IsGoodLog}
+use Rattle.log_model.specs.Machine as run
+use Rattle.log_model.specs.Witness.{last_bytes}
 use Rattle.witness_store.specs.Witness.{text_of, IsAllowed}
 use Rattle.witness_store.specs.Witnesses.{Keeps}
 use Rattle.compact_db.specs.Batches.{UnmerkleizedView, MerkleizedView, IsUnmerkleizedOf, IsMerkleizedOf, HasMarks, bounds_of, link_marks}
@@ -20,6 +23,7 @@ use Rattle.compact_db.specs.WitnessOf.{witness_of}
 use Rattle.compact_db.proofs.DbLemmas.{state_of_list, floor_of_list}
 use Rattle.twin_run.specs.Operation.{Operation, meaning, sha}
 use Rattle.twin_run.specs.Kind.{Kind, Kept}
+use Rattle.twin_run.specs.Step.{plain_commit}
 
 -- The compact database of the run, its sealed batches, and those that take appends.
 abbrev pub CompactView : Type 0
@@ -63,6 +67,15 @@ kept_to ops sizes count size start wstart = record {
   start = start;
   wstart = wstart;
 }
+
+-- What stands on the volume of a state can be opened: its list begins with the first commit, a tree can hold it, and each
+-- operation is allowed and has less than 2^64 bytes.
+pub record IsOpenable (allowed : Operation → Type 0) (s : run.State Operation) : Type 0 where
+  pub log : IsGoodLog meaning s
+  pub begins : take 1 s.ops ≡ plain_commit ∷ []
+  pub few : length s.ops ≤ 2 ^ 62
+  pub allows : (i : ℕ) (op : Operation) → slice_get s.ops i ≡ Some op → allowed op
+  pub short : (n : ℕ) → length (last_bytes mmr sha meaning s.ops n) < 2 ^ 64
 
 -- It reads no more of a volume than its log.
 pub held_over : (ops : List Operation) (sizes : List ℕ) (db : CompactView) (was is : State)

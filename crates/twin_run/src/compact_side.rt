@@ -7,9 +7,12 @@ ghost use Rattle.volume_base.specs.Volume.{Changes};
 ghost use Rattle.tree_shape.specs.Mmr.{mmr};
 ghost use Rattle.tree_shape.specs.Sha256Codec.{bytes_of, IsDigest};
 ghost use Rattle.tree_shape.specs.declared.mmr.Mmr.{Mmr};
+ghost use Rattle.log_model.specs.Machine.{State};
+ghost use Rattle.log_model.specs.Opening.{last_kept, opened_at};
+ghost use Rattle.log_model.specs.Stored.{DatabaseNames, CompactStands};
 ghost use Rattle.compact_db.specs.Held.{HasStates};
 ghost use Rattle.compact_db.specs.Opening.{IsLatest, witnesses_in};
-ghost use Rattle.twin_run.specs.CompactKind.{IsCompactOf, compact_kind, kept_to};
+ghost use Rattle.twin_run.specs.CompactKind.{IsCompactOf, IsOpenable, compact_kind, kept_to};
 ghost use Rattle.twin_run.specs.Kind.{kept_of};
 ghost use Rattle.twin_run.specs.Operation.{Operation, meaning, sha};
 ghost use Rattle.twin_run.specs.Trace.{fresh_state};
@@ -132,6 +135,16 @@ pub fn open_compact<V: Volume>(
         IsLatest sizes log.start cap count size → count ≤ size →
         ((op : Operation) → slice_get ops (size - 1) ≡ Some op → ⟦<Operation as Read>⟧.admits cfg.commit_codec op) →
         IsCompactOf (kept_to ops sizes count size start log.start) (present (V.state volume.new)) db) }
+    // Of a log that stands for a state, under a cap at or past what is durable, it is the state's at the last applied
+    // size within the cap whose witness is kept.
+    ensures opened { V.tells → let log = (V.state volume.old).log (string_bytes cfg.witness) in
+        IfOk result (λ db. (names : DatabaseNames) (s : State Operation) (most : ℕ) →
+        names.witness ≡ string_bytes cfg.witness → cap ≡ Some most → 1 ≤ most → s.durable ≤ most →
+        IsOpenable (⟦<Operation as Read>⟧.admits cfg.commit_codec) s →
+        CompactStands mmr sha bytes_of meaning s.ops s.sizes s.prune s.durable log →
+        let before = present (V.state volume.old) in
+        IsCompactOf (kept_of (opened_at names s before (last_kept most log 1 0 s.sizes)))
+        (present (V.state volume.new)) db) }
     ensures names { V.tells → NamesCall (log_alone (string_bytes cfg.witness)) (V.state volume.old)
         (V.state volume.new) }
     ensures same_names { IfOk result (λ db. compact_kind.names db ≡ log_alone (string_bytes cfg.witness)) }

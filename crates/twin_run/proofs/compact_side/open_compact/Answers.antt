@@ -3,6 +3,7 @@ use Rattle.std.specs.Prelude.{string_bytes}
 use Rattle.volume_base.specs.Names.{log_alone, NamesCall}
 use Rattle.volume_base.proofs.CallLemmas.{names_call_none}
 use Rattle.twin_run.proofs.CompactOpening.{either_cap, opened_fresh, opened_held}
+use Rattle.twin_run.proofs.CompactStanding.{opened_state}
 use Rattle.twin_run.proofs.compact_side.open_compact.Goals as goal
 
 pub returns-clause-fresh : goal.returns-clause-fresh
@@ -10,6 +11,9 @@ returns-clause-fresh g c = λ capped told none. opened_fresh _ _ _ _ _ _ _ c.ini
 
 pub returns-clause-held : goal.returns-clause-held
 returns-clause-held g c = λ capped told. opened_held _ _ _ _ _ _ _ c.init.result (c.init.ensures.opens capped) told
+
+pub returns-clause-opened : goal.returns-clause-opened
+returns-clause-opened g c = λ told. opened_state _ _ _ _ _ _ _ c.init.result c.init.ensures.opens told
 
 pub returns-clause-names : goal.returns-clause-names
 returns-clause-names g c = λ told.
