@@ -1,3 +1,5 @@
 pub mod SealLemmas
 pub mod DbLemmas
 pub mod MadeLemmas
+pub mod LiftLemmas
+pub mod HeldLemmas

@@ -1,5 +1,5 @@
 -- What a database tells of itself, and of which list it is.
-use Rattle.std.specs.Prelude.{◌≡◌, ℕ, ◌-◌, ◌^◌, ◌≤◌, List, [], ◌∷◌, length, Some, slice_get}
+use Rattle.std.specs.Prelude.{◌≡◌, ℕ, ◌-◌, ◌^◌, ◌<◌, ◌≤◌, List, [], ◌∷◌, length, Some, slice_get}
 use Rattle.volume_base.specs.Moments.{Image}
 use Rattle.tree_shape.specs.Hashing.{Hashing}
 use Rattle.tree_shape.specs.Shape.{Shape}
@@ -24,6 +24,16 @@ pub record IsSoundDb {F D Cfg : Type 0} (journal : Joined D Cfg) (state : Commit
   pub few : state.size ≤ 2 ^ 62
   pub folded : journal.bagging ≡ ForwardFold
 
+-- But for its log and its tree it is the same database.
+pub record SameState {F D Op Cfg : Type 0} (old new : DbView F D Op Cfg) : Type 0 where
+  pub state : new.state ≡ old.state
+  pub commit : new.commit ≡ old.commit
+
+-- It is the last of these operations; where there are none, the one of before.
+pub record EndsAs {Op : Type 0} (own : List Op) (before op : Op) : Type 0 where
+  pub some : 0 < length own → slice_get own (length own - 1) ≡ Some op
+  pub none : length own ≡ 0 → op ≡ before
+
 module _ {F D Op Cfg V : Type 0} (m : Meaning Op V) where
   -- The floor of its last commit.
   abbrev pub floor_in : DbView F D Op Cfg → ℕ
@@ -47,10 +57,10 @@ module _ {F D Op V Cfg : Type 0} (s : Shape) (h : Hashing D) (m : Meaning Op V) 
     pub state_is : db.state ≡ commitment_of s h m ops
     pub commit_is : slice_get ops (length ops - 1) ≡ Some db.commit
 
-  -- It is the database of this list, and the volume holds it: the log is a run of the list, with the list's tree beside it, whose nodes are kept
-  -- from where the log begins on.
-  pub record IsHeldFor (digest : D → List ℕ) (admits : D → Type 0) (spelling : Op → List ℕ) (ops : List Op) (db : DbView F D Op Cfg)
-      (image : Image) : Type 0 where
+  -- It is the database of this list, and the volume holds it: the log is a run of the list, with the list's tree
+  -- beside it, whose nodes are kept from where the log begins on.
+  pub record IsHeldFor (digest : D → List ℕ) (admits : D → Type 0) (spelling : Op → List ℕ) (ops : List Op)
+      (db : DbView F D Op Cfg) (image : Image) : Type 0 where
     pub db_of : IsDbOf ops db
     pub journal : IsJoinedOf s h digest admits spelling ops db.journal image
     pub low : db.journal.tree.boundary ≤ db.journal.items.start

@@ -1,2 +1,4 @@
 pub mod DbView
 pub mod Batches
+pub mod Errors
+pub mod Durable

@@ -3,8 +3,10 @@
 
 mod batch;
 mod database;
+mod errors;
 mod operation;
 mod sealing;
+mod syncing;
 
 pub use batch::{MerkleizedBatch, UnmerkleizedBatch};
 pub use database::Keyless;
