@@ -5,6 +5,7 @@ mod batch;
 mod database;
 mod errors;
 mod operation;
+mod pruning;
 mod sealing;
 mod syncing;
 
