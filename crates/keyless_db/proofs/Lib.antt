@@ -3,3 +3,4 @@ pub mod DbLemmas
 pub mod MadeLemmas
 pub mod LiftLemmas
 pub mod HeldLemmas
+pub mod ApplyLemmas

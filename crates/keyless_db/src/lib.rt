@@ -1,6 +1,7 @@
 //! The database that keeps a log without keys whole: each operation, and the tree of all.
 #![tactic(auto)]
 
+mod applying;
 mod batch;
 mod database;
 mod errors;
