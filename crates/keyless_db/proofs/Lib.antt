@@ -4,3 +4,4 @@ pub mod MadeLemmas
 pub mod LiftLemmas
 pub mod HeldLemmas
 pub mod ApplyLemmas
+pub mod BeginLemmas

@@ -3,6 +3,7 @@
 
 mod applying;
 mod batch;
+mod beginning;
 mod database;
 mod errors;
 mod operation;
@@ -11,5 +12,6 @@ mod sealing;
 mod syncing;
 
 pub use batch::{MerkleizedBatch, UnmerkleizedBatch};
+pub use beginning::initial_root;
 pub use database::Keyless;
 pub use operation::KeylessOperation;
