@@ -5,3 +5,4 @@ pub mod LiftLemmas
 pub mod HeldLemmas
 pub mod ApplyLemmas
 pub mod BeginLemmas
+pub mod MarkLemmas

@@ -19,6 +19,7 @@ use Rattle.chain_core.specs.declared.pool.HeldBatch.{HeldBatch}
 use Rattle.chain_core.proofs.ChainLemmas.{ends_last, floor_last, seal_room, sealed_bounds}
 use Rattle.chain_core.proofs.StateLemmas.{whole, state_of_front}
 use Rattle.keyless_db.specs.Batches.{UnmerkleizedView, MerkleizedView, IsSoundUnmerkleized, IsSoundMerkleized, IsUnmerkleizedOf, IsMerkleizedOf, bounds_of, own_items}
+use Rattle.keyless_db.proofs.MarkLemmas.{sealed_counted}
 use Rattle.keyless_db.proofs.SealLemmas.{own_count, more_items, more_leaves}
 
 module _ {F D Op V : Type 0} (s : Shape) (h : Hashing D) (m : Meaning Op V) (spelling : Op → List ℕ) (list : List Op) (pool : List (Option (HeldBatch (MerkleizedView F D Op))))
@@ -94,6 +95,7 @@ sound_made s h spelling u base sound op reached t from bounds base_is tip few =
       few = few;
       own = omega (arith, count, tip, base_is);
       folded = from.bagging ∙ sound.folded;
+      counted = sealed_counted s h spelling u op reached t from sound.counted;
       snapshot_db = λ none. absurd (omega (arith, none, count));
       snapshot_ancestors = λ none. absurd (omega (arith, none, count));
     }

@@ -4,7 +4,8 @@ use chain_core::{BatchId, Bounds, Chained, Commitment, Error, Pool};
 use std::marker::Model;
 use tree_core::{Digest, Family, Hasher, Location, MAX_LEAVES};
 
-/// A batch that still collects. Contracts see it as its operations with what it has of the tree, its base and its parent's number.
+/// A batch that still collects. Contracts see it as its operations with what it has of the tree, its base and its
+/// parent's number.
 #[derive(Drop)]
 pub struct UnmerkleizedBatch<F: Family, H: Hasher, O: KeylessOperation> {
     pub(crate) tree: auth_journal::UnmerkleizedBatch<F, H, O>,
@@ -79,8 +80,8 @@ impl<F: Family, H: Hasher, O: KeylessOperation> UnmerkleizedBatch<F, H, O> {
         pool.release_link(&self.parent);
     }
 
-    /// Appends a value. It refuses with `Merkle(LocationOverflow(size + 1))` where the batch has `MAX_LEAVES` operations, and is
-    /// then as before.
+    /// Appends a value. It refuses with `Merkle(LocationOverflow(size + 1))` where the batch has `MAX_LEAVES`
+    /// operations, and is then as before.
     pub fn append(&mut self, value: O::Value) -> Result<(), Error<F>>
     where
         O::Value: Drop,
@@ -121,9 +122,11 @@ impl<F: Family, D: Digest, O: KeylessOperation> MerkleizedBatch<F, D, O> {
         ensures held { OnOk result (pool.new ≡ link_held pool.old (Some id)) }
         ensures err { OnErr result (pool.new ≡ pool.old) }
         ensures parent { IfOk result (λ b. b.parent ≡ Some id) }
-        ensures base { IfOk result (λ b. (p : MerkleizedView F D O) → item_at pool.old id ≡ Some p → b.base ≡ p.bounds.tip) }
+        ensures base { IfOk result (λ b. (p : MerkleizedView F D O) → item_at pool.old id ≡ Some p →
+            b.base ≡ p.bounds.tip) }
         // It is empty, and has the parent's operations and those that the parent keeps.
-        ensures child { IfOk result (λ b. (p : MerkleizedView F D O) → item_at pool.old id ≡ Some p → AreChildOf p.tree b.tree) }
+        ensures child { IfOk result (λ b. (p : MerkleizedView F D O) → item_at pool.old id ≡ Some p →
+            AreChildOf p.tree b.tree) }
         ensures list { IfOk result (λ b. (p : MerkleizedView F D O) → item_at pool.old id ≡ Some p → (list : List O) →
             IsMerkleizedOf F.shape H.hash O.meaning O.spelling list p →
             IsUnmerkleizedOf F.shape H.hash O.meaning O.spelling list b) }

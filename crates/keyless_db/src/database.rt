@@ -8,8 +8,8 @@ use std::marker::Model;
 use tree_core::{Family, Hasher, Location};
 use volume_base::Volume;
 
-/// A database that keeps its list of operations whole, with the tree of all of them. Contracts see its log with the tree, its state by size and
-/// root, and its last commit.
+/// A database that keeps its list of operations whole, with the tree of all of them. Contracts see its log with the
+/// tree, its state by size and root, and its last commit.
 #[derive(Drop)]
 pub struct Keyless<F: Family, O: KeylessOperation, C: Backing<Item = O>, H: Hasher> {
     pub(crate) alloc: Global,
@@ -30,12 +30,13 @@ impl<F: Family, O: KeylessOperation, C: Backing<Item = O>, H: Hasher> Model
 }
 
 impl<F: Family, O: KeylessOperation, C: Backing<Item = O>, H: Hasher> Keyless<F, O, C, H> {
-    ghost use Rattle.std.specs.Prelude.{◌≡◌, ◌↔◌, ◌<◌, ◌≤◌, ◌^◌, ◌-◌, [], ◌∷◌, ◌++◌, List, length, Some, None, IsOk, IfOk, OnOk, OnErr, IsOkUnless, Contains};
+    ghost use Rattle.std.specs.Prelude.{◌≡◌, ◌↔◌, ◌<◌, ◌≤◌, ◌^◌, ◌-◌, [], ◌∷◌, ◌++◌, List, length, Some, None, IsOk};
+    ghost use Rattle.std.specs.Prelude.{IfOk, OnOk, OnErr, IsOkUnless, Contains};
     ghost use Rattle.volume_base.specs.Moments.{Image};
     ghost use Rattle.tree_core.specs.Batches.{BeginsAt};
     ghost use Rattle.chain_core.specs.Reached.{item_at};
     ghost use Rattle.chain_core.specs.Slots.{IsAlive};
-    ghost use Rattle.keyless_db.specs.Batches.{MerkleizedView, IsUnmerkleizedOf, IsMerkleizedOf, own_items};
+    ghost use Rattle.keyless_db.specs.Batches.{MerkleizedView, IsUnmerkleizedOf, IsMerkleizedOf, HasMarks, own_items};
     ghost use Rattle.keyless_db.specs.DbView.{IsHeldFor, floor_in, snapshot_of};
 
     /// The root of the applied list.
@@ -98,7 +99,8 @@ impl<F: Family, O: KeylessOperation, C: Backing<Item = O>, H: Hasher> Keyless<F,
         ensures parent { IfOk result (λ b. b.parent ≡ None) }
         ensures base { IfOk result (λ b. b.base ≡ self.now.state) }
         ensures list { IfOk result (λ b. (ops : List O) (image : Image) →
-            IsHeldFor F.shape H.hash O.meaning H.Digest.spelling (H.Digest.Read.admits tt) O.spelling ops self.now image →
+            IsHeldFor F.shape H.hash O.meaning H.Digest.spelling (H.Digest.Read.admits tt) O.spelling ops
+            self.now image →
             IsUnmerkleizedOf F.shape H.hash O.meaning O.spelling ops b) }
         ensures memory { IsOkUnless result Error.Memory }
     {
@@ -121,9 +123,10 @@ impl<F: Family, O: KeylessOperation, C: Backing<Item = O>, H: Hasher> Keyless<F,
         ensures number { IfOk result (λ id. id ≡ length pool.old) }
         ensures inserted { OnOk result ((b : MerkleizedView F H.Digest O)
             × (pool.new ≡ pool.old ++ Some (record { item = b; parent = None; holds = 1 }) ∷ [])
-            × (b.tree.items ≡ [] ∷ []) × (b.bounds ≡ snapshot_of O.meaning self.now)
+            × (b.tree.items ≡ [] ∷ []) × (b.bounds ≡ snapshot_of O.meaning self.now) × HasMarks b
             × ((ops : List O) (image : Image) →
-            IsHeldFor F.shape H.hash O.meaning H.Digest.spelling (H.Digest.Read.admits tt) O.spelling ops self.now image →
+            IsHeldFor F.shape H.hash O.meaning H.Digest.spelling (H.Digest.Read.admits tt) O.spelling ops
+            self.now image →
             IsMerkleizedOf F.shape H.hash O.meaning O.spelling ops b)) }
         ensures err { OnErr result (pool.new ≡ pool.old) }
         ensures memory { IsOkUnless result Error.Memory }
@@ -138,7 +141,8 @@ impl<F: Family, O: KeylessOperation, C: Backing<Item = O>, H: Hasher> Keyless<F,
         }
     }
 
-    /// Whether a batch may be applied here: at its boundary, or at the tip of an ancestor. It refuses with `StaleBatch`.
+    /// Whether a batch may be applied here: at its boundary, or at the tip of an ancestor. It refuses with
+    /// `StaleBatch`.
     pub fn validate_batch(
         &self,
         pool: &Pool<MerkleizedBatch<F, H::Digest, O>>,

@@ -35,10 +35,12 @@ pub trait KeylessOperation: Logged + EncodeSize + Read + Duplicate + Drop {
     ghost appends: { (value : Self.Value) → Self.meaning.floor (appended value) ≡ None };
 
     /// A commit has its floor.
-    ghost floored: { (metadata : Option Self.Value) (floor : ℕ) → Self.meaning.floor (committed metadata floor) ≡ Some floor };
+    ghost floored: { (metadata : Option Self.Value) (floor : ℕ) →
+        Self.meaning.floor (committed metadata floor) ≡ Some floor };
 
     /// It has its metadata.
-    ghost valued: { (metadata : Option Self.Value) (floor : ℕ) → Self.meaning.value (committed metadata floor) ≡ metadata };
+    ghost valued: { (metadata : Option Self.Value) (floor : ℕ) →
+        Self.meaning.value (committed metadata floor) ≡ metadata };
 }
 
 impl<F: Family, V: Codec> KeylessOperation for Operation<F, V> {

@@ -28,6 +28,7 @@ returns-in-Ok-insert-clause-inserted g c =
           c.inactivity_floor_loc-below.ensures c.in-Ok.ensures.sealed),
       c.in-Ok.ensures.tree,
       c.in-Ok.ensures.list,
+      c.in-Ok.ensures.marks,
     )
 
 pub insert-requires-clause-room : goal.insert-requires-clause-room

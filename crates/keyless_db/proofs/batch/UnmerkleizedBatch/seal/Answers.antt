@@ -9,6 +9,7 @@ use Rattle.chain_core.proofs.ChainLemmas.{told_by, may_here, seal_room}
 use Rattle.keyless_db.specs.Batches.{UnmerkleizedView, bounds_of, own_items, sealing_of}
 use Rattle.keyless_db.proofs.SealLemmas.{own_is}
 use Rattle.keyless_db.proofs.MadeLemmas.{made_with, sound_made}
+use Rattle.keyless_db.proofs.MarkLemmas.{sealed_marks}
 use Rattle.keyless_db.proofs.batch.UnmerkleizedBatch.seal.Goals as goal
 
 pub returns-in-Err-clause-refused : goal.returns-in-Err-clause-refused
@@ -98,3 +99,16 @@ returns-clause-list g c list of chain =
     (c.new-below_tip.ensures ∙ c.as_u64-3.ensures ∙ last ∙ ap (λ (os : List g.row.O.Denot). floor_of m (list ++ os)) (sym ops))
     ∙ ap (λ (os : List g.row.O.Denot). root_of s h m (list ++ os)) ops)
     c.self.inside.base base
+
+pub returns-clause-marks : goal.returns-clause-marks
+returns-clause-marks g c list of on =
+    let s = g.F.Family.shape in
+    let h = g.H.Hasher.hash in
+    let m = g.O.Logged.meaning in
+    let spelling = g.O.Spelled.spelling in
+    let at : IsPlaceOf bounds_of c.args.pool.now c.args.self.parent c.args.self.base c.args.below c.in-Ok.place =
+    subst (λ (b : UnmerkleizedView g.row.F.Denot g.row.H-Digest.Denot g.row.O.Denot). IsPlaceOf bounds_of c.args.pool.now b.parent b.base c.args.below c.in-Ok.place)
+    c.self.view_is c.in-Ok.ensures.place in
+    let begins = subst (λ (b : UnmerkleizedView g.row.F.Denot g.row.H-Digest.Denot g.row.O.Denot). b.tree.nodes.base ≡ b.base.size) c.self.view_is c.self.invariant.begins in
+    let counted = subst (λ (b : UnmerkleizedView g.row.F.Denot g.row.H-Digest.Denot g.row.O.Denot). length b.tree.kept ≡ length b.tree.nodes.links) c.self.view_is c.self.invariant.counted in
+    sealed_marks s h m spelling list c.args.pool.now c.args.self c.args.below c.in-Ok.place _ c.in_ok-tree.tree.nodes at c.requires of on (returns-clause-tree g c).nodes counted begins

@@ -1,8 +1,10 @@
-use Rattle.std.proofs.Common.{◌≡◌, sym, subst}
+use Rattle.std.proofs.Common.{◌≡◌, sym, ◌∙◌, ap, subst}
 use Rattle.auth_journal.specs.Joined.{IsJoinedOf}
 use Rattle.chain_core.proofs.ChainLemmas.{bounds_by}
+use Rattle.chain_core.specs.declared.bounds.Bounds.{Bounds}
 use Rattle.keyless_db.specs.DbView.{DbView, snapshot_of}
 use Rattle.keyless_db.proofs.DbLemmas.{snapshot_is}
+use Rattle.keyless_db.proofs.MarkLemmas.{snapshot_marks}
 use Rattle.keyless_db.proofs.database.Keyless.to_batch.Goals as goal
 
 pub returns-in-Ok-insert-clause-inserted : goal.returns-in-Ok-insert-clause-inserted
@@ -13,6 +15,10 @@ returns-in-Ok-insert-clause-inserted g c =
       c.in-Ok-insert.ensures.ok,
       c.in-Ok.ensures.empty.1,
       bounds,
+      snapshot_marks g.F.Family.shape c.self.inside.journal.tree.tree c.in-Ok.tree.nodes c.in_ok-bounds.bounds c.in-Ok.ensures.stands c.in-Ok.ensures.marked.1
+          (c.self.invariant.size ∙ ap (λ (d : DbView g.row.F.Denot g.row.H-Digest.Denot g.row.O.Denot g.row.O-Cfg.Denot). d.state.size) c.self.view_is
+          ∙ sym (ap (λ (b : Bounds g.row.F.Denot g.row.H-Digest.Denot). b.db.size) bounds))
+          (ap (λ (b : Bounds g.row.F.Denot g.row.H-Digest.Denot). b.ancestors) bounds),
       λ ops image held.
           let journal : IsJoinedOf g.F.Family.shape g.H.Hasher.hash g.H.Digest.Spelled.spelling (g.H.Digest.Read.admits tt) g.O.Spelled.spelling ops c.self.inside.journal image =
           subst (λ (d : DbView g.row.F.Denot g.row.H-Digest.Denot g.row.O.Denot g.row.O-Cfg.Denot).
