@@ -134,7 +134,8 @@ impl<F: Family, O: KeylessOperation, C: Backing<Item = O>, H: Hasher> Keyless<F,
         let Ok(tree) = self.journal.to_merkleized_batch() else {
             return Err(Error::Memory);
         };
-        let bounds = Bounds::from_db(self.alloc, self.commitment(), self.inactivity_floor_loc())?;
+        let floor = self.inactivity_floor_loc();
+        let bounds = Bounds::from_db(self.alloc, self.commitment(), floor)?;
         match pool.insert(MerkleizedBatch { tree, bounds }, None) {
             Ok(id) => Ok(id),
             Err(_) => Err(Error::Memory),

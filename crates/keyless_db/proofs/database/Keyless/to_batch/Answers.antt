@@ -10,7 +10,7 @@ use Rattle.keyless_db.proofs.database.Keyless.to_batch.Goals as goal
 pub returns-in-Ok-insert-clause-inserted : goal.returns-in-Ok-insert-clause-inserted
 returns-in-Ok-insert-clause-inserted g c =
     let bounds : c.in_ok-bounds.bounds ≡ snapshot_of g.O.Logged.meaning c.args.self.now =
-    bounds_by _ c.in_ok-bounds.bounds _ _ _ _ c.in_ok-bounds.ensures c.commitment.ensures c.inactivity_floor_loc.ensures in (
+    bounds_by _ c.in_ok-bounds.bounds _ _ _ _ c.in_ok-bounds.ensures c.commitment.ensures c.inactivity_floor_loc-floor.ensures in (
       _,
       c.in-Ok-insert.ensures.ok,
       c.in-Ok.ensures.empty.1,
