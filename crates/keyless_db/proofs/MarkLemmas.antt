@@ -1,17 +1,25 @@
--- The marks of a batch's segments: one behind each state of its chain.
-use Rattle.std.proofs.Common.{◌≡◌, ℕ, ◌+◌, ◌-◌, ◌≤◌, List, [], ◌∷◌, ◌++◌, length, drop, Some, refl, sym, ◌∙◌, ap, subst, arith}
-use Rattle.std.specs.Prelude.{Option, min, reverse}
+-- The marks of a batch's segments: one behind each state of its chain, and where a tree takes the batch.
+use Rattle.std.proofs.Common.{◌≡◌, ℕ, zero, suc, ◌+◌, ◌-◌, ◌≤◌, List, [], ◌∷◌, ◌++◌, length, drop, map, Some, refl, sym, ◌∙◌, ap, subst, arith}
+use Rattle.std.specs.Prelude.{Option, Contains, min, reverse, slice_get}
 use Rattle.std.specs.List.{AllByRecursion}
-use Rattle.std.specs.Option.{ForSome}
-use Rattle.std.proofs.lemmas.List.{length-map, length-append, length-drop, map-append, drop-map}
+use Rattle.std.specs.Option.{ForSome, option_map}
+use Rattle.std.proofs.lemmas.List.{length-map, length-append, length-drop, map-append, drop-map, reverse-append}
+use Rattle.std.proofs.lemmas.Option.{slice_get-map, slice_get-get_or}
 use Rattle.tree_shape.specs.Hashing.{Hashing}
-use Rattle.tree_shape.specs.Shape.{Shape}
-use Rattle.tree_core.specs.Applied.{FitsTree}
+use Rattle.tree_shape.specs.Shape.{Shape, IsLawful}
+use Rattle.tree_store.specs.declared.error.Error as tree_error
+use Rattle.tree_store.specs.declared.error.Error.TheVariants as tree
+use Rattle.tree_core.specs.Applied.{Fits, FitsTree, Refused}
 use Rattle.tree_core.specs.Batches.{Sealed, Unsealed, StandsAt, IsSealedFrom, with_digests}
-use Rattle.tree_core.specs.Links.{ChainSegment, IsLinkedOf}
+use Rattle.tree_core.specs.Links.{ChainSegment, HasMark, IsLinkedOf}
+use Rattle.tree_core.specs.Pruned.{peaks_at}
 use Rattle.tree_core.specs.Tree.{Tree}
-use Rattle.auth_journal.specs.Batched.{SealedItems, UnsealedItems, AreSealedFrom, with_item}
+use Rattle.tree_core.proofs.Later.{peaks_at-append}
+use Rattle.auth_journal.specs.Batched.{SealedItems, UnsealedItems, AreSealedFrom, leaves_from, with_item}
+use Rattle.auth_journal.specs.Errors.{IsLifted}
 use Rattle.auth_journal.specs.Joined.{leaves_of}
+use Rattle.auth_journal.specs.declared.error.Error.TheVariants as joined
+use Rattle.auth_journal.proofs.LeafLemmas.{leaves_more, length-leaves_of}
 use Rattle.log_model.specs.Meaning.{Meaning}
 use Rattle.chain_core.specs.Marks.{marks_of, IsMarkedOn}
 use Rattle.chain_core.specs.Reached.{IsPlaceOf, linked_item}
@@ -22,7 +30,7 @@ use Rattle.chain_core.specs.declared.commitment.Commitment.{Commitment}
 use Rattle.chain_core.specs.declared.place.Place.{Place}
 use Rattle.chain_core.specs.declared.pool.HeldBatch.{HeldBatch}
 use Rattle.chain_core.proofs.MarkLemmas.{marks_sealed}
-use Rattle.keyless_db.specs.Batches.{UnmerkleizedView, MerkleizedView, IsUnmerkleizedOf, bounds_of, link_marks}
+use Rattle.keyless_db.specs.Batches.{UnmerkleizedView, MerkleizedView, IsUnmerkleizedOf, IsMerkleizedOf, HasMarks, bounds_of, link_marks}
 
 -- ---- segments of a list
 
@@ -44,6 +52,46 @@ module _ {D : Type 0} (s : Shape) (h : Hashing D) (all : List D) where
       let first : g.leaves ≡ d = cc in
       let same : n ≡ d = sym of.0 ∙ first in
       subst (λ e. AllByRecursion (λ k. e ≤ k) (link_marks (g ∷ gs))) same (links_low n (g ∷ gs) of)
+
+-- ---- what stands somewhere in a list
+
+abbrev Stands : {X : Type 0} → List X → X → Type 0
+Stands xs x = (i : ℕ) × (slice_get xs i ≡ Some x)
+
+stands_before : {X : Type 0} (xs ys : List X) (i : ℕ) (x : X) → slice_get xs i ≡ Some x → Stands (xs ++ ys) x
+stands_before [] ys i x is = absurd cc
+stands_before (y ∷ xs) ys zero x is = (0, is)
+stands_before (y ∷ xs) ys (suc i) x is = let there = stands_before xs ys i x is in (suc there.0, there.1)
+
+stands_last : {X : Type 0} (xs : List X) (x : X) → Stands (xs ++ (x ∷ [])) x
+stands_last [] x = (0, refl)
+stands_last (y ∷ xs) x = let there = stands_last xs x in (suc there.0, there.1)
+
+stands_turned : {X : Type 0} (xs : List X) (i : ℕ) (x : X) → slice_get xs i ≡ Some x → Stands (reverse xs) x
+stands_turned [] i x is = absurd cc
+stands_turned (y ∷ xs) zero x is =
+    let e : y ≡ x = cc in
+    subst (λ ys. Stands ys x) (ap (λ z. reverse xs ++ (z ∷ [])) (sym e) ∙ sym (reverse-append (y ∷ []) xs)) (stands_last (reverse xs) x)
+stands_turned (y ∷ xs) (suc i) x is =
+    let there = stands_turned xs i x is in
+    subst (λ ys. Stands ys x) (sym (reverse-append (y ∷ []) xs)) (stands_before (reverse xs) (y ∷ []) there.0 x there.1)
+
+-- at each state of a chain there is a mark
+mark_there : {F D : Type 0} (b : Bounds F D) (c : Commitment F D) → Contains (b.db ∷ b.ancestors) c → Stands (marks_of b) c.size
+mark_there b c (zero, within, is) = (0, ap (λ (x : Commitment _ _). Some x.size) is)
+mark_there {F} {D} b c (suc k, within, is) =
+    let here : slice_get b.ancestors k ≡ Some c = slice_get-get_or b.ancestors k c (omega (arith, within)) ∙ ap Some is in
+    let size : slice_get (sizes b.ancestors) k ≡ Some c.size = slice_get-map (λ (x : Commitment F D). x.size) b.ancestors k ∙ ap (option_map (λ (x : Commitment F D). x.size)) here in
+    let there = stands_turned (sizes b.ancestors) k c.size size in
+    (suc there.0, there.1)
+
+-- what stands at a mark has the list's peaks before it
+mark_at : {D : Type 0} (s : Shape) (h : Hashing D) (all : List D) (n i k : ℕ) (links : List (ChainSegment D)) → IsLinkedOf s h all n links → slice_get (link_marks links) i ≡ Some k → HasMark links i k (peaks_at s h all k)
+mark_at s h all n i k [] of is = absurd cc
+mark_at s h all n zero k (g ∷ gs) of is =
+    let here : g.leaves ≡ k = cc in
+    (here, of.1 ∙ ap (peaks_at s h all) (sym of.0 ∙ here))
+mark_at s h all n (suc i) k (g ∷ gs) of is = mark_at s h all (n + g.later) i k gs of.3 is
 
 -- the marks of a batch that is sealed are those that are kept, and its own
 kept_marks : {D : Type 0} (t : Unsealed D) (ds : List D) (reached : ℕ) (b : Sealed D) → IsSealedFrom (with_digests t ds) reached b
@@ -107,3 +155,30 @@ sealed_counted {D} s h spelling u op reached t from counted =
       length-drop (length u.kept - reached) u.kept,
       length-drop (length u.nodes.links - reached) u.nodes.links,
     )
+
+-- ---- where a tree takes a batch
+
+-- the tree of a list takes a batch of a longer list, where the list's state is one of the batch's chain
+pub marked_fits : {F D Op V : Type 0} (s : Shape) (h : Hashing D) (m : Meaning Op V) (spelling : Op → List ℕ) → IsLawful s → (ops more : List Op) (b : MerkleizedView F D Op) (c : Commitment F D)
+    → IsMerkleizedOf s h m spelling (ops ++ more) b → HasMarks b → c.size ≡ length ops → Contains (b.bounds.db ∷ b.bounds.ancestors) c
+    → (i : ℕ) × Fits s h (leaves_of s h spelling ops) (length ops) b.tree.nodes i
+marked_fits s h m spelling w ops more b c of marks size here =
+    let all = leaves_of s h spelling (ops ++ more) in
+    let front = leaves_of s h spelling ops in
+    let behind = leaves_from s h (length ops) (map spelling more) in
+    let there = mark_there b.bounds c here in
+    let mark : slice_get (link_marks b.tree.nodes.links) there.0 ≡ Some (length ops) = ap (λ ns. slice_get ns there.0) marks ∙ there.1 ∙ ap Some size in
+    let found = mark_at s h all b.tree.nodes.first there.0 (length ops) b.tree.nodes.links of.tree.nodes.linked mark in
+    let count : length ops ≡ length front = sym (length-leaves_of s h spelling ops) in
+    let peaks : peaks_at s h all (length ops) ≡ peaks_at s h front (length ops) =
+    ap (λ ds. peaks_at s h ds (length ops)) (leaves_more s h spelling ops more) ∙ ap (peaks_at s h (front ++ behind)) count
+    ∙ peaks_at-append s h front behind w ∙ ap (peaks_at s h front) (sym count) in
+    (there.0, subst (HasMark b.tree.nodes.links there.0 (length ops)) peaks found)
+
+-- a tree that refuses a batch has none of its marks
+pub refused_misfit : {F D : Type 0} (s : Shape) (h : Hashing D) (all : List D) (n : ℕ) (b : Sealed D) (e : tree_error.Error F) → Refused s h all n b e → IsLifted (joined.Merkle e)
+    → (i : ℕ) → Fits s h all n b i → ⊥
+refused_misfit s h all n b tree.StaleBatch why lifted i fits = why.0 i fits
+refused_misfit s h all n b (tree.AncestorDropped x y) why lifted i fits = why.3 i fits
+refused_misfit s h all n b tree.Memory why lifted i fits = lifted
+refused_misfit s h all n b e why lifted i fits = absurd why

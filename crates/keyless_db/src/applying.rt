@@ -25,17 +25,18 @@ impl<F: Family, O: KeylessOperation, C: Backing<Item = O>, H: Hasher> Keyless<F,
     ghost use Rattle.std.specs.Prelude.{◌<◌, ◌-◌, ◌∷◌, ◌+◌, ◌^◌, ◌++◌, ℕ, Some, List, IfErr, OnOk, IsErrOf, Contains};
     ghost use Rattle.journal_base.specs.View.{log_of};
     ghost use Rattle.volume_base.specs.Log.{end_of};
-    ghost use Rattle.volume_base.specs.Moments.{present};
+    ghost use Rattle.volume_base.specs.Moments.{Image, present};
     ghost use Rattle.volume_base.specs.Names.{log_alone, NamesCall};
     ghost use Rattle.volume_base.specs.declared.error.JournalError.TheVariants.{SizeOverflow};
-    ghost use Rattle.tree_core.specs.Applied.{FitsTree};
+    ghost use Rattle.tree_core.specs.Applied.{Fits, FitsTree};
+    ghost use Rattle.tree_core.specs.Tree.{IsOf};
     ghost use Rattle.auth_journal.specs.Appending.{Appends, unapplied};
     ghost use Rattle.auth_journal.specs.Joined.{IsSameJoin};
     ghost use Rattle.auth_journal.specs.Standing.{Marks, KeepsStanding};
     ghost use Rattle.chain_core.specs.Reached.{item_at};
     ghost use Rattle.chain_core.specs.Slots.{IsAlive};
     ghost use Rattle.chain_core.specs.declared.error.Error.{Error};
-    ghost use Rattle.keyless_db.specs.Batches.{MerkleizedView, IsMerkleizedOf, own_items};
+    ghost use Rattle.keyless_db.specs.Batches.{MerkleizedView, IsMerkleizedOf, HasMarks, own_items};
     ghost use Rattle.keyless_db.specs.DbView.{IsHeldFor};
     ghost use Rattle.keyless_db.specs.Errors.{IsOfApply};
 
@@ -57,6 +58,9 @@ impl<F: Family, O: KeylessOperation, C: Backing<Item = O>, H: Hasher> Keyless<F,
             (present (V.state vol.new))) }
         ensures unfit { IsErrOf result Error.StaleBatch → (i : ℕ) →
             FitsTree F.shape self.journal.tree.tree batch.now.tree.nodes i → ⊥ }
+        ensures misfit { IsErrOf result Error.StaleBatch → (all : List H.Digest) →
+            IsOf F.shape H.hash all self.journal.tree.tree → (i : ℕ) →
+            Fits F.shape H.hash all self.journal.tree.tree.leaves batch.now.tree.nodes i → ⊥ }
         ensures unwritten { IsErrOf result Error.StaleBatch → vol.new ≡ vol.old }
         ensures appends { Appends V.tells Error.Volume O.spelling self.journal.items (λ d. d.journal.items)
             (unapplied batch.now.tree self.journal.tree.tree.leaves) (V.state vol.old) (V.state vol.new) result }
@@ -104,6 +108,13 @@ impl<F: Family, O: KeylessOperation, C: Backing<Item = O>, H: Hasher> Keyless<F,
             item_at pool.now id ≡ Some b →
             Contains (b.bounds.db ∷ b.bounds.ancestors) self.state →
             (i : ℕ) → FitsTree F.shape self.journal.tree.tree b.tree.nodes i → ⊥ }
+        // Of a batch of a list that begins with the database's, with a mark at each state of its chain, it comes nowhere
+        // else, whatever the volume holds.
+        ensures fits { let admits = H.Digest.Read.admits tt in IsErrOf result Error.StaleBatch →
+            (b : MerkleizedView F H.Digest O) → item_at pool.now id ≡ Some b → (ops more : List O) (image : Image) →
+            IsHeldFor F.shape H.hash O.meaning H.Digest.spelling admits O.spelling ops self image →
+            IsMerkleizedOf F.shape H.hash O.meaning O.spelling (ops ++ more) b → HasMarks b →
+            Contains (b.bounds.db ∷ b.bounds.ancestors) self.state → ⊥ }
         ensures unwritten { IsErrOf result Error.StaleBatch → vol.new ≡ vol.old }
         ensures state { IfOk result (λ d. (b : MerkleizedView F H.Digest O) → item_at pool.now id ≡ Some b →
             d.state ≡ b.bounds.tip) }

@@ -3,7 +3,8 @@ use Rattle.volume_base.specs.Log.{Log, end_of}
 use Rattle.volume_base.specs.Moments.{present}
 use Rattle.volume_base.specs.declared.error.JournalError.TheVariants.{SizeOverflow}
 use Rattle.journal_base.specs.View.{log_of}
-use Rattle.tree_core.specs.Applied.{FitsTree}
+use Rattle.tree_core.specs.Applied.{Fits, FitsTree}
+use Rattle.tree_core.specs.Tree.{IsOf}
 use Rattle.auth_journal.specs.Appending.{Appends, unapplied}
 use Rattle.auth_journal.specs.Batched.{IsSealedOfItems}
 use Rattle.auth_journal.specs.Errors.{IsLifted}
@@ -18,6 +19,7 @@ use Rattle.keyless_db.specs.Batches.{MerkleizedView, IsSoundMerkleized, own_item
 use Rattle.keyless_db.specs.DbView.{DbView, EndsAs, IsHeldFor}
 use Rattle.keyless_db.proofs.ApplyLemmas.{applied_held, apply_errors, stale_below, full_below, unfit_tree, still_standing, behind_front}
 use Rattle.keyless_db.proofs.LiftLemmas.{joined_back}
+use Rattle.keyless_db.proofs.MarkLemmas.{refused_misfit}
 use Rattle.keyless_db.proofs.SealLemmas.{read_index}
 use Rattle.keyless_db.proofs.database.Keyless.applied.Goals as goal
 
@@ -124,6 +126,17 @@ returns-in-Err-clause-unfit g c is i fits =
     let there = subst (λ t. FitsTree s t c.args.batch.now.tree.nodes i) (sym tree) fits in
     let found = subst (λ (x : MerkleizedView g.row.F.Denot g.row.H-Digest.Denot g.row.O.Denot). FitsTree s c.self.inside.journal.tree.tree x.tree.nodes i) (sym c.batch.view_is) there in
     unfit_tree s c.self.inside.journal.tree.tree c.batch.inside.tree.nodes below.0 why lifted i found
+
+pub returns-in-Err-clause-misfit : goal.returns-in-Err-clause-misfit
+returns-in-Err-clause-misfit g c is all of i fits =
+    let s = g.F.Family.shape in
+    let h = g.H.Hasher.hash in
+    let below = stale_below c.in-Err.error c.from_apply.result c.from_apply.ensures is in
+    let lifted = subst (λ (x : Error g.row.F.Denot). IsLifted x) below.1 c.in-Err.ensures.lifted in
+    let tree = subst (λ (d : DbView g.row.F.Denot g.row.H-Digest.Denot g.row.O.Denot g.row.O-Cfg.Denot). IsOf s h all d.journal.tree.tree) (sym c.self.view_is) of in
+    let there = subst (λ (d : DbView g.row.F.Denot g.row.H-Digest.Denot g.row.O.Denot g.row.O-Cfg.Denot). Fits s h all d.journal.tree.tree.leaves c.args.batch.now.tree.nodes i) (sym c.self.view_is) fits in
+    let found = subst (λ (x : MerkleizedView g.row.F.Denot g.row.H-Digest.Denot g.row.O.Denot). Fits s h all c.self.inside.journal.tree.tree.leaves x.tree.nodes i) (sym c.batch.view_is) there in
+    refused_misfit s h all c.self.inside.journal.tree.tree.leaves c.batch.inside.tree.nodes below.0 (c.in-Err.ensures.misfit below.0 (ap Err below.1) all tree) lifted i found
 
 pub returns-in-Err-clause-unwritten : goal.returns-in-Err-clause-unwritten
 returns-in-Err-clause-unwritten g c is =

@@ -1,19 +1,23 @@
-use Rattle.std.proofs.Common.{◌≡◌, inl, ◌+◌, ◌-◌, ◌^◌, ◌<◌, ◌∷◌, ◌++◌, map, refl, sym, ◌∙◌, subst}
+use Rattle.std.proofs.Common.{◌≡◌, inl, ℕ, ◌+◌, ◌-◌, ◌^◌, ◌<◌, ◌∷◌, ◌++◌, length, map, refl, sym, ◌∙◌, subst}
 use Rattle.std.specs.Prelude.{Contains}
 use Rattle.journal_base.specs.View.{log_of}
 use Rattle.volume_base.specs.Log.{Grows, end_of}
 use Rattle.volume_base.specs.Names.{log_alone}
 use Rattle.volume_base.proofs.CallLemmas.{names_call_log}
-use Rattle.tree_core.specs.Applied.{FitsTree}
+use Rattle.tree_core.specs.Applied.{Fits, FitsTree}
 use Rattle.auth_journal.specs.Appending.{unapplied}
+use Rattle.auth_journal.specs.Joined.{leaves_of}
 use Rattle.auth_journal.specs.Standing.{KeepsStanding}
 use Rattle.auth_journal.proofs.AppendLemmas.{appends_none}
+use Rattle.auth_journal.proofs.LeafLemmas.{length-leaves_of}
 use Rattle.chain_core.specs.Reached.{item_at}
 use Rattle.chain_core.specs.declared.commitment.Commitment.{Commitment}
 use Rattle.chain_core.specs.declared.error.Error.{Error}
 use Rattle.chain_core.specs.declared.error.Error.TheVariants.{StaleBatch, Volume}
 use Rattle.keyless_db.specs.Batches.{MerkleizedView, IsMerkleizedOf}
-use Rattle.keyless_db.proofs.ApplyLemmas.{if_more, one_item, still_standing}
+use Rattle.keyless_db.proofs.ApplyLemmas.{err_ok, if_more, one_item, still_standing}
+use Rattle.keyless_db.proofs.DbLemmas.{size_of_list}
+use Rattle.keyless_db.proofs.MarkLemmas.{marked_fits}
 use Rattle.keyless_db.proofs.database.Keyless.apply_batch.Goals as goal
 
 pub returns-in-Err-clause-appends : goal.returns-in-Err-clause-appends
@@ -74,3 +78,23 @@ returns-clause-full g c is =
           subst (λ (x : MerkleizedView g.row.F.Denot g.row.H-Digest.Denot g.row.O.Denot).
           2 ^ 64 - 1 < end_of (log_of c.args.self.journal.items (g.V.Volume.state c.args.vol.now)) + x.tree.nodes.leaves) same (did.1 tells),
     )
+
+pub returns-in-Err-clause-fits : goal.returns-in-Err-clause-fits
+returns-in-Err-clause-fits g c is b at ops more image held of marks here =
+    let same = c.batch.view_is ∙ one_item (item_at c.args.pool.now c.args.id) c.item-batch.result.now b c.item-batch.ensures at in
+    let there = subst (λ (k : Commitment g.row.F.Denot g.row.H-Digest.Denot). Contains (c.batch.inside.bounds.db ∷ c.batch.inside.bounds.ancestors) k) (sym c.commitment-here.ensures)
+    (subst (λ (x : MerkleizedView g.row.F.Denot g.row.H-Digest.Denot g.row.O.Denot). Contains (x.bounds.db ∷ x.bounds.ancestors) c.args.self.state) (sym same) here) in
+    err_ok ℕ c.in-Err.error (c.in-Err.ensures.at_boundary_or_ancestor.1 there)
+
+pub returns-clause-fits : goal.returns-clause-fits
+returns-clause-fits g c is b at ops more image held of marks here =
+    let s = g.F.Family.shape in
+    let h = g.H.Hasher.hash in
+    let m = g.O.Logged.meaning in
+    let spelling = g.O.Spelled.spelling in
+    let front = leaves_of s h spelling ops in
+    let same = one_item (item_at c.args.pool.now c.args.id) c.item-batch.result.now b c.item-batch.ensures at in
+    let leaves : length ops ≡ c.args.self.journal.tree.tree.leaves = sym (held.journal.tree.tree.count ∙ length-leaves_of s h spelling ops) in
+    let found = marked_fits s h m spelling g.met.F.Family.lawful ops more b c.args.self.state of marks (size_of_list s h m spelling ops c.args.self held.db_of) here in
+    let there = subst (λ (x : MerkleizedView g.row.F.Denot g.row.H-Digest.Denot g.row.O.Denot). Fits s h front (length ops) x.tree.nodes found.0) (sym same) found.1 in
+    c.applied.ensures.misfit is front held.journal.tree.tree found.0 (subst (λ n. Fits s h front n c.item-batch.result.now.tree.nodes found.0) leaves there)
