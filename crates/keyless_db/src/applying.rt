@@ -108,8 +108,8 @@ impl<F: Family, O: KeylessOperation, C: Backing<Item = O>, H: Hasher> Keyless<F,
             item_at pool.now id ≡ Some b →
             Contains (b.bounds.db ∷ b.bounds.ancestors) self.state →
             (i : ℕ) → FitsTree F.shape self.journal.tree.tree b.tree.nodes i → ⊥ }
-        // Of a batch of a list that begins with the database's, with a mark at each state of its chain, it comes nowhere
-        // else, whatever the volume holds.
+        // Of a batch of a list that begins with the database's, with a mark at each state of its chain, it comes
+        // nowhere else, whatever the volume holds.
         ensures fits { let admits = H.Digest.Read.admits tt in IsErrOf result Error.StaleBatch →
             (b : MerkleizedView F H.Digest O) → item_at pool.now id ≡ Some b → (ops more : List O) (image : Image) →
             IsHeldFor F.shape H.hash O.meaning H.Digest.spelling admits O.spelling ops self image →

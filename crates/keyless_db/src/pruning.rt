@@ -7,20 +7,26 @@ use tree_core::{Family, Hasher, Location};
 use volume_base::Volume;
 
 impl<F: Family, O: KeylessOperation, C: Backing<Item = O>, H: Hasher> Keyless<F, O, C, H> {
-    ghost use Rattle.std.specs.Prelude.{◌≡◌, ◌<◌, ◌≤◌, ℕ, List, length, true, false, Err, IfOk, IfErr, OnOk, IsErrOf};
+    ghost use Rattle.std.specs.Prelude.{◌≡◌, ◌<◌, ◌≤◌, ℕ, List, length, max, true, false, Err};
+    ghost use Rattle.std.specs.Prelude.{IfOk, IfErr, OnOk, IsErrOf};
     ghost use Rattle.std.specs.FinMap as finmap;
+    ghost use Rattle.journal_base.specs.Blobs.{blob_start};
+    ghost use Rattle.journal_base.specs.Items.{items_of};
     ghost use Rattle.journal_base.specs.View.{log_of, left_of, prune_point, IsDurable, IsHeld};
     ghost use Rattle.volume_base.specs.Log.{no_log, pruned_to};
     ghost use Rattle.volume_base.specs.Moments.{present};
     ghost use Rattle.volume_base.specs.Names.{NamesCall};
     ghost use Rattle.volume_base.specs.Volume.{OnlyLeft, Changes, Writes};
+    ghost use Rattle.tree_shape.specs.Shape.{made};
     ghost use Rattle.merkle_full.specs.Full.{Rests};
-    ghost use Rattle.auth_journal.specs.Durable.{IsPrunedTo};
+    ghost use Rattle.merkle_full.specs.Pruning.{KeepsPins};
+    ghost use Rattle.auth_journal.specs.Durable.{IsPrunedTo, IsFromTree, IsJournalUnpruned};
     ghost use Rattle.auth_journal.specs.Standing.{Marks, all_synced, pruned_below, names_of, ItemsGoFirst};
     ghost use Rattle.auth_journal.specs.Standing.{StepsStanding};
     ghost use Rattle.chain_core.specs.Answers.{IsOutside};
     ghost use Rattle.chain_core.specs.declared.error.Error.{Error};
     ghost use Rattle.keyless_db.specs.DbView.{SameState, IsHeldFor, floor_in};
+    ghost use Rattle.keyless_db.specs.Errors.{IsFromJoined};
 
     /// Gives up whole blobs of operations below a location: the database is synced first, then the log is pruned and
     /// synced again, and then the tree is pruned to where the log begins. Where a failed sync is kept it refuses with
@@ -43,8 +49,23 @@ impl<F: Family, O: KeylessOperation, C: Backing<Item = O>, H: Hasher> Keyless<F,
         ensures pruned { let items = self.journal.items in let point = prune_point items loc (V.state vol.old) in
             OnOk result (0 < items.end → V.tells →
             log_of items (V.state vol.new) ≡ pruned_to (log_of items (V.state vol.old)) point) }
+        // Whole blobs below the boundary's position are gone from the node log, and no pin from its map.
+        ensures nodes { let admits = H.Digest.Read.admits tt in IfOk result (λ d.
+            self.journal.tree.boundary < d.journal.items.start → V.tells → (ops : List O) →
+            IsHeldFor F.shape H.hash O.meaning H.Digest.spelling admits O.spelling ops self
+            (present (V.state vol.old)) →
+            let point = blob_start self.journal.tree.log.blob (length (made F.shape d.journal.items.start)) in
+            d.journal.tree.log.start ≡ max self.journal.tree.log.start point) }
+        ensures pins { let metadata = self.journal.tree.metadata in OnOk result (V.tells →
+            KeepsPins ((V.state vol.old).map metadata) ((V.state vol.new).map metadata)) }
         ensures durable { OnOk result (0 < self.journal.items.end → V.tells →
             IsDurable self.journal.items (V.state vol.new)) }
+        // Of any database, whatever the volume holds: the place is where the log of operations begins then.
+        ensures errors { loc ≤ floor_in O.meaning self → self.journal.failed ≡ false → let state = V.state vol.new in
+            let nodes = items_of H.Digest.spelling H.Digest.Read.admits self.journal.tree.log state in
+            let begins = (log_of self.journal.items state).start in
+            IfErr result (IsFromJoined (IsFromTree
+            (IsJournalUnpruned F.shape V.tells self.journal.tree nodes begins))) }
         ensures outside { let admits = H.Digest.Read.admits tt in V.tells → (ops : List O) →
             IsHeldFor F.shape H.hash O.meaning H.Digest.spelling admits O.spelling ops self
             (present (V.state vol.old)) →

@@ -32,6 +32,10 @@ impl<F: Family, O: KeylessOperation, C: Backing<Item = O>, H: Hasher> Keyless<F,
         ensures same { IfOk result (SameState self) }
         ensures journal { IfOk result (λ d. IsFlushed self.journal d.journal) }
         ensures rests { IfOk result (λ d. Rests F.shape d.journal.tree) }
+        ensures nodes { let admits = H.Digest.Read.admits tt in IfOk result (λ d. V.tells → (ops : List O) →
+            IsHeldFor F.shape H.hash O.meaning H.Digest.spelling admits O.spelling ops self
+            (present (V.state vol.old)) →
+            d.journal.tree.log.start ≡ self.journal.tree.log.start) }
         // It stays the database of its list.
         ensures held { let admits = H.Digest.Read.admits tt in IfOk result (λ d. V.tells → (ops : List O) →
             IsHeldFor F.shape H.hash O.meaning H.Digest.spelling admits O.spelling ops self
@@ -73,6 +77,10 @@ impl<F: Family, O: KeylessOperation, C: Backing<Item = O>, H: Hasher> Keyless<F,
         ensures same { IfOk result (SameState self) }
         ensures journal { IfOk result (λ d. IsFlushed self.journal d.journal) }
         ensures rests { IfOk result (λ d. Rests F.shape d.journal.tree) }
+        ensures nodes { let admits = H.Digest.Read.admits tt in IfOk result (λ d. V.tells → (ops : List O) →
+            IsHeldFor F.shape H.hash O.meaning H.Digest.spelling admits O.spelling ops self
+            (present (V.state vol.old)) →
+            d.journal.tree.log.start ≡ self.journal.tree.log.start) }
         // It stays the database of its list.
         ensures held { let admits = H.Digest.Read.admits tt in IfOk result (λ d. V.tells → (ops : List O) →
             IsHeldFor F.shape H.hash O.meaning H.Digest.spelling admits O.spelling ops self
@@ -120,6 +128,13 @@ impl<F: Family, O: KeylessOperation, C: Backing<Item = O>, H: Hasher> Keyless<F,
             (made.0.journal.tree ≡ self.journal.tree)
             × (V.tells → NamesCall (log_alone self.journal.items.name) (V.state vol.old) (V.state vol.new))) }
         ensures rests { IfOk result (λ made. made.0.journal.items.failed ≡ false → Rests F.shape made.0.journal.tree) }
+        ensures nodes { let admits = H.Digest.Read.admits tt in IfOk result (λ made. V.tells → (ops : List O) →
+            IsHeldFor F.shape H.hash O.meaning H.Digest.spelling admits O.spelling ops self
+            (present (V.state vol.old)) →
+            made.0.journal.tree.log.start ≡ self.journal.tree.log.start) }
+        // Where the sync of the operations was done they are durable, whatever becomes of the tree.
+        ensures items { IfOk result (λ made. made.0.journal.items.failed ≡ false → V.tells →
+            IsDurable self.journal.items (V.state vol.new)) }
         // It stays the database of its list.
         ensures held { let admits = H.Digest.Read.admits tt in IfOk result (λ made. V.tells → (ops : List O) →
             IsHeldFor F.shape H.hash O.meaning H.Digest.spelling admits O.spelling ops self

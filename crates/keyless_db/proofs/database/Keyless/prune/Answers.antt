@@ -1,9 +1,13 @@
-use Rattle.std.proofs.Common.{◌≡◌, ◌<◌, length, false, Ok, Err, sym, ◌∙◌, ap, subst, arith}
+use Rattle.std.proofs.Common.{◌≡◌, ◌<◌, length, max, false, Ok, Err, sym, ◌∙◌, ap, subst, arith}
 use Rattle.volume_base.specs.Moments.{present}
 use Rattle.volume_base.specs.Names.{NamesCall}
+use Rattle.journal_base.specs.Blobs.{blob_start}
+use Rattle.journal_base.specs.Items.{items_of}
 use Rattle.journal_base.specs.View.{IsHeld, IsDurable, log_of, prune_point}
 use Rattle.volume_base.specs.Log.{pruned_to}
-use Rattle.auth_journal.specs.Durable.{IsPrunedTo}
+use Rattle.tree_shape.specs.Shape.{made}
+use Rattle.merkle_full.specs.Pruning.{KeepsPins}
+use Rattle.auth_journal.specs.Durable.{IsPrunedTo, IsFromTree, IsJournalUnpruned}
 use Rattle.auth_journal.specs.Joined.{Joined}
 use Rattle.auth_journal.specs.Standing.{names_of, all_synced, pruned_below}
 use Rattle.auth_journal.specs.declared.error.Error.TheVariants as joined
@@ -134,3 +138,32 @@ returns-in-Ok-clause-durable g c some tells =
     let b = g.V.Volume.state c.prune.new.vol in
     let same : c.self.inside.journal ≡ c.args.self.journal = ap (λ (d : DbView g.row.F.Denot g.row.H-Digest.Denot g.row.O.Denot g.row.O-Cfg.Denot). d.journal) c.self.view_is in
     subst (λ (x : Joined g.row.H-Digest.Denot g.row.O-Cfg.Denot). 0 < x.items.end → IsDurable x.items b) same (λ more. c.in-Ok.ensures.durable more tells) some
+
+pub returns-in-Ok-clause-nodes : goal.returns-in-Ok-clause-nodes
+returns-in-Ok-clause-nodes g c low tells ops held =
+    let s = g.F.Family.shape in
+    let a = g.V.Volume.state c.args.vol.now in
+    let b = g.V.Volume.state c.prune.new.vol in
+    let k = c.in-Ok.journal in
+    let same : c.self.inside.journal ≡ c.args.self.journal = ap (λ (d : DbView g.row.F.Denot g.row.H-Digest.Denot g.row.O.Denot g.row.O-Cfg.Denot). d.journal) c.self.view_is in
+    let here = joined_back s g.H.Hasher.hash g.H.Digest.Spelled.spelling (g.H.Digest.Read.admits tt) g.O.Spelled.spelling ops _ _ same a b held.journal in
+    subst (λ (x : Joined g.row.H-Digest.Denot g.row.O-Cfg.Denot). x.tree.boundary < k.items.start →
+    k.tree.log.start ≡ max x.tree.log.start (blob_start x.tree.log.blob (length (made s k.items.start)))) same (λ lo. c.in-Ok.ensures.nodes lo tells ops here) low
+
+pub returns-in-Ok-clause-pins : goal.returns-in-Ok-clause-pins
+returns-in-Ok-clause-pins g c tells =
+    let a = g.V.Volume.state c.args.vol.now in
+    let b = g.V.Volume.state c.prune.new.vol in
+    let same : c.self.inside.journal ≡ c.args.self.journal = ap (λ (d : DbView g.row.F.Denot g.row.H-Digest.Denot g.row.O.Denot g.row.O-Cfg.Denot). d.journal) c.self.view_is in
+    subst (λ (x : Joined g.row.H-Digest.Denot g.row.O-Cfg.Denot). KeepsPins (a.map x.tree.metadata) (b.map x.tree.metadata)) same (c.in-Ok.ensures.pins tells)
+
+pub returns-in-Err-clause-errors : goal.returns-in-Err-clause-errors
+returns-in-Err-clause-errors g c le sound =
+    let b = g.V.Volume.state c.prune.new.vol in
+    let same : c.self.inside.journal ≡ c.args.self.journal = ap (λ (d : DbView g.row.F.Denot g.row.H-Digest.Denot g.row.O.Denot g.row.O-Cfg.Denot). d.journal) c.self.view_is in (
+      c.in-Err.error,
+      c.from_joined.ensures,
+      subst (λ (x : Joined g.row.H-Digest.Denot g.row.O-Cfg.Denot).
+          IsFromTree (IsJournalUnpruned g.F.Family.shape g.V.Volume.tells x.tree (items_of g.H.Digest.Spelled.spelling g.H.Digest.Read.admits x.tree.log b) (log_of x.items b).start) c.in-Err.error) same
+          c.in-Err.ensures.errors,
+    )

@@ -163,3 +163,18 @@ returns-in-Err-clause-names g c tells =
 pub returns-in-Err-clause-errors : goal.returns-in-Err-clause-errors
 returns-in-Err-clause-errors g c =
     (c.in-Err.error, c.from_joined.ensures, subst (λ (x : Joined g.row.H-Digest.Denot g.row.O-Cfg.Denot). IsFromTree (IsOfFlush g.F.Family.shape x.tree) c.in-Err.error) (ap (λ (d : DbView g.row.F.Denot g.row.H-Digest.Denot g.row.O.Denot g.row.O-Cfg.Denot). d.journal) c.self.view_is) c.in-Err.ensures.errors)
+
+pub returns-in-Ok-clause-nodes : goal.returns-in-Ok-clause-nodes
+returns-in-Ok-clause-nodes g c tells ops held =
+    let a = g.V.Volume.state c.args.vol.now in
+    let b = g.V.Volume.state c.start_sync.new.vol in
+    let same : c.self.inside.journal ≡ c.args.self.journal = ap (λ (d : DbView g.row.F.Denot g.row.H-Digest.Denot g.row.O.Denot g.row.O-Cfg.Denot). d.journal) c.self.view_is in
+    c.in-Ok.ensures.nodes tells ops
+    (joined_back g.F.Family.shape g.H.Hasher.hash g.H.Digest.Spelled.spelling (g.H.Digest.Read.admits tt) g.O.Spelled.spelling ops _ _ same a b held.journal)
+    ∙ ap (λ (x : Joined g.row.H-Digest.Denot g.row.O-Cfg.Denot). x.tree.log.start) same
+
+pub returns-in-Ok-clause-items : goal.returns-in-Ok-clause-items
+returns-in-Ok-clause-items g c sound tells =
+    let b = g.V.Volume.state c.start_sync.new.vol in
+    let same : c.self.inside.journal ≡ c.args.self.journal = ap (λ (d : DbView g.row.F.Denot g.row.H-Digest.Denot g.row.O.Denot g.row.O-Cfg.Denot). d.journal) c.self.view_is in
+    subst (λ (x : Joined g.row.H-Digest.Denot g.row.O-Cfg.Denot). IsDurable x.items b) same (c.in-Ok.ensures.items sound tells)

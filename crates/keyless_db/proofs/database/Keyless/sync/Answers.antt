@@ -147,3 +147,12 @@ returns-in-Ok-clause-durable g c tells =
     let b = g.V.Volume.state c.sync.new.vol in
     let same : c.self.inside.journal ≡ c.args.self.journal = ap (λ (d : DbView g.row.F.Denot g.row.H-Digest.Denot g.row.O.Denot g.row.O-Cfg.Denot). d.journal) c.self.view_is in
     subst (λ (x : Joined g.row.H-Digest.Denot g.row.O-Cfg.Denot). IsDurable x.items b × IsDurable x.tree.log b) same (c.in-Ok.ensures.durable tells)
+
+pub returns-in-Ok-clause-nodes : goal.returns-in-Ok-clause-nodes
+returns-in-Ok-clause-nodes g c tells ops held =
+    let a = g.V.Volume.state c.args.vol.now in
+    let b = g.V.Volume.state c.sync.new.vol in
+    let same : c.self.inside.journal ≡ c.args.self.journal = ap (λ (d : DbView g.row.F.Denot g.row.H-Digest.Denot g.row.O.Denot g.row.O-Cfg.Denot). d.journal) c.self.view_is in
+    c.in-Ok.ensures.nodes tells ops
+    (joined_back g.F.Family.shape g.H.Hasher.hash g.H.Digest.Spelled.spelling (g.H.Digest.Read.admits tt) g.O.Spelled.spelling ops _ _ same a b held.journal)
+    ∙ ap (λ (x : Joined g.row.H-Digest.Denot g.row.O-Cfg.Denot). x.tree.log.start) same
