@@ -6,3 +6,10 @@ pub mod HeldLemmas
 pub mod ApplyLemmas
 pub mod BeginLemmas
 pub mod MarkLemmas
+pub mod LocationLemmas
+pub mod SeveralLemmas
+pub mod ReadLemmas
+pub mod KeptLemmas
+pub mod StillLemmas
+pub mod ProofLemmas
+pub mod SealedLemmas

@@ -3,12 +3,19 @@
 
 mod applying;
 mod batch;
+mod batch_reading;
 mod beginning;
 mod database;
 mod errors;
+mod locations;
 mod operation;
+mod proving;
 mod pruning;
+mod reading;
+mod sealed_proving;
+mod sealed_reading;
 mod sealing;
+mod serving;
 mod syncing;
 
 pub use batch::{MerkleizedBatch, UnmerkleizedBatch};

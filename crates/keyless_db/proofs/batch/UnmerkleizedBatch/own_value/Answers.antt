@@ -1,0 +1,65 @@
+use Rattle.std.proofs.Common.{◌≡◌, ◌≤◌, ◌<◌, ◌-◌, ◌++◌, length, min, Some, None, Option, sym, ◌∙◌, ap, arith}
+use Rattle.std.specs.Prelude.{slice_get}
+use Rattle.std.specs.Option.{option_map_or}
+use Rattle.merkle_full.proofs.ListLemmas.{there_is}
+use Rattle.chain_core.specs.Reached.{linked_item}
+use Rattle.chain_core.specs.declared.commitment.Commitment.{Commitment}
+use Rattle.keyless_db.specs.Batches.{MerkleizedView, UnmerkleizedView}
+use Rattle.keyless_db.specs.Reading.{chain_start, kept_over, kept_value}
+use Rattle.keyless_db.proofs.KeptLemmas.{from_chain, get_later, kept_longer}
+use Rattle.keyless_db.proofs.SeveralLemmas.{answers_by, answers_copied}
+use Rattle.keyless_db.proofs.batch.UnmerkleizedBatch.own_value.Goals as goal
+
+pub returns-then-location-base-clause-listed : goal.returns-then-location-base-clause-listed
+returns-then-location-base-clause-listed g c tells ops list held all front of parents =
+    let b = c.args.self.now in
+    let l = c.args.location in
+    let m = g.O.Logged.meaning in
+    let base : c.as_u64-base.result ≡ b.base.size = c.as_u64-base.ensures ∙ ap (λ (x : UnmerkleizedView g.row.F.Denot g.row.H-Digest.Denot g.row.O.Denot). x.base.size) c.self.view_is in
+    let count : b.base.size ≡ length list = ap (λ (x : Commitment g.row.F.Denot g.row.H-Digest.Denot). x.size) of.base in
+    let low : c.as_u64-base.result ≤ l = c.if-location-base.true in
+    let entry = there_is b.tree.items (l - c.as_u64-base.result) (omega (arith, c.requires.within, base, low)) in
+    let place : l - c.as_u64-base.result ≡ l - length list = omega (arith, base, count) in
+    let at = get_later list b.tree.items l entry.0 (omega (arith, low, base, count)) (ap (slice_get b.tree.items) (sym place) ∙ entry.1) in
+    let kept = kept_over (chain_start c.args.pool.now b) c.args.db.now in
+    answers_copied _ (m.value entry.0) c.collected_value.result (from_chain m (list ++ b.tree.items) kept l entry.0 (omega (arith, low, base)) at)
+    (c.collected_value.ensures.value entry.0 entry.1) c.collected_value.ensures.memory
+
+pub returns-in-Some-clause-listed : goal.returns-in-Some-clause-listed
+returns-in-Some-clause-listed g c tells ops list held all front of parents =
+    let b = c.args.self.now in
+    let l = c.args.location in
+    let m = g.O.Logged.meaning in
+    let pool = c.args.pool.now in
+    let db = c.args.db.now in
+    let p = c.item.result.now in
+    let base : c.as_u64-base.result ≡ b.base.size = c.as_u64-base.ensures ∙ ap (λ (x : UnmerkleizedView g.row.F.Denot g.row.H-Digest.Denot g.row.O.Denot). x.base.size) c.self.view_is in
+    let count : b.base.size ≡ length list = ap (λ (x : Commitment g.row.F.Denot g.row.H-Digest.Denot). x.size) of.base in
+    let below : l < b.base.size = omega (arith, c.if-location-base.false, base) in
+    let within : l < length list = omega (arith, below, count) in
+    let linked : linked_item pool b.parent ≡ Some p =
+    ap (λ (x : UnmerkleizedView g.row.F.Denot g.row.H-Digest.Denot g.row.O.Denot). linked_item pool x.parent) (sym c.self.view_is) ∙ ap (linked_item pool) c.in-Some.is ∙ c.item.ensures in
+    let first : chain_start pool b ≡ min b.base.size p.tree.nodes.first =
+    ap (λ (o : Option (MerkleizedView g.row.F.Denot g.row.H-Digest.Denot g.row.O.Denot)). min b.base.size (option_map_or (λ x. x.tree.nodes.first) o b.base.size)) linked in
+    answers_by (λ (v : Option g.row.O-Value.Denot). v) _ _ c.chain_value.result
+    (kept_longer m list b.tree.items b.base.size p.tree.nodes.first db.journal.items.start db.state.size l within below ∙ ap (λ n. kept_value m (list ++ b.tree.items) (kept_over n db) l) (sym first))
+    (c.chain_value.ensures.listed tells ops list held all front (parents p linked) within)
+
+pub returns-in-None-clause-listed : goal.returns-in-None-clause-listed
+returns-in-None-clause-listed g c tells ops list held all front of parents =
+    let b = c.args.self.now in
+    let l = c.args.location in
+    let m = g.O.Logged.meaning in
+    let pool = c.args.pool.now in
+    let db = c.args.db.now in
+    let base : c.as_u64-base.result ≡ b.base.size = c.as_u64-base.ensures ∙ ap (λ (x : UnmerkleizedView g.row.F.Denot g.row.H-Digest.Denot g.row.O.Denot). x.base.size) c.self.view_is in
+    let count : b.base.size ≡ length list = ap (λ (x : Commitment g.row.F.Denot g.row.H-Digest.Denot). x.size) of.base in
+    let below : l < b.base.size = omega (arith, c.if-location-base.false, base) in
+    let within : l < length list = omega (arith, below, count) in
+    let linked : linked_item pool b.parent ≡ None =
+    ap (λ (x : UnmerkleizedView g.row.F.Denot g.row.H-Digest.Denot g.row.O.Denot). linked_item pool x.parent) (sym c.self.view_is) ∙ ap (linked_item pool) c.in-None.is in
+    let first : chain_start pool b ≡ min b.base.size b.base.size =
+    ap (λ (o : Option (MerkleizedView g.row.F.Denot g.row.H-Digest.Denot g.row.O.Denot)). min b.base.size (option_map_or (λ x. x.tree.nodes.first) o b.base.size)) linked in
+    answers_by (λ (v : Option g.row.O-Value.Denot). v) _ _ c.value_before.result
+    (kept_longer m list b.tree.items b.base.size b.base.size db.journal.items.start db.state.size l within below ∙ ap (λ n. kept_value m (list ++ b.tree.items) (kept_over n db) l) (sym first))
+    (c.value_before.ensures.listed tells ops list b.base.size held all front below)

@@ -1,0 +1,62 @@
+use Rattle.std.proofs.Common.{◌≡◌, ◌+◌, ◌++◌, length, Some, Option, refl, sym, ◌∙◌, ap}
+use Rattle.std.specs.Prelude.{slice_get}
+use Rattle.std.proofs.lemmas.Option.{slice_get_read}
+use Rattle.volume_base.proofs.ReadLemmas.{only_read_joins}
+use Rattle.log_model.specs.Reads.{value_at}
+use Rattle.chain_core.specs.declared.error.Error.TheVariants.{Volume, Memory}
+use Rattle.keyless_db.specs.Reading.{chain_start, kept_over, lost}
+use Rattle.keyless_db.proofs.SeveralLemmas.{fit_within, so_far_more, so_far_all, so_far_refused}
+use Rattle.keyless_db.proofs.StillLemmas.{held_still, reads_err, reads_memory}
+use Rattle.keyless_db.proofs.batch.UnmerkleizedBatch.own_values.Goals as goal
+
+pub own_value-requires-clause-within : goal.own_value-requires-clause-within
+own_value-requires-clause-within g c =
+    let locs = c.args.locs.now in
+    let at : slice_get locs c.loop-i.i ≡ Some c.as_u64-location.result =
+    slice_get_read locs (length locs) c.loop-i.i c.index-locs-i.result refl c.loop-i-test.true c.index-locs-i.is ∙ ap Some (sym c.as_u64-location.ensures) in
+    fit_within locs (c.args.self.now.base.size + length c.args.self.now.tree.items) c.loop-i.i c.as_u64-location.result c.requires.within at
+
+pub loop-i-preserved : goal.loop-i-preserved
+loop-i-preserved g c =
+    let b = c.args.self.now in
+    let db = c.args.db.now in
+    let locs = c.args.locs.now in
+    let m = g.O.Logged.meaning in
+    let read = c.in_ok-value.ensures in
+    let l = c.as_u64-location.result in
+    let at : slice_get locs c.loop-i.i ≡ Some l =
+    slice_get_read locs (length locs) c.loop-i.i c.index-locs-i.result refl c.loop-i-test.true c.index-locs-i.is ∙ ap Some (sym c.as_u64-location.ensures) in
+    record {
+      so_far = only_read_joins _ _ _ _ _ _ c.loop-i.invariant.so_far read.reads;
+      listed = λ told ops list held all front of parents.
+          let here = held_still g.F.Family.shape g.H.Hasher.hash m g.H.Digest.Spelled.spelling (g.H.Digest.Read.admits tt) g.O.Spelled.spelling ops db _ _ (c.loop-i.invariant.so_far.contents told) held in
+          so_far_more (lost (kept_over (chain_start c.args.pool.now b) db)) (value_at m (list ++ b.tree.items)) locs c.loop-i.i l c.loop-i.values.items _ c.in_ok-value.value at
+          (c.loop-i.invariant.listed told ops list held all front of parents) (read.listed told ops list here all front of parents) c.in_ok-push.ensures.items;
+    }
+
+pub returns-in_err-value-clause-listed : goal.returns-in_err-value-clause-listed
+returns-in_err-value-clause-listed g c tells ops list held all front of parents =
+    let b = c.args.self.now in
+    let db = c.args.db.now in
+    let locs = c.args.locs.now in
+    let m = g.O.Logged.meaning in
+    let l = c.as_u64-location.result in
+    let at : slice_get locs c.loop-i.i ≡ Some l =
+    slice_get_read locs (length locs) c.loop-i.i c.index-locs-i.result refl c.loop-i-test.true c.index-locs-i.is ∙ ap Some (sym c.as_u64-location.ensures) in
+    let here = held_still g.F.Family.shape g.H.Hasher.hash m g.H.Digest.Spelled.spelling (g.H.Digest.Read.admits tt) g.O.Spelled.spelling ops db _ _ (c.loop-i.invariant.so_far.contents tells) held in
+    so_far_refused (lost (kept_over (chain_start c.args.pool.now b) db)) (value_at m (list ++ b.tree.items)) locs (λ (v : Option g.row.O-Value.Denot). v) _ c.loop-i.i l c.loop-i.values.items c.in_err-value.field-0.0
+    c.from_residual.result c.from_residual.ensures.1 at (c.loop-i.invariant.listed tells ops list held all front of parents) (c.in_err-value.ensures.listed tells ops list here all front of parents)
+
+pub returns-in_err-value-clause-reads : goal.returns-in_err-value-clause-reads
+returns-in_err-value-clause-reads g c =
+    reads_err g.V.Volume.tells Volume _ _ _ c.in_err-value.field-0.0 _ c.loop-i.invariant.so_far c.in_err-value.ensures.reads c.from_residual.ensures.1
+
+pub returns-in_err-push-clause-reads : goal.returns-in_err-push-clause-reads
+returns-in_err-push-clause-reads g c =
+    reads_memory g.V.Volume.tells Volume Memory _ _ _ (only_read_joins _ _ _ _ _ _ c.loop-i.invariant.so_far c.in_ok-value.ensures.reads) c.from_residual-in_err-push.ensures.1 (λ is. cc)
+
+pub returns-clause-listed : goal.returns-clause-listed
+returns-clause-listed g c tells ops list held all front of parents =
+    let b = c.args.self.now in
+    so_far_all (lost (kept_over (chain_start c.args.pool.now b) c.args.db.now)) (value_at g.O.Logged.meaning (list ++ b.tree.items)) c.args.locs.now c.loop-i.i c.loop-i.values.items c.loop-i-test.false
+    (c.loop-i.invariant.listed tells ops list held all front of parents)

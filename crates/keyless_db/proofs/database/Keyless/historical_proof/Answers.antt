@@ -1,0 +1,69 @@
+use Rattle.std.proofs.Common.{◌≡◌, ◌⊎◌, ◌-◌, ◌≤◌, ◌<◌, length, Some, None, inl, inr, sym, ◌∙◌, ap, arith}
+use Rattle.std.specs.Prelude.{slice_get}
+use Rattle.std.specs.NonZero.{non_zero_u64_get}
+use Rattle.merkle_full.proofs.ListLemmas.{there_is}
+use Rattle.log_model.specs.Proofs.{proof_answer, proof_end, proof_refusal}
+use Rattle.log_model.specs.Reads.{or_else, unless_refused}
+use Rattle.log_model.specs.declared.refusal.Refusal.TheVariants.{RangeOutOfBounds}
+use Rattle.keyless_db.specs.DbView.{DbView}
+use Rattle.keyless_db.specs.Reading.{floor_refusal, late_refusal}
+use Rattle.keyless_db.proofs.ProofLemmas.{split_refusal, size_refused, floor_stops}
+use Rattle.keyless_db.proofs.ReadLemmas.{all_at}
+use Rattle.keyless_db.proofs.SeveralLemmas.{answers_by, refused_by, refused_ok}
+use Rattle.keyless_db.proofs.StillLemmas.{held_size, held_still}
+use Rattle.keyless_db.proofs.database.Keyless.historical_proof.Goals as goal
+use Rattle.keyless_db.proofs.database.Keyless.historical_proof.Goals.{then-count-eq0-via-then-count-eq0, then-count-eq0-via-else-count-eq0+then-count-as_u64}
+
+pub returns-then-count-eq0-clause-answer : goal.returns-then-count-eq0-clause-answer
+returns-then-count-eq0-clause-answer g c tells ops held all =
+    let n = c.args.op_count in
+    let size : c.self.inside.state.size ≡ length ops = ap (λ (d : DbView g.row.F.Denot g.row.H-Digest.Denot g.row.O.Denot g.row.O-Cfg.Denot). d.state.size) c.self.view_is ∙ held_size held in
+    let why : (n ≡ 0) ⊎ (length ops < n) = elim c.then-count-eq0.branch [
+      | then-count-eq0-via-then-count-eq0 w ↦ inl (omega (arith, w.if-count-eq0.true, c.as_u64-count.ensures))
+      | then-count-eq0-via-else-count-eq0+then-count-as_u64 w ↦ inr (omega (arith, w.if-count-as_u64.true, w.as_u64.ensures, c.as_u64-count.ensures, size))
+    ] in
+    let e : c.new.result ≡ n = c.new.ensures ∙ c.as_u64-count.ensures in
+    inr (RangeOutOfBounds n, refused_by _ _ (RangeOutOfBounds n) (size_refused g.O.Logged.meaning ops c.args.self.now.journal.items.start n c.args.start why), ap (λ k. Some (RangeOutOfBounds k)) e)
+
+pub returns-in-Ok-clause-answer : goal.returns-in-Ok-clause-answer
+returns-in-Ok-clause-answer g c tells ops held all =
+    let db = c.args.self.now in
+    let m = g.O.Logged.meaning in
+    let n = c.args.op_count in
+    let count = c.as_u64-count.result in
+    let start = db.journal.items.start in
+    let same : count ≡ n = c.as_u64-count.ensures in
+    let size : c.self.inside.state.size ≡ length ops = ap (λ (d : DbView g.row.F.Denot g.row.H-Digest.Denot g.row.O.Denot g.row.O-Cfg.Denot). d.state.size) c.self.view_is ∙ held_size held in
+    let some : 0 < n = omega (arith, c.if-count-eq0.false, same) in
+    let high : n ≤ length ops = omega (arith, c.if-count-as_u64.false, c.as_u64.ensures, same, size) in
+    let entry = there_is ops (n - 1) (omega (arith, some, high)) in
+    let at : slice_get ops (count - 1) ≡ Some entry.0 = ap (λ k. slice_get ops (k - 1)) same ∙ entry.1 in
+    let may = all_at (g.O.Read.admits db.journal.items.codec) ops (n - 1) entry.0 all entry.1 in
+    let told = refused_ok (floor_refusal start count (m.floor entry.0)) (m.floor entry.0) (Some c.in-Ok.floor) (c.in-Ok.ensures.floor tells ops entry.0 held at may) in
+    let none : floor_refusal start n (m.floor entry.0) ≡ None = ap (λ k. floor_refusal start k (m.floor entry.0)) (sym same) ∙ told.0 in
+    let later = held_still g.F.Family.shape g.H.Hasher.hash m g.H.Digest.Spelled.spelling (g.H.Digest.Read.admits tt) g.O.Spelled.spelling ops db _ _ (c.in-Ok.ensures.reads.contents tells) held in
+    let answer = c.proof_under.ensures.answer tells ops entry.0 later all at told.1 in
+    let split : proof_refusal m ops start n c.args.start ≡ late_refusal start n c.args.start =
+    split_refusal m ops start n c.args.start some high entry.0 entry.1 ∙ ap (λ o. or_else o (late_refusal start n c.args.start)) none in
+    answers_by _ _ _ c.proof_under.result
+    (ap (λ k. unless_refused (late_refusal start k c.args.start) (proof_answer g.F.Family.shape g.H.Hasher.hash m ops k c.args.start (proof_end k c.args.start (non_zero_u64_get c.args.max_ops)))) same
+    ∙ ap (λ o. unless_refused o (proof_answer g.F.Family.shape g.H.Hasher.hash m ops n c.args.start (proof_end n c.args.start (non_zero_u64_get c.args.max_ops)))) (sym split)) answer
+
+pub returns-in-Err-clause-answer : goal.returns-in-Err-clause-answer
+returns-in-Err-clause-answer g c tells ops held all =
+    let db = c.args.self.now in
+    let m = g.O.Logged.meaning in
+    let n = c.args.op_count in
+    let count = c.as_u64-count.result in
+    let start = db.journal.items.start in
+    let same : count ≡ n = c.as_u64-count.ensures in
+    let size : c.self.inside.state.size ≡ length ops = ap (λ (d : DbView g.row.F.Denot g.row.H-Digest.Denot g.row.O.Denot g.row.O-Cfg.Denot). d.state.size) c.self.view_is ∙ held_size held in
+    let some : 0 < n = omega (arith, c.if-count-eq0.false, same) in
+    let high : n ≤ length ops = omega (arith, c.if-count-as_u64.false, c.as_u64.ensures, same, size) in
+    let entry = there_is ops (n - 1) (omega (arith, some, high)) in
+    let at : slice_get ops (count - 1) ≡ Some entry.0 = ap (λ k. slice_get ops (k - 1)) same ∙ entry.1 in
+    let may = all_at (g.O.Read.admits db.journal.items.codec) ops (n - 1) entry.0 all entry.1 in
+    let split : proof_refusal m ops start n c.args.start ≡ or_else (floor_refusal start count (m.floor entry.0)) (late_refusal start n c.args.start) =
+    split_refusal m ops start n c.args.start some high entry.0 entry.1 ∙ ap (λ k. or_else (floor_refusal start k (m.floor entry.0)) (late_refusal start n c.args.start)) (sym same) in
+    floor_stops (proof_refusal m ops start n c.args.start) (floor_refusal start count (m.floor entry.0)) (late_refusal start n c.args.start) (m.floor entry.0) _ c.in-Err.error split
+    (c.in-Err.ensures.floor tells ops entry.0 held at may)
