@@ -13,3 +13,4 @@ pub mod KeptLemmas
 pub mod StillLemmas
 pub mod ProofLemmas
 pub mod SealedLemmas
+pub mod OpenLemmas

@@ -4,3 +4,4 @@ pub mod Errors
 pub mod Durable
 pub mod Reading
 pub mod Serving
+pub mod Opening

@@ -1,0 +1,71 @@
+use Rattle.std.proofs.Common.{◌≡◌, [], Ok, Err, ◌∙◌, ap, sym, subst, arith, inl, refl, ◌∷◌}
+use Rattle.volume_base.specs.Log.{Log}
+use Rattle.volume_base.proofs.CallLemmas.{names_call_joins, names_call_log}
+use Rattle.volume_base.proofs.JoinLemmas.{changes_joins, changes_of_writes, went_of_writes}
+use Rattle.journal_base.specs.View.{View, IsDurable}
+use Rattle.auth_journal.specs.Standing.{logs_of, names_of}
+use Rattle.auth_journal.specs.declared.error.Error.TheVariants as joined
+use Rattle.chain_core.specs.declared.error.Error.TheVariants.{Volume}
+use Rattle.keyless_db.proofs.LiftLemmas.{ok_never, volume_below}
+use Rattle.keyless_db.proofs.OpenLemmas.{durable_same, logs_call}
+use Rattle.keyless_db.proofs.database.Keyless.begun.Goals as goal
+
+pub returns-in-Ok-sync-clause-listed : goal.returns-in-Ok-sync-clause-listed
+returns-in-Ok-sync-clause-listed g c tells of low =
+    let made = c.in-Ok.made in
+    let old = g.V.Volume.state c.args.vol.now in
+    let mid = g.V.Volume.state c.append.new.vol in
+    let added = c.in-Ok.ensures.joined tells [] of in
+    let synced = c.in-Ok-sync.ensures.joined tells _ added in
+    let name = ap (λ (v : View g.row.O-Cfg.Denot). (mid.log v.name).start) c.in-Ok.ensures.same.1.items in
+    let log = ap (λ (l : Log). l.start) (c.in-Ok.ensures.appends.appended tells) in
+    let kept = c.in-Ok-sync.ensures.same in
+    (synced, omega (arith, low, of.start_is, added.start_is, name, log, c.in-Ok.ensures.same.1.boundary, kept.tree.boundary, ap (λ (v : View g.row.O-Cfg.Denot). v.start) kept.items))
+
+pub returns-in-Ok-sync-clause-changes : goal.returns-in-Ok-sync-clause-changes
+returns-in-Ok-sync-clause-changes g c =
+    let fresh = c.in-Ok.ensures.same.1.failed ∙ c.requires in
+    let went = went_of_writes g.V.Volume.tells joined.Volume _ _ c.in-Ok.made c.in-Ok.ensures.appends.writes in
+    let writes = c.in-Ok-sync.ensures.writes fresh in
+    changes_joins g.V.Volume.tells joined.Volume Volume _ _ _ (Ok c.in-Ok-sync.journal) (Ok c.in-Ok-sync.journal) went (changes_of_writes g.V.Volume.tells joined.Volume _ _ (Ok c.in-Ok-sync.journal) writes)
+    (λ is. ok_never _ Volume _ is) writes.kept
+
+pub returns-in-Err-sync-clause-changes : goal.returns-in-Err-sync-clause-changes
+returns-in-Err-sync-clause-changes g c =
+    let fresh = c.in-Ok.ensures.same.1.failed ∙ c.requires in
+    let went = went_of_writes g.V.Volume.tells joined.Volume _ _ c.in-Ok.made c.in-Ok.ensures.appends.writes in
+    let writes = c.in-Err-sync.ensures.writes fresh in
+    changes_joins g.V.Volume.tells joined.Volume Volume _ _ _ (Err c.in-Err-sync.error) _ went (changes_of_writes g.V.Volume.tells joined.Volume _ _ (Err c.in-Err-sync.error) writes)
+    (volume_below c.in-Err-sync.error c.from_joined-in-Err-sync.result c.from_joined-in-Err-sync.ensures) tt
+
+pub returns-in-Err-clause-names : goal.returns-in-Err-clause-names
+returns-in-Err-clause-names g c tells =
+    let j = c.args.journal in
+    names_call_log (names_of j) j.items.name _ _ _ (inl refl) (c.in-Err.ensures.appends.log tells)
+
+pub returns-in-Ok-sync-clause-names : goal.returns-in-Ok-sync-clause-names
+returns-in-Ok-sync-clause-names g c tells =
+    let j = c.args.journal in
+    let k = c.in-Ok.made.0 in
+    let same : logs_of k ≡ record { logs = j.items.name ∷ j.tree.log.name ∷ []; maps = [] } =
+    ap (λ (v : View g.row.O-Cfg.Denot). record { logs = v.name ∷ k.tree.log.name ∷ []; maps = [] }) c.in-Ok.ensures.same.1.items
+    ∙ ap (λ (v : View (Unit {0})). record { logs = j.items.name ∷ v.name ∷ []; maps = [] }) c.in-Ok.ensures.same.1.log in
+    names_call_joins (names_of j) _ _ _ (names_call_log (names_of j) j.items.name _ _ _ (inl refl) (c.in-Ok.ensures.appends.log tells))
+    (logs_call j.items.name j.tree.log.name j.tree.metadata (logs_of k) _ _ same (c.in-Ok-sync.ensures.names tells))
+
+pub returns-in-Err-sync-clause-names : goal.returns-in-Err-sync-clause-names
+returns-in-Err-sync-clause-names g c tells =
+    let j = c.args.journal in
+    let k = c.in-Ok.made.0 in
+    let same : logs_of k ≡ record { logs = j.items.name ∷ j.tree.log.name ∷ []; maps = [] } =
+    ap (λ (v : View g.row.O-Cfg.Denot). record { logs = v.name ∷ k.tree.log.name ∷ []; maps = [] }) c.in-Ok.ensures.same.1.items
+    ∙ ap (λ (v : View (Unit {0})). record { logs = j.items.name ∷ v.name ∷ []; maps = [] }) c.in-Ok.ensures.same.1.log in
+    names_call_joins (names_of j) _ _ _ (names_call_log (names_of j) j.items.name _ _ _ (inl refl) (c.in-Ok.ensures.appends.log tells))
+    (logs_call j.items.name j.tree.log.name j.tree.metadata (logs_of k) _ _ same (c.in-Err-sync.ensures.names tells))
+
+pub returns-in-Ok-sync-clause-durable : goal.returns-in-Ok-sync-clause-durable
+returns-in-Ok-sync-clause-durable g c tells =
+    let same = c.in-Ok-sync.ensures.same in
+    let new = g.V.Volume.state c.sync.new.vol in
+    let durable = c.in-Ok-sync.ensures.durable tells in
+    (subst (λ (v : View g.row.O-Cfg.Denot). IsDurable v new) (sym same.items) durable.0, durable_same c.in-Ok.made.0.tree.log c.in-Ok-sync.journal.tree.log new same.tree.log durable.1)

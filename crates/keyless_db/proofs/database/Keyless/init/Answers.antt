@@ -1,0 +1,41 @@
+use Rattle.std.proofs.Common.{sym, ap, subst}
+use Rattle.std.specs.List.{AllByRecursion}
+use Rattle.volume_base.specs.Names.{Names, NamesCall}
+use Rattle.volume_base.proofs.CallLemmas.{names_call_joins}
+use Rattle.volume_base.proofs.JoinLemmas.{changes_joins, went_of}
+use Rattle.journal_base.specs.Items.{Items, items_of}
+use Rattle.journal_base.specs.View.{View}
+use Rattle.chain_core.specs.declared.error.Error.TheVariants.{Volume}
+use Rattle.keyless_db.proofs.OpenLemmas.{if_ok, init_of}
+use Rattle.keyless_db.proofs.database.Keyless.init.Goals as goal
+
+pub returns-in-Ok-open_journal-clause-held : goal.returns-in-Ok-open_journal-clause-held
+returns-in-Ok-open_journal-clause-held g c =
+    let s = g.F.Family.shape in
+    let h = g.H.Hasher.hash in
+    let m = g.O.Logged.meaning in
+    let digest = g.H.Digest.Spelled.spelling in
+    let admits = g.H.Digest.Read.admits tt in
+    let spelling = g.O.Spelled.spelling in
+    let opened = c.in-Ok-open_journal.ensures in
+    let items : Items g.row.O.Denot = items_of spelling g.O.Read.admits (g.C.Backing.config c.args.cfg.log) (g.V.Volume.state c.args.vol.now) in
+    if_ok _ _ c.opened_from.result
+    (λ d held. λ tells list durable run few stands all.
+    let codec = ap (λ (v : View g.row.O-Cfg.Denot). v.codec) opened.named.0 in
+    let may = subst (λ (x : g.row.O-Cfg.Denot). AllByRecursion (g.O.Read.admits x) list) (sym codec) all in
+    init_of s h m digest admits spelling items c.args.max_size list c.in-Ok-open_journal.journal.items.end d _ (opened.found tells) (held tells list (opened.listed tells list durable run few stands) may))
+    c.opened_from.ensures.held
+
+pub returns-in-Ok-open_journal-clause-changes : goal.returns-in-Ok-open_journal-clause-changes
+returns-in-Ok-open_journal-clause-changes g c =
+    changes_joins g.V.Volume.tells Volume Volume _ _ _ c.opened_from.result c.opened_from.result (went_of g.V.Volume.tells Volume _ _ c.in-Ok-open_journal.journal c.in-Ok-open_journal.ensures.changes)
+    c.opened_from.ensures.changes (λ is. is) c.opened_from.ensures.changes.kept
+
+pub returns-in-Ok-open_journal-clause-names : goal.returns-in-Ok-open_journal-clause-names
+returns-in-Ok-open_journal-clause-names g c tells =
+    let opened = c.in-Ok-open_journal.ensures in
+    names_call_joins _ _ _ _ (opened.names tells) (subst (λ (n : Names). NamesCall n (g.V.Volume.state c.open_journal.new.vol) (g.V.Volume.state c.opened_from.new.vol)) opened.joined (c.opened_from.ensures.names tells))
+
+pub returns-in-Ok-open_journal-clause-durable : goal.returns-in-Ok-open_journal-clause-durable
+returns-in-Ok-open_journal-clause-durable g c =
+    if_ok _ _ c.opened_from.result (λ d held. λ tells. let durable = c.in-Ok-open_journal.ensures.durable tells in held tells durable.0 durable.1) c.opened_from.ensures.durable

@@ -1,0 +1,59 @@
+use Rattle.std.proofs.Common.{◌≡◌, ℕ, Some, None, Option, sym, ◌∙◌, ap, subst, arith, rules}
+use Rattle.std.specs.Prelude.{string_bytes}
+use Rattle.volume_base.specs.Log.{Log}
+use Rattle.journal_base.specs.Items.{Items, items_of}
+use Rattle.journal_base.specs.View.{View}
+use Rattle.auth_journal.specs.Joined.{leaves_of}
+use Rattle.auth_journal.specs.Searching.{EndsAt}
+use Rattle.auth_journal.proofs.LeafLemmas.{length-leaves_of}
+use Rattle.keyless_db.specs.Opening.{IsSaidCommit}
+use Rattle.keyless_db.proofs.OpenLemmas.{ends_as, opened_low}
+use Rattle.keyless_db.proofs.database.Keyless.open_journal.Goals as goal
+
+pub returns-in-Ok-clause-found : goal.returns-in-Ok-clause-found
+returns-in-Ok-clause-found g c tells =
+    let items : Items g.row.O.Denot = items_of g.O.Spelled.spelling g.O.Read.admits (g.C.Backing.config c.args.cfg.log) (g.V.Volume.state c.args.vol.now) in
+    let cap : Some c.as_u64.result ≡ c.args.max_size = ap Some c.as_u64.ensures ∙ sym c.in-Some.is in
+    subst (λ (o : Option ℕ). EndsAt items (IsSaidCommit g.O.Logged.meaning) o c.in-Ok.journal.items.end) cap
+    (ends_as items _ (IsSaidCommit g.O.Logged.meaning) (Some c.as_u64.result) c.in-Ok.journal.items.end (λ x b k. search rules) (c.in-Ok.ensures.found tells))
+
+pub returns-in-Ok-clause-listed : goal.returns-in-Ok-clause-listed
+returns-in-Ok-clause-listed g c tells list durable run few stands =
+    let s = g.F.Family.shape in
+    let h = g.H.Hasher.hash in
+    let view = g.C.Backing.config c.args.cfg.log in
+    let old = g.V.Volume.state c.args.vol.now in
+    let new = g.V.Volume.state c.init_at_most.new.vol in
+    let t = c.in-Ok.journal in
+    let is = c.in-Ok.ensures.joined tells list durable (old.log view.name).start run few stands in
+    let opens = c.in-Ok.ensures.opens tells in
+    let all = leaves_of s h g.O.Spelled.spelling list in
+    let low = opened_low g.row.F.Denot s h g.H.Digest.Spelled.spelling (g.H.Digest.Read.admits tt) all (old.map (string_bytes c.args.cfg.merkle.metadata)) (old.log (string_bytes c.args.cfg.merkle.nodes)) durable
+    (old.log view.name).start _ t.tree.boundary opens.leaves (omega (arith, few, length-leaves_of s h g.O.Spelled.spelling list)) stands opens.opens in
+    let name = ap (λ (v : View g.row.O-Cfg.Denot). (new.log v.name).start) c.in-Ok.ensures.named.0 in
+    let cut = ap (λ (l : Log). l.start) (c.in-Ok.ensures.cut tells).0 in
+    record { joined = is; low = omega (arith, low, is.start_is, name, cut) }
+
+pub returns-in-Ok-new-clause-found : goal.returns-in-Ok-new-clause-found
+returns-in-Ok-new-clause-found g c tells =
+    let items : Items g.row.O.Denot = items_of g.O.Spelled.spelling g.O.Read.admits (g.C.Backing.config c.args.cfg.log) (g.V.Volume.state c.args.vol.now) in
+    let cap : None ≡ c.args.max_size = sym c.in-None.is in
+    subst (λ (o : Option ℕ). EndsAt items (IsSaidCommit g.O.Logged.meaning) o c.in-Ok-new.journal.items.end) cap
+    (ends_as items _ (IsSaidCommit g.O.Logged.meaning) None c.in-Ok-new.journal.items.end (λ x b k. search rules) (c.in-Ok-new.ensures.found tells))
+
+pub returns-in-Ok-new-clause-listed : goal.returns-in-Ok-new-clause-listed
+returns-in-Ok-new-clause-listed g c tells list durable run few stands =
+    let s = g.F.Family.shape in
+    let h = g.H.Hasher.hash in
+    let view = g.C.Backing.config c.args.cfg.log in
+    let old = g.V.Volume.state c.args.vol.now in
+    let new = g.V.Volume.state c.new.new.vol in
+    let t = c.in-Ok-new.journal in
+    let is = c.in-Ok-new.ensures.joined tells list durable (old.log view.name).start run few stands in
+    let opens = c.in-Ok-new.ensures.opens tells in
+    let all = leaves_of s h g.O.Spelled.spelling list in
+    let low = opened_low g.row.F.Denot s h g.H.Digest.Spelled.spelling (g.H.Digest.Read.admits tt) all (old.map (string_bytes c.args.cfg.merkle.metadata)) (old.log (string_bytes c.args.cfg.merkle.nodes)) durable
+    (old.log view.name).start _ t.tree.boundary opens.leaves (omega (arith, few, length-leaves_of s h g.O.Spelled.spelling list)) stands opens.opens in
+    let name = ap (λ (v : View g.row.O-Cfg.Denot). (new.log v.name).start) c.in-Ok-new.ensures.named.0 in
+    let cut = ap (λ (l : Log). l.start) (c.in-Ok-new.ensures.cut tells).0 in
+    record { joined = is; low = omega (arith, low, is.start_is, name, cut) }

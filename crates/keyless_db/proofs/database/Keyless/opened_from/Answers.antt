@@ -1,0 +1,104 @@
+use Rattle.std.proofs.Common.{◌≡◌, ◌∷◌, [], ◌-◌, ◌<◌, List, length, take, None, Some, inl, inr, refl, sym, ◌∙◌, ap, subst, arith}
+use Rattle.volume_base.specs.Moments.{Image, present}
+use Rattle.volume_base.proofs.CallLemmas.{names_call_idle}
+use Rattle.journal_base.specs.View.{IsDurable}
+use Rattle.merkle_full.proofs.ListLemmas.{there_is, taken}
+use Rattle.auth_journal.specs.Joined.{Joined, IsJoinedOf}
+use Rattle.auth_journal.specs.Standing.{names_of}
+use Rattle.auth_journal.proofs.ReadingLemmas.{run_end}
+use Rattle.keyless_db.specs.DbView.{IsHeldFor}
+use Rattle.keyless_db.proofs.LocationLemmas.{nothing_taken}
+use Rattle.keyless_db.proofs.OpenLemmas.{durable_still, if_ok, if_ok_both}
+use Rattle.keyless_db.proofs.ReadLemmas.{all_at}
+use Rattle.keyless_db.proofs.StillLemmas.{present_same}
+use Rattle.keyless_db.proofs.database.Keyless.opened_from.Goals as goal
+
+pub returns-then-size-eq0-clause-held : goal.returns-then-size-eq0-clause-held
+returns-then-size-eq0-clause-held g c =
+    let s = g.F.Family.shape in
+    let h = g.H.Hasher.hash in
+    let m = g.O.Logged.meaning in
+    let digest = g.H.Digest.Spelled.spelling in
+    let admits = g.H.Digest.Read.admits tt in
+    let spelling = g.O.Spelled.spelling in
+    let j = c.args.journal in
+    let zero : j.items.end ≡ 0 = sym (c.as_u64-size.ensures ∙ c.size.ensures) ∙ c.if-size-eq0.true in
+    if_ok_both _ _ _ c.built.result
+    (λ d listed is. λ tells list opened all.
+    let none : take j.items.end list ≡ [] = ap (λ n. take n list) zero ∙ nothing_taken list in
+    let empty = subst (λ (xs : List g.row.O.Denot). IsJoinedOf s h digest admits spelling xs j (present (g.V.Volume.state c.args.vol.now))) none opened.joined in
+    let begun = c.in-Ok.ensures.listed tells empty opened.low in
+    let held = listed (c.commit-commit.result ∷ []) (present (g.V.Volume.state c.begun.new.vol)) begun.0 begun.1 refl in
+    let commit = is ∙ c.commit-commit.ensures in
+    inr (
+      zero,
+      record { floored = ap m.floor commit ∙ g.met.O.KeylessOperation.floored None 0; valued = ap m.value commit ∙ g.met.O.KeylessOperation.valued None 0 },
+      subst (λ (op : g.row.O.Denot). IsHeldFor s h m digest admits spelling (op ∷ []) d (present (g.V.Volume.state c.begun.new.vol))) (sym is) held,
+    ))
+    c.built.ensures.listed c.built.ensures.commit
+
+pub returns-in-Ok-read-clause-held : goal.returns-in-Ok-read-clause-held
+returns-in-Ok-read-clause-held g c =
+    let s = g.F.Family.shape in
+    let h = g.H.Hasher.hash in
+    let digest = g.H.Digest.Spelled.spelling in
+    let admits = g.H.Digest.Read.admits tt in
+    let spelling = g.O.Spelled.spelling in
+    let j = c.args.journal in
+    let n = c.as_u64-size.result in
+    let end : n ≡ j.items.end = c.as_u64-size.ensures ∙ c.size.ensures in
+    let some : 0 < n = omega (arith, c.if-size-eq0.false) in
+    let read = c.in-Ok-read.ensures {u = tt} in
+    if_ok_both _ _ _ c.built-in-Ok-read.result
+    (λ d listed sized. λ tells list opened all.
+    let ops = take j.items.end list in
+    let count : length ops ≡ n = omega (arith, end, opened.joined.end_is, run_end spelling ops _ opened.joined.items) in
+    let entry = there_is ops (n - 1) (omega (arith, count, some)) in
+    let may = all_at (g.O.Read.admits j.items.codec) list (n - 1) entry.0 all (taken list j.items.end (n - 1) entry.0 entry.1) in
+    let there = read.item tells in
+    let is = read.listed tells ops entry.0 opened.joined.items there.low entry.1 may in
+    let later = subst (λ (image : Image). IsJoinedOf s h digest admits spelling ops j image) (present_same _ _ (read.answers.contents tells)) opened.joined in
+    inl (omega (arith, some, end), sized ∙ end, listed ops (present (g.V.Volume.state c.read.new.vol)) later opened.low (entry.1 ∙ ap Some (sym is))))
+    c.built-in-Ok-read.ensures.listed c.built-in-Ok-read.ensures.size
+
+pub returns-then-size-eq0-clause-at : goal.returns-then-size-eq0-clause-at
+returns-then-size-eq0-clause-at g c =
+    let m = g.O.Logged.meaning in
+    let none : c.args.journal.items.end ≡ 0 = sym (c.as_u64-size.ensures ∙ c.size.ensures) ∙ c.if-size-eq0.true in
+    if_ok_both _ _ _ c.built.result
+    (λ d sized is.
+    let commit = is ∙ c.commit-commit.ensures in
+    inr (none, sized, record { floored = ap m.floor commit ∙ g.met.O.KeylessOperation.floored None 0; valued = ap m.value commit ∙ g.met.O.KeylessOperation.valued None 0 }))
+    c.built.ensures.size c.built.ensures.commit
+
+pub returns-in-Ok-read-clause-names : goal.returns-in-Ok-read-clause-names
+returns-in-Ok-read-clause-names g c tells =
+    let read = (c.in-Ok-read.ensures {u = tt}).answers in
+    names_call_idle (names_of c.args.journal) _ _ read.clock (read.past tells) (read.contents tells)
+
+pub returns-in-Err-read-clause-names : goal.returns-in-Err-read-clause-names
+returns-in-Err-read-clause-names g c tells =
+    let read = (c.in-Err-read.ensures {u = tt}).answers in
+    names_call_idle (names_of c.args.journal) _ _ read.clock (read.past tells) (read.contents tells)
+
+pub returns-then-size-eq0-clause-durable : goal.returns-then-size-eq0-clause-durable
+returns-then-size-eq0-clause-durable g c =
+    let new = g.V.Volume.state c.begun.new.vol in
+    if_ok _ _ c.built.result
+    (λ d same. λ tells items nodes.
+    let durable = c.in-Ok.ensures.durable tells in
+    (subst (λ (j : Joined g.row.H-Digest.Denot g.row.O-Cfg.Denot). IsDurable j.items new) (sym same) durable.0, subst (λ (j : Joined g.row.H-Digest.Denot g.row.O-Cfg.Denot). IsDurable j.tree.log new) (sym same) durable.1))
+    c.built.ensures.journal
+
+pub returns-in-Ok-read-clause-durable : goal.returns-in-Ok-read-clause-durable
+returns-in-Ok-read-clause-durable g c =
+    let old = g.V.Volume.state c.args.vol.now in
+    let new = g.V.Volume.state c.read.new.vol in
+    let j = c.args.journal in
+    let read = (c.in-Ok-read.ensures {u = tt}).answers in
+    if_ok _ _ c.built-in-Ok-read.result
+    (λ d same. λ tells items nodes. (
+      subst (λ (x : Joined g.row.H-Digest.Denot g.row.O-Cfg.Denot). IsDurable x.items new) (sym same) (durable_still j.items old new read.clock (read.past tells) (read.contents tells) items),
+      subst (λ (x : Joined g.row.H-Digest.Denot g.row.O-Cfg.Denot). IsDurable x.tree.log new) (sym same) (durable_still j.tree.log old new read.clock (read.past tells) (read.contents tells) nodes),
+    ))
+    c.built-in-Ok-read.ensures.journal

@@ -1,0 +1,44 @@
+-- At which state a database is opened.
+use Rattle.std.specs.Prelude.{◌≡◌, ◌⊎◌, ℕ, ◌<◌, ◌≤◌, Bool, List, [], ◌∷◌, take, Option, Some, None, is_some}
+use Rattle.volume_base.specs.Moments.{Image}
+use Rattle.journal_base.specs.Items.{Items}
+use Rattle.tree_shape.specs.Hashing.{Hashing}
+use Rattle.tree_shape.specs.Shape.{Shape}
+use Rattle.auth_journal.specs.Joined.{Joined, IsJoinedOf}
+use Rattle.auth_journal.specs.Searching.{EndsAt}
+use Rattle.log_model.specs.Meaning.{Meaning}
+use Rattle.keyless_db.specs.DbView.{DbView, IsHeldFor}
+
+-- Whether an operation is said to be a commit, as it is.
+abbrev pub IsSaidCommit : {Op V : Type 0} → Meaning Op V → Op → Bool → Type 0
+IsSaidCommit m op is = is ≡ is_some (m.floor op)
+
+-- The first commit of a log: its floor is 0, and it has no metadata.
+pub record IsFirstCommit {Op V : Type 0} (m : Meaning Op V) (op : Op) : Type 0 where
+  pub floored : m.floor op ≡ Some 0
+  pub valued : m.value op ≡ None
+
+-- Of a journal that ends here the database is at that size; at 0 it has the first commit alone.
+abbrev pub IsBuiltAt : {F D Op V Cfg : Type 0} → Meaning Op V → ℕ → DbView F D Op Cfg → Type 0
+IsBuiltAt m end db = ((0 < end) × (db.state.size ≡ end)) ⊎ ((end ≡ 0) × (db.state.size ≡ 1) × IsFirstCommit m db.commit)
+
+module _ {D Op Cfg : Type 0} (s : Shape) (h : Hashing D) (digest : D → List ℕ) (admits : D → Type 0) (spelling : Op → List ℕ) where
+  -- The journal is that of a list's operations up to its end, and its tree isn't pruned past its log.
+  pub record IsOpenedOf (list : List Op) (j : Joined D Cfg) (image : Image) : Type 0 where
+    pub joined : IsJoinedOf s h digest admits spelling (take j.items.end list) j image
+    pub low : j.tree.boundary ≤ j.items.start
+
+module _ {F D Op V Cfg : Type 0} (s : Shape) (h : Hashing D) (m : Meaning Op V) (digest : D → List ℕ) (admits : D → Type 0) (spelling : Op → List ℕ) where
+  -- Of a journal that ends here the database is that of a list's operations up to there; at 0 it is that of the first
+  -- commit alone.
+  abbrev pub IsHeldFrom : List Op → ℕ → DbView F D Op Cfg → Image → Type 0
+  IsHeldFrom list end db image =
+      ((0 < end) × (db.state.size ≡ end) × IsHeldFor s h m digest admits spelling (take end list) db image)
+      ⊎ ((end ≡ 0) × IsFirstCommit m db.commit × IsHeldFor s h m digest admits spelling (db.commit ∷ []) db image)
+
+  -- Of a list of which a log has these items: behind the last commit under a cap, or none, it is that of the list up to
+  -- there; where the log begins at 0 and there is none, that of the first commit alone.
+  abbrev pub IsInitOf : Items Op → Option ℕ → List Op → DbView F D Op Cfg → Image → Type 0
+  IsInitOf items cap list db image =
+      (EndsAt items (IsSaidCommit m) cap db.state.size × IsHeldFor s h m digest admits spelling (take db.state.size list) db image)
+      ⊎ (EndsAt items (IsSaidCommit m) cap 0 × IsFirstCommit m db.commit × IsHeldFor s h m digest admits spelling (db.commit ∷ []) db image)

@@ -1,0 +1,270 @@
+//! How a database is opened.
+ghost use Rattle.std.specs.Prelude.{◌≡◌, ◌↔◌, Some, IsErrOf, IsOkUnless};
+ghost use Rattle.chain_core.specs.declared.error.Error.TheVariants as error;
+
+use crate::errors::from_joined;
+use crate::{Keyless, KeylessOperation};
+use auth_journal::Journal;
+use chain_core::{Commitment, DataFault, Error};
+use journal_base::{Backing, Contiguous};
+use std::alloc::Global;
+use std::num::NonZeroU64;
+use tree_core::{Bagging, Family, Hasher, Location, MAX_LEAVES};
+use volume_base::Volume;
+
+/// Where a database has its operations and their tree, and how many operations are read at a time where the tree lacks
+/// them.
+#[derive(Drop)]
+pub struct Config<J> {
+    /// Where the tree has its nodes and its pins.
+    pub merkle: merkle_full::Config,
+    /// Where the log has its operations.
+    pub log: J,
+    /// How many operations are read at a time.
+    pub apply_batch: NonZeroU64,
+}
+
+/// Refuses a bound of 0 with `InvalidInitializationBound`.
+fn check_bound<F: Family>(bound: &Option<Location<F>>) -> Result<(), Error<F>>
+    ensures zero { IsErrOf result error.InvalidInitializationBound ↔ (bound.now ≡ Some 0) }
+    ensures only { IsOkUnless result error.InvalidInitializationBound }
+{
+    match bound {
+        Some(bound) if bound.as_u64() == 0 => Err(Error::InvalidInitializationBound),
+        _ => Ok(()),
+    }
+}
+
+impl<F: Family, O: KeylessOperation, C: Backing<Item = O>, H: Hasher> Keyless<F, O, C, H> {
+    ghost use Rattle.std.specs.Prelude.{◌≢◌, ◌≤◌, ◌^◌, ◌+◌, ◌-◌, ◌∷◌, [], ℕ, List, length, Err, false, string_bytes, slice_get, IfOk, IfErr};
+    ghost use Rattle.std.specs.List.{AllByRecursion};
+    ghost use Rattle.journal_base.specs.Items.{items_of, Spells};
+    ghost use Rattle.journal_base.specs.View.{log_of, IsDurable, SameButBounds};
+    ghost use Rattle.tree_shape.specs.declared.bagging.Bagging.TheVariants.{ForwardFold};
+    ghost use Rattle.tree_store.specs.Stored.{TreeStands};
+    ghost use Rattle.volume_base.specs.Moments.{Image, present};
+    ghost use Rattle.volume_base.specs.Names.{two_logs_and_map, NamesCall};
+    ghost use Rattle.volume_base.specs.Volume.{Changes};
+    ghost use Rattle.auth_journal.specs.Joined.{IsJoinedOf, leaves_of};
+    ghost use Rattle.auth_journal.specs.Searching.{EndsAt};
+    ghost use Rattle.auth_journal.specs.Standing.{names_of};
+    ghost use Rattle.chain_core.specs.declared.error.Error.{Error};
+    ghost use Rattle.keyless_db.specs.DbView.{IsHeldFor};
+    ghost use Rattle.keyless_db.specs.Opening.{IsBuiltAt, IsHeldFrom, IsInitOf, IsOpenedOf, IsSaidCommit};
+
+    /// The log and the tree up to the last commit at or below a size, or up to the last of all.
+    fn open_journal<V: Volume>(
+        alloc: Global,
+        vol: &mut V,
+        cfg: Config<C::Config>,
+        max_size: Option<Location<F>>,
+    ) -> Result<Journal<F, C, H>, Error<F>>
+        requires { (C.config cfg.log).name ≢ string_bytes cfg.merkle.nodes }
+        ensures named { IfOk result (λ t. SameButBounds (C.config cfg.log) t.items × (t.bagging ≡ ForwardFold)
+            × (t.failed ≡ false)) }
+        ensures whole { IfOk result (λ t. t.tree.tree.leaves ≡ t.items.end) }
+        ensures found { let items = items_of O.spelling O.admits (C.config cfg.log) (V.state vol.old) in
+            IfOk result (λ t. V.tells → EndsAt items (IsSaidCommit O.meaning) max_size t.items.end) }
+        ensures joined { IfOk result (λ t. names_of t ≡ two_logs_and_map (C.config cfg.log).name
+            (string_bytes cfg.merkle.nodes) (string_bytes cfg.merkle.metadata)) }
+        // For each list that the contents stood for, it is the journal of its first operations.
+        ensures listed { let old = V.state vol.old in let log = log_of (C.config cfg.log) old in
+            let nodes = old.log (string_bytes cfg.merkle.nodes) in let map = old.map
+            (string_bytes cfg.merkle.metadata) in
+            IfOk result (λ t. V.tells → (list : List O) (durable : ℕ) → Spells O.spelling list log →
+            length list ≤ 2 ^ 62 → TreeStands F.shape H.hash H.Digest.spelling
+            (leaves_of F.shape H.hash O.spelling list) durable log.start nodes map →
+            IsOpenedOf F.shape H.hash H.Digest.spelling (H.Digest.Read.admits tt) O.spelling list t
+            (present (V.state vol.new))) }
+        ensures names { let names = two_logs_and_map (C.config cfg.log).name (string_bytes cfg.merkle.nodes)
+            (string_bytes cfg.merkle.metadata) in V.tells → NamesCall names (V.state vol.old) (V.state vol.new) }
+        ensures durable { IfOk result (λ t. V.tells →
+            IsDurable t.items (V.state vol.new) × IsDurable t.tree.log (V.state vol.new)) }
+        ensures changes { Changes V.tells Error.Volume (V.state vol.old) (V.state vol.new) result }
+    {
+        let Config {
+            merkle,
+            log,
+            apply_batch,
+        } = cfg;
+        let is_commit = |op: &O| op.commit_floor().is_some();
+        let bagging = Bagging::ForwardFold;
+        match max_size {
+            Some(most) => match Journal::init_at_most(
+                alloc,
+                vol,
+                merkle,
+                log,
+                most.as_u64(),
+                is_commit,
+                bagging,
+                apply_batch,
+            ) {
+                Ok(journal) => Ok(journal),
+                Err(error) => Err(from_joined(error)),
+            },
+            None => {
+                match Journal::new(alloc, vol, merkle, log, is_commit, bagging, apply_batch) {
+                    Ok(journal) => Ok(journal),
+                    Err(error) => Err(from_joined(error)),
+                }
+            }
+        }
+    }
+
+    /// The journal with this commit behind its operations, made durable.
+    fn begun<V: Volume>(
+        vol: &mut V,
+        journal: Journal<F, C, H>,
+        commit: &O,
+    ) -> Result<Journal<F, C, H>, Error<F>>
+        requires { journal.failed ≡ false }
+        ensures named { IfOk result (λ t. SameButBounds journal.items t.items × (t.bagging ≡ journal.bagging)
+            × (t.failed ≡ journal.failed)) }
+        ensures leaves { IfOk result (λ t. t.tree.tree.leaves ≡ journal.tree.tree.leaves + 1) }
+        ensures listed { let admits = H.Digest.Read.admits tt in IfOk result (λ t. V.tells →
+            IsJoinedOf F.shape H.hash H.Digest.spelling admits O.spelling [] journal (present (V.state vol.old)) →
+            journal.tree.boundary ≤ journal.items.start →
+            IsJoinedOf F.shape H.hash H.Digest.spelling admits O.spelling (commit.now ∷ []) t
+            (present (V.state vol.new))
+            × (t.tree.boundary ≤ t.items.start)) }
+        ensures names { V.tells → NamesCall (names_of journal) (V.state vol.old) (V.state vol.new) }
+        ensures durable { IfOk result (λ t. V.tells →
+            IsDurable t.items (V.state vol.new) × IsDurable t.tree.log (V.state vol.new)) }
+        ensures changes { Changes V.tells Error.Volume (V.state vol.old) (V.state vol.new) result }
+    {
+        let made = match journal.append(vol, commit) {
+            Ok(made) => made,
+            Err(error) => return Err(from_joined(error)),
+        };
+        let (longer, _) = made;
+        match longer.sync(vol) {
+            Ok(journal) => Ok(journal),
+            Err(error) => Err(from_joined(error)),
+        }
+    }
+
+    /// The database of a journal of so many operations, of which this is the last. It refuses with
+    /// `DataCorrupted(NotACommit)` one that is no commit, and with `Merkle(LocationOverflow)` more than `MAX_LEAVES`.
+    fn built(
+        alloc: Global,
+        journal: Journal<F, C, H>,
+        size: u64,
+        last_commit: O,
+    ) -> Result<Self, Error<F>>
+        requires whole { journal.tree.tree.leaves ≡ size }
+        requires folded { journal.bagging ≡ ForwardFold }
+        ensures journal { IfOk result (λ d. d.journal ≡ journal) }
+        ensures size { IfOk result (λ d. d.state.size ≡ size) }
+        ensures commit { IfOk result (λ d. d.commit ≡ last_commit) }
+        ensures listed { let admits = H.Digest.Read.admits tt in IfOk result (λ d. (list : List O) (image : Image) →
+            IsJoinedOf F.shape H.hash H.Digest.spelling admits O.spelling list journal image →
+            journal.tree.boundary ≤ journal.items.start → slice_get list (size - 1) ≡ Some last_commit →
+            IsHeldFor F.shape H.hash O.meaning H.Digest.spelling admits O.spelling list d image) }
+        ensures outside { IfErr result (λ e. e ≢ Error.Volume) }
+    {
+        if size > MAX_LEAVES {
+            let overflow = tree_core::Error::LocationOverflow(Location::new(size));
+            return Err(Error::Merkle(overflow));
+        }
+        let Some(floor) = last_commit.commit_floor() else {
+            return Err(Error::DataCorrupted(DataFault::NotACommit));
+        };
+        let inactive = F::inactive_peaks(Location::new(size), Location::new(floor));
+        let root = match journal.root(inactive) {
+            Ok(root) => root,
+            Err(error) => return Err(from_joined(error)),
+        };
+        let state = Commitment::new(Location::new(size), root);
+        Ok(Keyless {
+            alloc,
+            journal,
+            state,
+            last_commit,
+        })
+    }
+
+    /// The database of a journal that is opened at its last commit. Where it has no operation, it gets the first
+    /// commit, which is made durable. It refuses as `read` and `built`.
+    fn opened_from<V: Volume>(
+        alloc: Global,
+        vol: &mut V,
+        journal: Journal<F, C, H>,
+    ) -> Result<Self, Error<F>>
+        requires whole { journal.tree.tree.leaves ≡ journal.items.end }
+        requires folded { journal.bagging ≡ ForwardFold }
+        requires fresh { journal.failed ≡ false }
+        ensures named { IfOk result (λ d. SameButBounds journal.items d.journal.items × (d.journal.failed ≡ false)) }
+        ensures held { let admits = H.Digest.Read.admits tt in IfOk result (λ d. V.tells → (list : List O) →
+            IsOpenedOf F.shape H.hash H.Digest.spelling admits O.spelling list journal (present (V.state vol.old)) →
+            AllByRecursion (O.admits journal.items.codec) list →
+            IsHeldFrom F.shape H.hash O.meaning H.Digest.spelling admits O.spelling list journal.items.end d
+            (present (V.state vol.new))) }
+        ensures at { IfOk result (λ d. IsBuiltAt O.meaning journal.items.end d) }
+        ensures names { V.tells → NamesCall (names_of journal) (V.state vol.old) (V.state vol.new) }
+        ensures durable { IfOk result (λ d. V.tells → IsDurable journal.items (V.state vol.old) →
+            IsDurable journal.tree.log (V.state vol.old) →
+            IsDurable d.journal.items (V.state vol.new) × IsDurable d.journal.tree.log (V.state vol.new)) }
+        ensures changes { Changes V.tells Error.Volume (V.state vol.old) (V.state vol.new) result }
+    {
+        let size = journal.size().as_u64();
+        if size == 0 {
+            let commit = O::commit(None, 0);
+            let begun = match Self::begun(vol, journal, &commit) {
+                Ok(begun) => begun,
+                Err(error) => return Err(error),
+            };
+            return Self::built(alloc, begun, 1, commit);
+        }
+        match journal.read(vol, size - 1) {
+            Ok(last_commit) => Self::built(alloc, journal, size, last_commit),
+            Err(error) => Err(Error::from(error)),
+        }
+    }
+
+    /// Opens the database at the last commit that is kept, or at the last at or below a size. Where no operation is
+    /// kept, and none was cut off at the front, the first commit is put there, and is made durable. It refuses a size
+    /// of 0 with `InvalidInitializationBound`, then as the journal's opening, and a log that is empty past 0 with
+    /// `Journal(ItemPruned)`.
+    pub fn init<V: Volume>(
+        alloc: Global,
+        vol: &mut V,
+        cfg: Config<C::Config>,
+        max_size: Option<Location<F>>,
+    ) -> Result<Self, Error<F>>
+        requires { (C.config cfg.log).name ≢ string_bytes cfg.merkle.nodes }
+        ensures bound { max_size ≡ Some 0 → (result ≡ Err Error.InvalidInitializationBound) × (vol.new ≡ vol.old) }
+        ensures named { IfOk result
+            (λ d. SameButBounds (C.config cfg.log) d.journal.items × (d.journal.failed ≡ false)) }
+        // It is at an end of the log's operations; and where that is 0, it has the first commit alone.
+        ensures opens { let items = items_of O.spelling O.admits (C.config cfg.log) (V.state vol.old) in
+            IfOk result (λ d. V.tells → (end : ℕ) × EndsAt items (IsSaidCommit O.meaning) max_size end
+            × IsBuiltAt O.meaning end d) }
+        // For each list that the contents stood for, whose operations may be such, it is held for the list up to a
+        // commit.
+        ensures held { let old = V.state vol.old in let view = C.config cfg.log in
+            let nodes = old.log (string_bytes cfg.merkle.nodes) in let map = old.map
+            (string_bytes cfg.merkle.metadata) in
+            IfOk result (λ d. V.tells → (list : List O) (durable : ℕ) → Spells O.spelling list (log_of view old) →
+            length list ≤ 2 ^ 62 → TreeStands F.shape H.hash H.Digest.spelling
+            (leaves_of F.shape H.hash O.spelling list) durable (log_of view old).start nodes map →
+            AllByRecursion (O.admits view.codec) list →
+            IsInitOf F.shape H.hash O.meaning H.Digest.spelling (H.Digest.Read.admits tt) O.spelling
+            (items_of O.spelling O.admits view old) max_size list d (present (V.state vol.new))) }
+        ensures names { let names = two_logs_and_map (C.config cfg.log).name (string_bytes cfg.merkle.nodes)
+            (string_bytes cfg.merkle.metadata) in V.tells → NamesCall names (V.state vol.old) (V.state vol.new) }
+        // What is there is durable.
+        ensures durable { IfOk result (λ d. V.tells →
+            IsDurable d.journal.items (V.state vol.new) × IsDurable d.journal.tree.log (V.state vol.new)) }
+        ensures changes { Changes V.tells Error.Volume (V.state vol.old) (V.state vol.new) result }
+    {
+        match check_bound(&max_size) {
+            Ok(()) => {}
+            Err(error) => return Err(error),
+        }
+        match Self::open_journal(alloc, vol, cfg, max_size) {
+            Ok(journal) => Self::opened_from(alloc, vol, journal),
+            Err(error) => Err(error),
+        }
+    }
+}
