@@ -1,0 +1,64 @@
+//! Prints what full databases answer, in both families and both encodings: small histories with what is read, proved, pruned and
+//! refused of them, a history of three batches with its proofs, pins and states, and what is opened of it under each cap.
+#![tactic(auto)]
+
+mod batches;
+mod error;
+mod opened;
+mod rows;
+mod stores;
+mod texts;
+
+use crate::error::TableError;
+use crate::opened::print_opened;
+use crate::rows::{
+    print_above, print_chain, print_first, print_history, print_pruned, print_replaced,
+    print_siblings,
+};
+use crate::stores::{Kind, Store};
+use codec_base::{Bytes, U64};
+use journal_base::{FixedJournal, VariableJournal};
+use keyless_db::{fixed, variable};
+use memory_volume::MemoryVolume;
+use std::alloc::Global;
+use tree_core::{Family, Mmb, Mmr};
+
+/// Prints the table of one kind of database.
+fn print_kind<F: Family, O: Kind, C: Store<Item = O>>(
+    rt: &impl Print,
+    alloc: Global,
+    name: &str,
+) -> Result<(), TableError>
+where
+    O::Value: Drop,
+{
+    println!(rt; "{name}")?;
+    print_first::<F, O, C>(rt, alloc)?;
+    print_chain::<F, O, C>(rt, alloc)?;
+    print_siblings::<F, O, C>(rt, alloc)?;
+    print_pruned::<F, O, C>(rt, alloc)?;
+    print_above::<F, O, C>(rt, alloc)?;
+    print_replaced::<F, O, C>(rt, alloc)?;
+    let mut vol = MemoryVolume::new(alloc);
+    print_history::<F, O, C>(rt, alloc, &mut vol)?;
+    print_opened::<F, O, C>(rt, alloc, &vol)
+}
+
+fn print_family<F: Family>(rt: &impl Print, alloc: Global, name: &str) -> Result<(), TableError> {
+    println!(rt; "{name}")?;
+    print_kind::<F, variable::Operation<F, Bytes>, VariableJournal<variable::Operation<F, Bytes>>>(
+        rt,
+        alloc,
+        "variable values",
+    )?;
+    print_kind::<F, fixed::Operation<F, U64>, FixedJournal<fixed::Operation<F, U64>>>(
+        rt,
+        alloc,
+        "fixed values",
+    )
+}
+
+fn main(rt: HostRuntime) -> Result<(), TableError> {
+    print_family::<Mmr>(&rt, rt.alloc(), "mmr")?;
+    print_family::<Mmb>(&rt, rt.alloc(), "mmb")
+}
