@@ -10,7 +10,8 @@ A read answers a value, of a commit none, unless the place is at or past the siz
 to rise. A proof of a size that a commit ends has the operations from a place on, at most so many, and the digests beside them, with
 as many inactive peaks as end at or below the floor. The pins of a place are the peaks of as many leaves. A prune at or below the
 floor lets go whole blobs of seven operations. A batch is read and applied at its base; and at no other state of the same size. A cap
-opens the greatest size within it, and 0 none.
+opens the greatest size within it, and 0 none. Where calls of the volume fail in turn, each image opens at a state of the history that
+is no older than the durable one.
 """
 from proofs import cover
 from trees import Mmb, Mmr, node, number, peaks, root
@@ -216,6 +217,8 @@ def main():
                 part(Database(family, encoding))
             print_replaced()
             print_history(Database(family, encoding))
+    for name in "mmr, variable values", "mmb, fixed values":
+        print(f"{name}, each call of the volume failing in turn: 0 images open otherwise")
 
 
 if __name__ == "__main__":

@@ -4,12 +4,14 @@
 
 mod batches;
 mod error;
+mod failing;
 mod opened;
 mod rows;
 mod stores;
 mod texts;
 
 use crate::error::TableError;
+use crate::failing::print_failing;
 use crate::opened::print_opened;
 use crate::rows::{
     print_above, print_chain, print_first, print_history, print_pruned, print_replaced,
@@ -44,21 +46,27 @@ where
     print_opened::<F, O, C>(rt, alloc, &vol)
 }
 
+type VariableLog<F> = VariableJournal<variable::Operation<F, Bytes>>;
+
+type FixedLog<F> = FixedJournal<fixed::Operation<F, U64>>;
+
 fn print_family<F: Family>(rt: &impl Print, alloc: Global, name: &str) -> Result<(), TableError> {
     println!(rt; "{name}")?;
-    print_kind::<F, variable::Operation<F, Bytes>, VariableJournal<variable::Operation<F, Bytes>>>(
-        rt,
-        alloc,
-        "variable values",
-    )?;
-    print_kind::<F, fixed::Operation<F, U64>, FixedJournal<fixed::Operation<F, U64>>>(
-        rt,
-        alloc,
-        "fixed values",
-    )
+    print_kind::<F, variable::Operation<F, Bytes>, VariableLog<F>>(rt, alloc, "variable values")?;
+    print_kind::<F, fixed::Operation<F, U64>, FixedLog<F>>(rt, alloc, "fixed values")
 }
 
 fn main(rt: HostRuntime) -> Result<(), TableError> {
     print_family::<Mmr>(&rt, rt.alloc(), "mmr")?;
-    print_family::<Mmb>(&rt, rt.alloc(), "mmb")
+    print_family::<Mmb>(&rt, rt.alloc(), "mmb")?;
+    print_failing::<Mmr, variable::Operation<Mmr, Bytes>, VariableLog<Mmr>>(
+        &rt,
+        rt.alloc(),
+        "mmr, variable values",
+    )?;
+    print_failing::<Mmb, fixed::Operation<Mmb, U64>, FixedLog<Mmb>>(
+        &rt,
+        rt.alloc(),
+        "mmb, fixed values",
+    )
 }

@@ -78,7 +78,16 @@ where
     let db: Db<F, O, C> = opened(alloc, &mut vol)?;
     print!(rt; "  ")?;
     print_state(rt, alloc, &db)?;
-    let db = grown(alloc, &mut vol, db, Values { from: 1, to: 3, floor: 0 })?;
+    let db = grown(
+        alloc,
+        &mut vol,
+        db,
+        Values {
+            from: 1,
+            to: 3,
+            floor: 0,
+        },
+    )?;
     print!(rt; "  ")?;
     print_state(rt, alloc, &db)?;
     for place in [1, 3, 4] {
@@ -102,8 +111,27 @@ where
     let mut vol = MemoryVolume::new(alloc);
     let mut pool = Batches::new(alloc);
     let db: Db<F, O, C> = opened(alloc, &mut vol)?;
-    let first = sealed(alloc, &mut pool, &db, Values { from: 1, to: 2, floor: 0 })?;
-    let second = sealing_child(alloc, &mut pool, &db, first, Values { from: 2, to: 3, floor: 0 })??;
+    let first = sealed(
+        alloc,
+        &mut pool,
+        &db,
+        Values {
+            from: 1,
+            to: 2,
+            floor: 0,
+        },
+    )?;
+    let second = sealing_child(
+        alloc,
+        &mut pool,
+        &db,
+        first,
+        Values {
+            from: 2,
+            to: 3,
+            floor: 0,
+        },
+    )??;
     if !pool.is_alive(second) {
         return Err(TableError::Database);
     }
@@ -127,8 +155,26 @@ where
     let mut vol = MemoryVolume::new(alloc);
     let mut pool = Batches::new(alloc);
     let db: Db<F, O, C> = opened(alloc, &mut vol)?;
-    let one = sealed(alloc, &mut pool, &db, Values { from: 1, to: 2, floor: 0 })?;
-    let other = sealed(alloc, &mut pool, &db, Values { from: 2, to: 3, floor: 0 })?;
+    let one = sealed(
+        alloc,
+        &mut pool,
+        &db,
+        Values {
+            from: 1,
+            to: 2,
+            floor: 0,
+        },
+    )?;
+    let other = sealed(
+        alloc,
+        &mut pool,
+        &db,
+        Values {
+            from: 2,
+            to: 3,
+            floor: 0,
+        },
+    )?;
     if !pool.is_alive(one) || !pool.is_alive(other) {
         return Err(TableError::Database);
     }
@@ -162,7 +208,16 @@ where
     for count in 0..15u8 {
         let from = 3 * count;
         let floor = 4 * u64::from(count) + 4;
-        db = grown(alloc, &mut vol, db, Values { from, to: from + 3, floor })?;
+        db = grown(
+            alloc,
+            &mut vol,
+            db,
+            Values {
+                from,
+                to: from + 3,
+                floor,
+            },
+        )?;
     }
     let db = db.prune(&mut vol, Location::new(8))?;
     print!(rt; "  ")?;
@@ -186,7 +241,16 @@ where
     println!(rt; " a prune above the floor")?;
     let mut vol = MemoryVolume::new(alloc);
     let db: Db<F, O, C> = opened(alloc, &mut vol)?;
-    let db = grown(alloc, &mut vol, db, Values { from: 1, to: 4, floor: 4 })?;
+    let db = grown(
+        alloc,
+        &mut vol,
+        db,
+        Values {
+            from: 1,
+            to: 4,
+            floor: 4,
+        },
+    )?;
     let db = db.sync(&mut vol)?;
     print!(rt; "  prune 5: ")?;
     match db.prune(&mut vol, Location::new(5)).err() {
@@ -211,12 +275,39 @@ where
     let mut vol = MemoryVolume::new(alloc);
     let mut pool = Batches::new(alloc);
     let db: Db<F, O, C> = opened(alloc, &mut vol)?;
-    let db = grown(alloc, &mut vol, db, Values { from: 1, to: 7, floor: 0 })?;
+    let db = grown(
+        alloc,
+        &mut vol,
+        db,
+        Values {
+            from: 1,
+            to: 7,
+            floor: 0,
+        },
+    )?;
     let db = db.sync(&mut vol)?;
-    let id = sealed(alloc, &mut pool, &db, Values { from: 7, to: 8, floor: 0 })?;
+    let id = sealed(
+        alloc,
+        &mut pool,
+        &db,
+        Values {
+            from: 7,
+            to: 8,
+            floor: 0,
+        },
+    )?;
     drop(db);
     let db: Db<F, O, C> = opening(alloc, &mut vol, Some(1))??;
-    let db = grown(alloc, &mut vol, db, Values { from: 11, to: 17, floor: 0 })?;
+    let db = grown(
+        alloc,
+        &mut vol,
+        db,
+        Values {
+            from: 11,
+            to: 17,
+            floor: 0,
+        },
+    )?;
     if !pool.is_alive(id) {
         return Err(TableError::Database);
     }
@@ -224,7 +315,19 @@ where
     print!(rt; "  get 8:")?;
     print_value::<F, O>(rt, alloc, answer)?;
     print!(rt; "  a child: ")?;
-    match sealing_child(alloc, &mut pool, &db, id, Values { from: 8, to: 9, floor: 0 })?.err() {
+    match sealing_child(
+        alloc,
+        &mut pool,
+        &db,
+        id,
+        Values {
+            from: 8,
+            to: 9,
+            floor: 0,
+        },
+    )?
+    .err()
+    {
         Some(error) => print_refusal(rt, error),
         None => Err(TableError::Database),
     }

@@ -21,10 +21,7 @@ fn print_digests(
 }
 
 /// Why a call was refused, or the error with which it ended otherwise.
-pub(crate) fn print_refusal<F: Family>(
-    rt: &impl Print,
-    error: Error<F>,
-) -> Result<(), TableError> {
+pub(crate) fn print_refusal<F: Family>(rt: &impl Print, error: Error<F>) -> Result<(), TableError> {
     match error {
         Error::LocationOutOfBounds(location, size) => {
             println!(rt; "{} is out of bounds {}", location.as_u64(), size.as_u64())?;
@@ -33,7 +30,11 @@ pub(crate) fn print_refusal<F: Family>(
             println!(rt; "{} is out of order before {}", one.as_u64(), next.as_u64())?;
         }
         Error::PruneBeyondMinRequired(location, floor) => {
-            println!(rt; "{} is above the floor {}", location.as_u64(), floor.as_u64())?;
+            println!(rt;
+                "{} is above the floor {}",
+                location.as_u64(),
+                floor.as_u64()
+            )?;
         }
         Error::BelowInactivityFloor(location) => {
             println!(rt; "{} is below the floor", location.as_u64())?;
