@@ -10,7 +10,7 @@ A read answers a value, of a commit none, unless the place is at or past the siz
 to rise. A proof of a size that a commit ends has the operations from a place on, at most so many, and the digests beside them, with
 as many inactive peaks as end at or below the floor. The pins of a place are the peaks of as many leaves. A prune at or below the
 floor lets go whole blobs of seven operations. A batch is read and applied at its base; and at no other state of the same size. A cap
-opens the greatest size within it, and 0 none. Where calls of the volume fail in turn, each image opens at a state of the history that
+opens the greatest size within it, and 0 none. The compact database of the same list has the same root. Where calls of the volume fail in turn, each image opens at a state of the history that
 is no older than the durable one.
 """
 from proofs import cover
@@ -83,10 +83,13 @@ class Database:
     def inactive(self, size):
         return sum(1 for first, height in peaks(self.family, size) if first + 2**height <= self.floors[size])
 
+    def root(self, size=None):
+        size = size or self.size()
+        return root(self.family, self.operations[:size], self.inactive(size), True)
+
     def state(self, size=None):
         size = size or self.size()
-        digest = root(self.family, self.operations[:size], self.inactive(size), True).hex()
-        return f"start {self.start} size {size} floor {self.floors[size]} root {digest}"
+        return f"start {self.start} size {size} floor {self.floors[size]} root {self.root(size).hex()}"
 
     def get_many(self, places):
         for one, next_one in zip(places, places[1:]):
@@ -145,6 +148,7 @@ def print_first(database):
     print(f"  {database.state()}")
     database.apply([1, 2], 0)
     print(f"  {database.state()}")
+    print(f"  compact root {database.root().hex()}")
     for place in 1, 3, 4:
         print_get(database, place)
     for places in [], [1, 2, 3], [3, 2], [2, 99]:

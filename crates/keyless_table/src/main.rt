@@ -3,6 +3,7 @@
 #![tactic(auto)]
 
 mod batches;
+mod compact;
 mod error;
 mod failing;
 mod opened;

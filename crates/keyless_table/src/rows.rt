@@ -9,7 +9,7 @@ use crate::texts::{
 use memory_volume::MemoryVolume;
 use std::alloc::Global;
 use std::num::NonZeroU64;
-use tree_core::{Family, Location};
+use tree_core::{Digest, Family, Location};
 
 /// What a read of a place answers.
 fn print_get<F: Family, O: Kind, C: Store<Item = O>>(
@@ -65,6 +65,19 @@ fn print_history_proof<F: Family, O: Kind, C: Store<Item = O>>(
     print_proof::<F, O>(rt, alloc, answer)
 }
 
+/// Prints the root of a compact database behind one batch of two values.
+fn print_compact<O: Kind>(rt: &impl Print, alloc: Global) -> Result<(), TableError>
+where
+    O::Value: Drop,
+{
+    let mut values = Vec::new(alloc);
+    values.push(O::valued(alloc, 1)?)?;
+    values.push(O::valued(alloc, 2)?)?;
+    let root = O::compact_root(alloc, values)?;
+    println!(rt; "  compact root {}", hex::encode(alloc, root.as_slice())?)?;
+    Ok(())
+}
+
 /// Prints one batch of two values.
 pub(crate) fn print_first<F: Family, O: Kind, C: Store<Item = O>>(
     rt: &impl Print,
@@ -90,6 +103,7 @@ where
     )?;
     print!(rt; "  ")?;
     print_state(rt, alloc, &db)?;
+    print_compact::<O>(rt, alloc)?;
     for place in [1, 3, 4] {
         print_get(rt, alloc, &mut vol, &db, place)?;
     }

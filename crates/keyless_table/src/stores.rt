@@ -1,12 +1,14 @@
 //! Databases in a volume, of values of any length and of numbers.
 ghost use Rattle.std.specs.Prelude.{◌≡◌, codes, string_bytes, IfOk};
 
+use crate::compact::compact_root;
 use crate::error::TableError;
 use chain_core::{Error, Pool};
 use codec_base::{Bytes, LengthCfg, U64};
 use journal_base::{Backing, FixedJournal, JournalConfig, VariableJournal};
 use keyless_db::{Config, Keyless, KeylessOperation, MerkleizedBatch, fixed, variable};
 use memory_volume::MemoryVolume;
+use op_codec::{FixedEncoding, VariableEncoding};
 use std::alloc::Global;
 use std::num::NonZeroU64;
 use tree_core::{Family, Location, Sha256Digest, Sha256Hasher};
@@ -15,6 +17,9 @@ pub(crate) type Db<F, O, C> = Keyless<F, O, C, Sha256Hasher>;
 
 pub(crate) type Batches<F, O> = Pool<MerkleizedBatch<F, Sha256Digest, O>>;
 
+/// The longest byte list that the table has.
+const LONGEST: LengthCfg = LengthCfg { max: 8 };
+
 /// An operation of the table.
 pub(crate) trait Kind: KeylessOperation {
     /// The value of a number.
@@ -22,6 +27,9 @@ pub(crate) trait Kind: KeylessOperation {
 
     /// A value in hexadecimal digits.
     fn shown(alloc: Global, value: &Self::Value) -> Result<String, TableError>;
+
+    /// The root of a compact database behind one batch of these values.
+    fn compact_root(alloc: Global, values: Vec<Self::Value>) -> Result<Sha256Digest, TableError>;
 }
 
 impl<F: Family> Kind for variable::Operation<F, Bytes> {
@@ -32,6 +40,10 @@ impl<F: Family> Kind for variable::Operation<F, Bytes> {
     fn shown(alloc: Global, value: &Bytes) -> Result<String, TableError> {
         Ok(hex::encode(alloc, value.as_slice())?)
     }
+
+    fn compact_root(alloc: Global, values: Vec<Bytes>) -> Result<Sha256Digest, TableError> {
+        compact_root::<F, VariableEncoding<Bytes>>(alloc, LONGEST, values)
+    }
 }
 
 impl<F: Family> Kind for fixed::Operation<F, U64> {
@@ -41,6 +53,10 @@ impl<F: Family> Kind for fixed::Operation<F, U64> {
 
     fn shown(alloc: Global, value: &U64) -> Result<String, TableError> {
         Ok(hex::encode(alloc, &value.get().to_be_bytes())?)
+    }
+
+    fn compact_root(alloc: Global, values: Vec<U64>) -> Result<Sha256Digest, TableError> {
+        compact_root::<F, FixedEncoding<U64>>(alloc, (), values)
     }
 }
 
@@ -56,7 +72,7 @@ impl<F: Family> Store for VariableJournal<variable::Operation<F, Bytes>> {
         Ok(JournalConfig {
             name: String::from_str(alloc, "operations")?,
             items_per_blob: NonZeroU64::new(7).ok_or(TableError::Database)?,
-            codec: LengthCfg { max: 64 },
+            codec: LONGEST,
         })
     }
 }
