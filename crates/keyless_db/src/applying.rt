@@ -137,6 +137,12 @@ impl<F: Family, O: KeylessOperation, C: Backing<Item = O>, H: Hasher> Keyless<F,
         ensures full { IsErrOf result (Error.Journal SizeOverflow) → ((V.state vol.new).clock ≡ (V.state vol.old).clock)
             × ((b : MerkleizedView F H.Digest O) → item_at pool.now id ≡ Some b → V.tells →
             2 ^ 64 - 1 < end_of (log_of self.journal.items (V.state vol.old)) + b.tree.nodes.leaves) }
+        // Of a batch of a list that begins with the database's there is room in the log.
+        ensures room { let admits = H.Digest.Read.admits tt in IsErrOf result (Error.Journal SizeOverflow) →
+            V.tells → (b : MerkleizedView F H.Digest O) → item_at pool.now id ≡ Some b → (ops more : List O) →
+            IsHeldFor F.shape H.hash O.meaning H.Digest.spelling admits O.spelling ops self
+            (present (V.state vol.old)) →
+            IsMerkleizedOf F.shape H.hash O.meaning O.spelling (ops ++ more) b → ⊥ }
         ensures errors { IfErr result IsOfApply }
         // Every other log and every map stays, and so does what a crash leaves of it.
         ensures names { V.tells → NamesCall (log_alone self.journal.items.name) (V.state vol.old) (V.state vol.new) }

@@ -1,4 +1,4 @@
-use Rattle.std.proofs.Common.{◌≡◌, inl, ℕ, ◌+◌, ◌-◌, ◌^◌, ◌<◌, ◌∷◌, ◌++◌, length, map, refl, sym, ◌∙◌, subst}
+use Rattle.std.proofs.Common.{◌≡◌, inl, ℕ, ◌+◌, ◌-◌, ◌^◌, ◌<◌, ◌∷◌, ◌++◌, length, map, refl, sym, ◌∙◌, ap, subst, arith}
 use Rattle.std.specs.Prelude.{Contains}
 use Rattle.journal_base.specs.View.{log_of}
 use Rattle.volume_base.specs.Log.{Grows, end_of}
@@ -10,6 +10,7 @@ use Rattle.auth_journal.specs.Joined.{leaves_of}
 use Rattle.auth_journal.specs.Standing.{KeepsStanding}
 use Rattle.auth_journal.proofs.AppendLemmas.{appends_none}
 use Rattle.auth_journal.proofs.LeafLemmas.{length-leaves_of}
+use Rattle.auth_journal.proofs.ReadingLemmas.{run_end}
 use Rattle.chain_core.specs.Reached.{item_at}
 use Rattle.chain_core.specs.declared.commitment.Commitment.{Commitment}
 use Rattle.chain_core.specs.declared.error.Error.{Error}
@@ -98,3 +99,13 @@ returns-clause-fits g c is b at ops more image held of marks here =
     let found = marked_fits s h m spelling g.met.F.Family.lawful ops more b c.args.self.state of marks (size_of_list s h m spelling ops c.args.self held.db_of) here in
     let there = subst (λ (x : MerkleizedView g.row.F.Denot g.row.H-Digest.Denot g.row.O.Denot). Fits s h front (length ops) x.tree.nodes found.0) (sym same) found.1 in
     c.applied.ensures.misfit is front held.journal.tree.tree found.0 (subst (λ n. Fits s h front n c.item-batch.result.now.tree.nodes found.0) leaves there)
+
+pub returns-clause-room : goal.returns-clause-room
+returns-clause-room g c is tells b at ops more held of =
+    let same = one_item (item_at c.args.pool.now c.args.id) c.item-batch.result.now b c.item-batch.ensures at in
+    let over = (c.applied.ensures.full is).1 tells in
+    let sizes = ap (λ (x : MerkleizedView g.row.F.Denot g.row.H-Digest.Denot g.row.O.Denot). x.bounds.tip.size) (c.batch.view_is ∙ same) in
+    let leaves = ap (λ (x : MerkleizedView g.row.F.Denot g.row.H-Digest.Denot g.row.O.Denot). x.tree.nodes.leaves) c.batch.view_is in
+    let tip = ap (λ (k : Commitment g.row.F.Denot g.row.H-Digest.Denot). k.size) of.batch.bounds.tip in
+    let ends = run_end g.O.Spelled.spelling ops (log_of c.args.self.journal.items (g.V.Volume.state c.args.vol.now)) held.journal.items in
+    absurd (omega (arith, over, leaves, c.batch.invariant.tip, sizes, tip, of.few, ends, held.db_of.few))
