@@ -77,14 +77,6 @@ impl Kept {
         Ok(())
     }
 
-    /// Looks up the state after so many batches.
-    pub(crate) fn find(&mut self, batches: u64) -> Result<bool, BenchError> {
-        let found = self
-            .db
-            .retained_position(&mut self.vol, size_after(batches))?;
-        Ok(found.is_some())
-    }
-
     /// How many calls of the volume the state after so many batches takes to be served: of so many that don't fail, those that are
     /// left behind it are counted.
     pub(crate) fn calls_of_serve(&mut self, batches: u64) -> Result<u64, BenchError> {

@@ -1,6 +1,6 @@
-//! Applies batches of one value to compact databases in memory, each committed, and serves and looks up their states. The arguments
-//! say how many batches each database takes, how many databases are made one after another, how many states one more serves, and how
-//! many it looks up. Prints how many calls of the volume it makes to serve its first state. With other arguments it prints nothing.
+//! Applies batches of one value to compact databases in memory, each committed, and serves their states. The arguments say how
+//! many batches each database takes, how many databases are made one after another, and how many states one more serves. Prints
+//! how many calls of the volume it makes to serve its first state. With other arguments it prints nothing.
 #![tactic(auto)]
 
 mod databases;
@@ -65,24 +65,15 @@ fn database_of(alloc: Global, batches: u64) -> Result<Kept, BenchError> {
     Ok(kept)
 }
 
-/// Makes so many databases, and one more, which serves so many of its states but the last, one after another, and looks up so many.
-/// It gives the calls of the volume that the first state takes.
-fn work(
-    alloc: Global,
-    batches: u64,
-    databases: u64,
-    serves: u64,
-    finds: u64,
-) -> Result<u64, BenchError> {
+/// Makes so many databases, and one more, which serves so many of its states but the last, one after another. It gives the calls
+/// of the volume that the first state takes.
+fn work(alloc: Global, batches: u64, databases: u64, serves: u64) -> Result<u64, BenchError> {
     for _ in 0..databases {
         database_of(alloc, batches)?;
     }
     let mut kept = database_of(alloc, batches)?;
     for count in 0..serves {
         kept.serve(count % batches.max(1))?;
-    }
-    for count in 0..finds {
-        kept.find(count % batches.max(1))?;
     }
     kept.calls_of_serve(0)
 }
@@ -94,8 +85,8 @@ fn main(rt: HostRuntime) -> Result<(), BenchError> {
             numbers.push(number)?;
         }
     }
-    if let [batches, databases, serves, finds] = numbers.as_slice() {
-        let calls = work(rt.alloc(), *batches, *databases, *serves, *finds)?;
+    if let [batches, databases, serves] = numbers.as_slice() {
+        let calls = work(rt.alloc(), *batches, *databases, *serves)?;
         println!(rt; "{calls} calls")?;
     }
     Ok(())
