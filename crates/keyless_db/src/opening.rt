@@ -45,6 +45,7 @@ impl<F: Family, O: KeylessOperation, C: Backing<Item = O>, H: Hasher> Keyless<F,
     ghost use Rattle.volume_base.specs.Moments.{Image, present};
     ghost use Rattle.volume_base.specs.Names.{two_logs_and_map, NamesCall};
     ghost use Rattle.volume_base.specs.Volume.{Changes};
+    ghost use Rattle.merkle_full.specs.Full.{Rests};
     ghost use Rattle.auth_journal.specs.Joined.{IsJoinedOf, leaves_of};
     ghost use Rattle.auth_journal.specs.Searching.{EndsAt};
     ghost use Rattle.auth_journal.specs.Standing.{names_of};
@@ -80,6 +81,7 @@ impl<F: Family, O: KeylessOperation, C: Backing<Item = O>, H: Hasher> Keyless<F,
             (string_bytes cfg.merkle.metadata) in V.tells → NamesCall names (V.state vol.old) (V.state vol.new) }
         ensures durable { IfOk result (λ t. V.tells →
             IsDurable t.items (V.state vol.new) × IsDurable t.tree.log (V.state vol.new)) }
+        ensures rests { IfOk result (λ t. Rests F.shape t.tree) }
         ensures changes { Changes V.tells Error.Volume (V.state vol.old) (V.state vol.new) result }
     {
         let Config {
@@ -131,6 +133,8 @@ impl<F: Family, O: KeylessOperation, C: Backing<Item = O>, H: Hasher> Keyless<F,
         ensures names { V.tells → NamesCall (names_of journal) (V.state vol.old) (V.state vol.new) }
         ensures durable { IfOk result (λ t. V.tells →
             IsDurable t.items (V.state vol.new) × IsDurable t.tree.log (V.state vol.new)) }
+        ensures joined { IfOk result (λ t. names_of t ≡ names_of journal) }
+        ensures rests { IfOk result (λ t. Rests F.shape t.tree) }
         ensures changes { Changes V.tells Error.Volume (V.state vol.old) (V.state vol.new) result }
     {
         let made = match journal.append(vol, commit) {
@@ -205,6 +209,8 @@ impl<F: Family, O: KeylessOperation, C: Backing<Item = O>, H: Hasher> Keyless<F,
         ensures durable { IfOk result (λ d. V.tells → IsDurable journal.items (V.state vol.old) →
             IsDurable journal.tree.log (V.state vol.old) →
             IsDurable d.journal.items (V.state vol.new) × IsDurable d.journal.tree.log (V.state vol.new)) }
+        ensures joined { IfOk result (λ d. names_of d.journal ≡ names_of journal) }
+        ensures rests { IfOk result (λ d. Rests F.shape journal.tree → Rests F.shape d.journal.tree) }
         ensures changes { Changes V.tells Error.Volume (V.state vol.old) (V.state vol.new) result }
     {
         let size = journal.size().as_u64();
@@ -256,6 +262,10 @@ impl<F: Family, O: KeylessOperation, C: Backing<Item = O>, H: Hasher> Keyless<F,
         // What is there is durable.
         ensures durable { IfOk result (λ d. V.tells →
             IsDurable d.journal.items (V.state vol.new) × IsDurable d.journal.tree.log (V.state vol.new)) }
+        // Its logs and its map are those of the configuration, and its tree's memory is at rest.
+        ensures joined { IfOk result (λ d. names_of d.journal ≡ two_logs_and_map (C.config cfg.log).name
+            (string_bytes cfg.merkle.nodes) (string_bytes cfg.merkle.metadata)) }
+        ensures rests { IfOk result (λ d. Rests F.shape d.journal.tree) }
         ensures changes { Changes V.tells Error.Volume (V.state vol.old) (V.state vol.new) result }
     {
         match check_bound(&max_size) {

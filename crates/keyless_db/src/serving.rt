@@ -34,10 +34,11 @@ fn boundary<F: Family, O: KeylessOperation, D: Digest>(
 }
 
 impl<F: Family, O: KeylessOperation, C: Backing<Item = O>, H: Hasher> Keyless<F, O, C, H> {
-    ghost use Rattle.std.specs.Prelude.{List};
+    ghost use Rattle.std.specs.Prelude.{◌⊎◌, ◌<◌, List, Err};
     ghost use Rattle.std.specs.List.{AllByRecursion};
     ghost use Rattle.volume_base.specs.Moments.{present};
     ghost use Rattle.volume_base.specs.Volume.{Reads};
+    ghost use Rattle.tree_store.specs.declared.error.Error.TheVariants.{RangeOutOfBounds};
     ghost use Rattle.target_codec.specs.Request.{size_of, start_of};
     ghost use Rattle.log_model.specs.Proofs.{proof_refusal};
     ghost use Rattle.keyless_db.specs.DbView.{IsHeldFor};
@@ -58,6 +59,8 @@ impl<F: Family, O: KeylessOperation, C: Backing<Item = O>, H: Hasher> Keyless<F,
             AllByRecursion (O.admits self.now.journal.items.codec) ops →
             ServesAs (proof_refusal O.meaning ops self.now.journal.items.start size start)
             (IsBoundaryAt F.shape H.hash O.meaning ops size start) result }
+        ensures size { (size ≡ 0) ⊎ (self.now.state.size < size) →
+            (result ≡ Err (Error.Merkle (RangeOutOfBounds size))) × (vol.new ≡ vol.old) }
         ensures reads { Reads V.tells Error.Volume (V.state vol.old) (V.state vol.new) result }
     {
         let place = start.as_u64();
@@ -86,6 +89,8 @@ impl<F: Family, O: KeylessOperation, C: Backing<Item = O>, H: Hasher> Keyless<F,
             AllByRecursion (O.admits self.now.journal.items.codec) ops →
             ServesAs (proof_refusal O.meaning ops self.now.journal.items.start (size_of request) (start_of request))
             (IsResponseTo F.shape H.hash O.meaning ops request) result }
+        ensures size { (size_of request ≡ 0) ⊎ (self.now.state.size < size_of request) →
+            (result ≡ Err (Error.Merkle (RangeOutOfBounds (size_of request)))) × (vol.new ≡ vol.old) }
         ensures reads { Reads V.tells Error.Volume (V.state vol.old) (V.state vol.new) result }
     {
         match request {

@@ -1,5 +1,6 @@
 use Rattle.std.proofs.Common.{◌≡◌, [], Ok, Err, ◌∙◌, ap, sym, subst, arith, inl, refl, ◌∷◌}
 use Rattle.volume_base.specs.Log.{Log}
+use Rattle.volume_base.specs.Names.{two_logs_and_map}
 use Rattle.volume_base.proofs.CallLemmas.{names_call_joins, names_call_log}
 use Rattle.volume_base.proofs.JoinLemmas.{changes_joins, changes_of_writes, went_of_writes}
 use Rattle.journal_base.specs.View.{View, IsDurable}
@@ -69,3 +70,17 @@ returns-in-Ok-sync-clause-durable g c tells =
     let new = g.V.Volume.state c.sync.new.vol in
     let durable = c.in-Ok-sync.ensures.durable tells in
     (subst (λ (v : View g.row.O-Cfg.Denot). IsDurable v new) (sym same.items) durable.0, durable_same c.in-Ok.made.0.tree.log c.in-Ok-sync.journal.tree.log new same.tree.log durable.1)
+
+pub returns-in-Ok-sync-clause-joined : goal.returns-in-Ok-sync-clause-joined
+returns-in-Ok-sync-clause-joined g c =
+    let j = c.args.journal in
+    let k = c.in-Ok.made.0 in
+    let t = c.in-Ok-sync.journal in
+    let added = c.in-Ok.ensures.same.1 in
+    let kept = c.in-Ok-sync.ensures.same in
+    ap (λ (v : View g.row.O-Cfg.Denot). two_logs_and_map v.name t.tree.log.name t.tree.metadata) kept.items
+    ∙ ap (λ (v : View (Unit {0})). two_logs_and_map k.items.name v.name t.tree.metadata) kept.tree.log
+    ∙ ap (two_logs_and_map k.items.name k.tree.log.name) kept.tree.metadata
+    ∙ ap (λ (v : View g.row.O-Cfg.Denot). two_logs_and_map v.name k.tree.log.name k.tree.metadata) added.items
+    ∙ ap (λ (v : View (Unit {0})). two_logs_and_map j.items.name v.name k.tree.metadata) added.log
+    ∙ ap (two_logs_and_map j.items.name j.tree.log.name) added.metadata

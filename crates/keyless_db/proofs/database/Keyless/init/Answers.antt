@@ -1,4 +1,4 @@
-use Rattle.std.proofs.Common.{sym, ap, subst}
+use Rattle.std.proofs.Common.{◌∙◌, sym, ap, subst}
 use Rattle.std.specs.List.{AllByRecursion}
 use Rattle.volume_base.specs.Names.{Names, NamesCall}
 use Rattle.volume_base.proofs.CallLemmas.{names_call_joins}
@@ -39,3 +39,11 @@ returns-in-Ok-open_journal-clause-names g c tells =
 pub returns-in-Ok-open_journal-clause-durable : goal.returns-in-Ok-open_journal-clause-durable
 returns-in-Ok-open_journal-clause-durable g c =
     if_ok _ _ c.opened_from.result (λ d held. λ tells. let durable = c.in-Ok-open_journal.ensures.durable tells in held tells durable.0 durable.1) c.opened_from.ensures.durable
+
+pub returns-in-Ok-open_journal-clause-joined : goal.returns-in-Ok-open_journal-clause-joined
+returns-in-Ok-open_journal-clause-joined g c =
+    if_ok _ _ c.opened_from.result (λ d same. same ∙ c.in-Ok-open_journal.ensures.joined) c.opened_from.ensures.joined
+
+pub returns-in-Ok-open_journal-clause-rests : goal.returns-in-Ok-open_journal-clause-rests
+returns-in-Ok-open_journal-clause-rests g c =
+    if_ok _ _ c.opened_from.result (λ d rests. rests c.in-Ok-open_journal.ensures.rests) c.opened_from.ensures.rests

@@ -2,6 +2,7 @@ use Rattle.std.proofs.Common.{◌≡◌, ◌∷◌, [], ◌-◌, ◌<◌, List, 
 use Rattle.volume_base.specs.Moments.{Image, present}
 use Rattle.volume_base.proofs.CallLemmas.{names_call_idle}
 use Rattle.journal_base.specs.View.{IsDurable}
+use Rattle.merkle_full.specs.Full.{Rests}
 use Rattle.merkle_full.proofs.ListLemmas.{there_is, taken}
 use Rattle.auth_journal.specs.Joined.{Joined, IsJoinedOf}
 use Rattle.auth_journal.specs.Standing.{names_of}
@@ -102,3 +103,19 @@ returns-in-Ok-read-clause-durable g c =
       subst (λ (x : Joined g.row.H-Digest.Denot g.row.O-Cfg.Denot). IsDurable x.tree.log new) (sym same) (durable_still j.tree.log old new read.clock (read.past tells) (read.contents tells) nodes),
     ))
     c.built-in-Ok-read.ensures.journal
+
+pub returns-then-size-eq0-clause-joined : goal.returns-then-size-eq0-clause-joined
+returns-then-size-eq0-clause-joined g c =
+    if_ok _ _ c.built.result (λ d same. ap (λ (j : Joined g.row.H-Digest.Denot g.row.O-Cfg.Denot). names_of j) same ∙ c.in-Ok.ensures.joined) c.built.ensures.journal
+
+pub returns-then-size-eq0-clause-rests : goal.returns-then-size-eq0-clause-rests
+returns-then-size-eq0-clause-rests g c =
+    if_ok _ _ c.built.result (λ d same. λ rests. subst (λ (j : Joined g.row.H-Digest.Denot g.row.O-Cfg.Denot). Rests g.F.Family.shape j.tree) (sym same) c.in-Ok.ensures.rests) c.built.ensures.journal
+
+pub returns-in-Ok-read-clause-joined : goal.returns-in-Ok-read-clause-joined
+returns-in-Ok-read-clause-joined g c =
+    if_ok _ _ c.built-in-Ok-read.result (λ d same. ap (λ (j : Joined g.row.H-Digest.Denot g.row.O-Cfg.Denot). names_of j) same) c.built-in-Ok-read.ensures.journal
+
+pub returns-in-Ok-read-clause-rests : goal.returns-in-Ok-read-clause-rests
+returns-in-Ok-read-clause-rests g c =
+    if_ok _ _ c.built-in-Ok-read.result (λ d same. λ rests. subst (λ (j : Joined g.row.H-Digest.Denot g.row.O-Cfg.Denot). Rests g.F.Family.shape j.tree) (sym same) rests) c.built-in-Ok-read.ensures.journal
