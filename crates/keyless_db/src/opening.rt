@@ -39,7 +39,7 @@ impl<F: Family, O: KeylessOperation, C: Backing<Item = O>, H: Hasher> Keyless<F,
     ghost use Rattle.std.specs.Prelude.{◌≢◌, ◌≤◌, ◌^◌, ◌+◌, ◌-◌, ◌∷◌, [], ℕ, List, length, Err, false, string_bytes, slice_get, IfOk, IfErr};
     ghost use Rattle.std.specs.List.{AllByRecursion};
     ghost use Rattle.journal_base.specs.Items.{items_of, Spells};
-    ghost use Rattle.journal_base.specs.View.{log_of, IsDurable, SameButBounds};
+    ghost use Rattle.journal_base.specs.View.{log_of, IsDurable, IsHeld, SameButBounds};
     ghost use Rattle.tree_shape.specs.declared.bagging.Bagging.TheVariants.{ForwardFold};
     ghost use Rattle.tree_store.specs.Stored.{TreeStands};
     ghost use Rattle.volume_base.specs.Moments.{Image, present};
@@ -82,6 +82,8 @@ impl<F: Family, O: KeylessOperation, C: Backing<Item = O>, H: Hasher> Keyless<F,
         ensures durable { IfOk result (λ t. V.tells →
             IsDurable t.items (V.state vol.new) × IsDurable t.tree.log (V.state vol.new)) }
         ensures rests { IfOk result (λ t. Rests F.shape t.tree) }
+        ensures start { let log = log_of (C.config cfg.log) (V.state vol.old) in IfOk result (λ t. V.tells →
+            (t.items.start ≡ log.start) × IsHeld t.items (V.state vol.new)) }
         ensures changes { Changes V.tells Error.Volume (V.state vol.old) (V.state vol.new) result }
     {
         let Config {
@@ -135,6 +137,8 @@ impl<F: Family, O: KeylessOperation, C: Backing<Item = O>, H: Hasher> Keyless<F,
             IsDurable t.items (V.state vol.new) × IsDurable t.tree.log (V.state vol.new)) }
         ensures joined { IfOk result (λ t. names_of t ≡ names_of journal) }
         ensures rests { IfOk result (λ t. Rests F.shape t.tree) }
+        ensures start { IfOk result (λ t. V.tells → IsHeld journal.items (V.state vol.old) →
+            (t.items.start ≡ journal.items.start) × IsHeld t.items (V.state vol.new)) }
         ensures changes { Changes V.tells Error.Volume (V.state vol.old) (V.state vol.new) result }
     {
         let made = match journal.append(vol, commit) {
@@ -211,6 +215,8 @@ impl<F: Family, O: KeylessOperation, C: Backing<Item = O>, H: Hasher> Keyless<F,
             IsDurable d.journal.items (V.state vol.new) × IsDurable d.journal.tree.log (V.state vol.new)) }
         ensures joined { IfOk result (λ d. names_of d.journal ≡ names_of journal) }
         ensures rests { IfOk result (λ d. Rests F.shape journal.tree → Rests F.shape d.journal.tree) }
+        ensures start { IfOk result (λ d. V.tells → IsHeld journal.items (V.state vol.old) →
+            (d.journal.items.start ≡ journal.items.start) × IsHeld d.journal.items (V.state vol.new)) }
         ensures changes { Changes V.tells Error.Volume (V.state vol.old) (V.state vol.new) result }
     {
         let size = journal.size().as_u64();
@@ -266,6 +272,9 @@ impl<F: Family, O: KeylessOperation, C: Backing<Item = O>, H: Hasher> Keyless<F,
         ensures joined { IfOk result (λ d. names_of d.journal ≡ two_logs_and_map (C.config cfg.log).name
             (string_bytes cfg.merkle.nodes) (string_bytes cfg.merkle.metadata)) }
         ensures rests { IfOk result (λ d. Rests F.shape d.journal.tree) }
+        // Nothing is cut off at the front, and the volume has the log with the database's bounds.
+        ensures start { let log = log_of (C.config cfg.log) (V.state vol.old) in IfOk result (λ d. V.tells →
+            (d.journal.items.start ≡ log.start) × IsHeld d.journal.items (V.state vol.new)) }
         ensures changes { Changes V.tells Error.Volume (V.state vol.old) (V.state vol.new) result }
     {
         match check_bound(&max_size) {

@@ -1,9 +1,9 @@
 use Rattle.std.proofs.Common.{◌≡◌, [], Ok, Err, ◌∙◌, ap, sym, subst, arith, inl, refl, ◌∷◌}
-use Rattle.volume_base.specs.Log.{Log}
+use Rattle.volume_base.specs.Log.{Log, end_of}
 use Rattle.volume_base.specs.Names.{two_logs_and_map}
 use Rattle.volume_base.proofs.CallLemmas.{names_call_joins, names_call_log}
 use Rattle.volume_base.proofs.JoinLemmas.{changes_joins, changes_of_writes, went_of_writes}
-use Rattle.journal_base.specs.View.{View, IsDurable}
+use Rattle.journal_base.specs.View.{View, IsDurable, IsHeld}
 use Rattle.auth_journal.specs.Standing.{logs_of, names_of}
 use Rattle.auth_journal.specs.declared.error.Error.TheVariants as joined
 use Rattle.chain_core.specs.declared.error.Error.TheVariants.{Volume}
@@ -84,3 +84,19 @@ returns-in-Ok-sync-clause-joined g c =
     ∙ ap (λ (v : View g.row.O-Cfg.Denot). two_logs_and_map v.name k.tree.log.name k.tree.metadata) added.items
     ∙ ap (λ (v : View (Unit {0})). two_logs_and_map j.items.name v.name k.tree.metadata) added.log
     ∙ ap (two_logs_and_map j.items.name j.tree.log.name) added.metadata
+
+pub returns-in-Ok-sync-clause-start : goal.returns-in-Ok-sync-clause-start
+returns-in-Ok-sync-clause-start g c tells here =
+    let mid = g.V.Volume.state c.append.new.vol in
+    let new = g.V.Volume.state c.sync.new.vol in
+    let k = c.in-Ok.made.0 in
+    let held = c.in-Ok.ensures.held tells in
+    let name = ap (λ (v : View g.row.O-Cfg.Denot). (mid.log v.name).start) c.in-Ok.ensures.same.1.items in
+    let log = ap (λ (l : Log). l.start) (c.in-Ok.ensures.appends.appended tells) in
+    let same = c.in-Ok-sync.ensures.same.items in
+    let log_is = c.in-Ok-sync.ensures.contents tells in
+    let later : IsHeld k.items new = record {
+      start_is = held.start_is ∙ ap (λ (l : Log). l.start) (sym log_is);
+      end_is = held.end_is ∙ ap end_of (sym log_is);
+    } in
+    (ap (λ (v : View g.row.O-Cfg.Denot). v.start) same ∙ held.start_is ∙ name ∙ log ∙ sym here.start_is, subst (λ (v : View g.row.O-Cfg.Denot). IsHeld v new) (sym same) later)

@@ -47,3 +47,8 @@ returns-in-Ok-open_journal-clause-joined g c =
 pub returns-in-Ok-open_journal-clause-rests : goal.returns-in-Ok-open_journal-clause-rests
 returns-in-Ok-open_journal-clause-rests g c =
     if_ok _ _ c.opened_from.result (λ d rests. rests c.in-Ok-open_journal.ensures.rests) c.opened_from.ensures.rests
+
+pub returns-in-Ok-open_journal-clause-start : goal.returns-in-Ok-open_journal-clause-start
+returns-in-Ok-open_journal-clause-start g c =
+    if_ok _ _ c.opened_from.result
+    (λ d began. λ tells. let opened = c.in-Ok-open_journal.ensures.start tells in let is = began tells opened.1 in (is.0 ∙ opened.0, is.1)) c.opened_from.ensures.start

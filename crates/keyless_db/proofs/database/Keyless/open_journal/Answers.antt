@@ -57,3 +57,17 @@ returns-in-Ok-new-clause-listed g c tells list durable run few stands =
     let name = ap (λ (v : View g.row.O-Cfg.Denot). (new.log v.name).start) c.in-Ok-new.ensures.named.0 in
     let cut = ap (λ (l : Log). l.start) (c.in-Ok-new.ensures.cut tells).0 in
     record { joined = is; low = omega (arith, low, is.start_is, name, cut) }
+
+pub returns-in-Ok-clause-start : goal.returns-in-Ok-clause-start
+returns-in-Ok-clause-start g c tells =
+    let new = g.V.Volume.state c.init_at_most.new.vol in
+    let cut = c.in-Ok.ensures.cut tells in
+    let name = ap (λ (v : View g.row.O-Cfg.Denot). (new.log v.name).start) c.in-Ok.ensures.named.0 in
+    (cut.1.start_is ∙ name ∙ ap (λ (l : Log). l.start) cut.0, cut.1)
+
+pub returns-in-Ok-new-clause-start : goal.returns-in-Ok-new-clause-start
+returns-in-Ok-new-clause-start g c tells =
+    let new = g.V.Volume.state c.new.new.vol in
+    let cut = c.in-Ok-new.ensures.cut tells in
+    let name = ap (λ (v : View g.row.O-Cfg.Denot). (new.log v.name).start) c.in-Ok-new.ensures.named.0 in
+    (cut.1.start_is ∙ name ∙ ap (λ (l : Log). l.start) cut.0, cut.1)

@@ -1,7 +1,8 @@
 use Rattle.std.proofs.Common.{◌≡◌, ◌∷◌, [], ◌-◌, ◌<◌, List, length, take, None, Some, inl, inr, refl, sym, ◌∙◌, ap, subst, arith}
+use Rattle.volume_base.specs.Log.{Log, end_of}
 use Rattle.volume_base.specs.Moments.{Image, present}
 use Rattle.volume_base.proofs.CallLemmas.{names_call_idle}
-use Rattle.journal_base.specs.View.{IsDurable}
+use Rattle.journal_base.specs.View.{IsDurable, IsHeld}
 use Rattle.merkle_full.specs.Full.{Rests}
 use Rattle.merkle_full.proofs.ListLemmas.{there_is, taken}
 use Rattle.auth_journal.specs.Joined.{Joined, IsJoinedOf}
@@ -119,3 +120,23 @@ returns-in-Ok-read-clause-joined g c =
 pub returns-in-Ok-read-clause-rests : goal.returns-in-Ok-read-clause-rests
 returns-in-Ok-read-clause-rests g c =
     if_ok _ _ c.built-in-Ok-read.result (λ d same. λ rests. subst (λ (j : Joined g.row.H-Digest.Denot g.row.O-Cfg.Denot). Rests g.F.Family.shape j.tree) (sym same) rests) c.built-in-Ok-read.ensures.journal
+
+pub returns-then-size-eq0-clause-start : goal.returns-then-size-eq0-clause-start
+returns-then-size-eq0-clause-start g c =
+    let new = g.V.Volume.state c.begun.new.vol in
+    if_ok _ _ c.built.result
+    (λ d same. λ tells here.
+    subst (λ (x : Joined g.row.H-Digest.Denot g.row.O-Cfg.Denot). (x.items.start ≡ c.args.journal.items.start) × IsHeld x.items new) (sym same) (c.in-Ok.ensures.start tells here))
+    c.built.ensures.journal
+
+pub returns-in-Ok-read-clause-start : goal.returns-in-Ok-read-clause-start
+returns-in-Ok-read-clause-start g c =
+    let new = g.V.Volume.state c.read.new.vol in
+    let j = c.args.journal in
+    let read = (c.in-Ok-read.ensures {u = tt}).answers in
+    if_ok _ _ c.built-in-Ok-read.result
+    (λ d same. λ tells here.
+    let log = (read.contents tells).logs j.items.name in
+    let later : IsHeld j.items new = record { start_is = here.start_is ∙ ap (λ (l : Log). l.start) (sym log); end_is = here.end_is ∙ ap end_of (sym log) } in
+    subst (λ (x : Joined g.row.H-Digest.Denot g.row.O-Cfg.Denot). (x.items.start ≡ j.items.start) × IsHeld x.items new) (sym same) (refl, later))
+    c.built-in-Ok-read.ensures.journal
