@@ -1,5 +1,5 @@
 -- How a database is opened of a list.
-use Rattle.std.proofs.Common.{◌≡◌, inl, inr, ℕ, zero, suc, ◌-◌, ◌^◌, ◌<◌, ◌≤◌, Bool, true, false, List, [], ◌∷◌, length, take, Some, Option, Ok, Err, refl, sym, ◌∙◌, ap, subst, arith}
+use Rattle.std.proofs.Common.{◌≡◌, inl, inr, ℕ, zero, suc, ◌-◌, ◌^◌, ◌<◌, ◌≤◌, Bool, true, false, List, [], ◌∷◌, length, take, Some, None, Option, Ok, Err, refl, sym, ◌∙◌, ap, subst, arith}
 use Rattle.std.specs.Prelude.{Result, IfOk, IsSome, slice_get, unwrap_or}
 use Rattle.tree_shape.specs.Hashing.{Hashing}
 use Rattle.tree_shape.specs.Root.{root}
@@ -8,11 +8,11 @@ use Rattle.tree_shape.specs.declared.bagging.Bagging.{Bagging}
 use Rattle.tree_shape.specs.declared.bagging.Bagging.TheVariants.{ForwardFold}
 use Rattle.tree_core.specs.Tree.{IsOf}
 use Rattle.tree_store.specs.Stored.{TreeStands, size}
-use Rattle.volume_base.specs.Log.{Log}
+use Rattle.volume_base.specs.Log.{Log, end_of}
 use Rattle.volume_base.specs.Moments.{Image}
 use Rattle.volume_base.specs.Names.{Names, NamesCall, two_logs_and_map}
 use Rattle.volume_base.specs.Volume.{Map, State, PastStays, SameContents}
-use Rattle.journal_base.specs.View.{View, IsDurable, SameButBounds}
+use Rattle.journal_base.specs.View.{View, IsDurable, SameButBounds, capped}
 use Rattle.volume_base.proofs.CallLemmas.{names_call_idle}
 use Rattle.volume_base.proofs.MomentLemmas.{past_same}
 use Rattle.journal_base.specs.Items.{Items}
@@ -162,3 +162,23 @@ durable_still view a b clock past contents durable image left =
 -- of a journal that has the logs of another
 pub durable_same : {Cfg : Type 0} (old new : View Cfg) (state : State) → SameButBounds old new → IsDurable old state → IsDurable new state
 durable_same {Cfg = Cfg} old new state same durable = subst (λ (v : View Cfg). IsDurable v state) (sym same) durable
+
+capped_within : (most : Option ℕ) (end : ℕ) → capped most end ≤ end
+capped_within None end = omega arith
+capped_within (Some n) end = omega arith
+
+-- a log that ends where it begins is opened at 0, or where it stands
+pub empty_at : {A : Type 0} (items : Items A) (says : A → Bool → Type 0) (most : Option ℕ) (end : ℕ) → EndsAt items says most end → items.log.start ≡ end_of items.log → (0 < end → items.log.start < end) → items.log.start ≡ 0
+empty_at items says most end (inl last) empty some =
+    let lt = last.0 in
+    let le = last.1 in
+    let high = capped_within most (end_of items.log) in
+    absurd (omega (arith, lt, le, high, empty))
+empty_at items says most end (inr (inl none)) empty some = none.1
+empty_at items says most end (inr (inr there)) empty some =
+    let is = there.2 in
+    by end is some
+  where
+    by : (n : ℕ) → n ≡ end_of items.log → (0 < n → items.log.start < n) → items.log.start ≡ 0
+    by zero is some = omega (arith, is, empty)
+    by (suc n) is some = let lt = some (omega arith) in absurd (omega (arith, lt, is, empty))

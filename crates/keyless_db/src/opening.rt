@@ -36,12 +36,13 @@ fn check_bound<F: Family>(bound: &Option<Location<F>>) -> Result<(), Error<F>>
 }
 
 impl<F: Family, O: KeylessOperation, C: Backing<Item = O>, H: Hasher> Keyless<F, O, C, H> {
-    ghost use Rattle.std.specs.Prelude.{◌≢◌, ◌≤◌, ◌^◌, ◌+◌, ◌-◌, ◌∷◌, [], ℕ, List, length, Err, false, string_bytes, slice_get, IfOk, IfErr};
+    ghost use Rattle.std.specs.Prelude.{◌≢◌, ◌<◌, ◌≤◌, ◌^◌, ◌+◌, ◌-◌, ◌∷◌, [], ℕ, List, length, Err, false, string_bytes, slice_get, IfOk, IfErr};
     ghost use Rattle.std.specs.List.{AllByRecursion};
     ghost use Rattle.journal_base.specs.Items.{items_of, Spells};
     ghost use Rattle.journal_base.specs.View.{log_of, IsDurable, IsHeld, SameButBounds};
     ghost use Rattle.tree_shape.specs.declared.bagging.Bagging.TheVariants.{ForwardFold};
     ghost use Rattle.tree_store.specs.Stored.{TreeStands};
+    ghost use Rattle.volume_base.specs.Log.{end_of};
     ghost use Rattle.volume_base.specs.Moments.{Image, present};
     ghost use Rattle.volume_base.specs.Names.{two_logs_and_map, NamesCall};
     ghost use Rattle.volume_base.specs.Volume.{Changes};
@@ -217,6 +218,8 @@ impl<F: Family, O: KeylessOperation, C: Backing<Item = O>, H: Hasher> Keyless<F,
         ensures rests { IfOk result (λ d. Rests F.shape journal.tree → Rests F.shape d.journal.tree) }
         ensures start { IfOk result (λ d. V.tells → IsHeld journal.items (V.state vol.old) →
             (d.journal.items.start ≡ journal.items.start) × IsHeld d.journal.items (V.state vol.new)) }
+        ensures past { IfOk result (λ d. V.tells → IsHeld journal.items (V.state vol.old) → 0 < journal.items.end →
+            journal.items.start < journal.items.end) }
         ensures changes { Changes V.tells Error.Volume (V.state vol.old) (V.state vol.new) result }
     {
         let size = journal.size().as_u64();
@@ -275,6 +278,9 @@ impl<F: Family, O: KeylessOperation, C: Backing<Item = O>, H: Hasher> Keyless<F,
         // Nothing is cut off at the front, and the volume has the log with the database's bounds.
         ensures start { let log = log_of (C.config cfg.log) (V.state vol.old) in IfOk result (λ d. V.tells →
             (d.journal.items.start ≡ log.start) × IsHeld d.journal.items (V.state vol.new)) }
+        // An empty log past 0 isn't opened.
+        ensures past { let log = log_of (C.config cfg.log) (V.state vol.old) in
+            IfOk result (λ d. V.tells → log.start ≡ end_of log → log.start ≡ 0) }
         ensures changes { Changes V.tells Error.Volume (V.state vol.old) (V.state vol.new) result }
     {
         match check_bound(&max_size) {

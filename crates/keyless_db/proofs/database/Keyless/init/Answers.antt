@@ -1,4 +1,4 @@
-use Rattle.std.proofs.Common.{◌∙◌, sym, ap, subst}
+use Rattle.std.proofs.Common.{◌<◌, ◌∙◌, sym, ap, subst}
 use Rattle.std.specs.List.{AllByRecursion}
 use Rattle.volume_base.specs.Names.{Names, NamesCall}
 use Rattle.volume_base.proofs.CallLemmas.{names_call_joins}
@@ -6,7 +6,8 @@ use Rattle.volume_base.proofs.JoinLemmas.{changes_joins, went_of}
 use Rattle.journal_base.specs.Items.{Items, items_of}
 use Rattle.journal_base.specs.View.{View}
 use Rattle.chain_core.specs.declared.error.Error.TheVariants.{Volume}
-use Rattle.keyless_db.proofs.OpenLemmas.{if_ok, init_of}
+use Rattle.keyless_db.specs.Opening.{IsSaidCommit}
+use Rattle.keyless_db.proofs.OpenLemmas.{empty_at, if_ok, init_of}
 use Rattle.keyless_db.proofs.database.Keyless.init.Goals as goal
 
 pub returns-in-Ok-open_journal-clause-held : goal.returns-in-Ok-open_journal-clause-held
@@ -52,3 +53,14 @@ pub returns-in-Ok-open_journal-clause-start : goal.returns-in-Ok-open_journal-cl
 returns-in-Ok-open_journal-clause-start g c =
     if_ok _ _ c.opened_from.result
     (λ d began. λ tells. let opened = c.in-Ok-open_journal.ensures.start tells in let is = began tells opened.1 in (is.0 ∙ opened.0, is.1)) c.opened_from.ensures.start
+
+pub returns-in-Ok-open_journal-clause-past : goal.returns-in-Ok-open_journal-clause-past
+returns-in-Ok-open_journal-clause-past g c =
+    let items : Items g.row.O.Denot = items_of g.O.Spelled.spelling g.O.Read.admits (g.C.Backing.config c.args.cfg.log) (g.V.Volume.state c.args.vol.now) in
+    let opened = c.in-Ok-open_journal.ensures in
+    let j = c.in-Ok-open_journal.journal in
+    if_ok _ _ c.opened_from.result
+    (λ d past. λ tells empty.
+    let at = opened.start tells in
+    empty_at items (IsSaidCommit g.O.Logged.meaning) c.args.max_size j.items.end (opened.found tells) empty (λ some. subst (λ n. n < j.items.end) at.0 (past tells at.1 some)))
+    c.opened_from.ensures.past

@@ -140,3 +140,15 @@ returns-in-Ok-read-clause-start g c =
     let later : IsHeld j.items new = record { start_is = here.start_is ∙ ap (λ (l : Log). l.start) (sym log); end_is = here.end_is ∙ ap end_of (sym log) } in
     subst (λ (x : Joined g.row.H-Digest.Denot g.row.O-Cfg.Denot). (x.items.start ≡ j.items.start) × IsHeld x.items new) (sym same) (refl, later))
     c.built-in-Ok-read.ensures.journal
+
+pub returns-then-size-eq0-clause-past : goal.returns-then-size-eq0-clause-past
+returns-then-size-eq0-clause-past g c =
+    let none : c.args.journal.items.end ≡ 0 = sym (c.as_u64-size.ensures ∙ c.size.ensures) ∙ c.if-size-eq0.true in
+    if_ok _ _ c.built.result (λ d same. λ tells here some. absurd (omega (arith, none, some))) c.built.ensures.journal
+
+pub returns-in-Ok-read-clause-past : goal.returns-in-Ok-read-clause-past
+returns-in-Ok-read-clause-past g c =
+    let read = c.in-Ok-read.ensures {u = tt} in
+    let end : c.as_u64-size.result ≡ c.args.journal.items.end = c.as_u64-size.ensures ∙ c.size.ensures in
+    if_ok _ _ c.built-in-Ok-read.result
+    (λ d same. λ tells here some. let there = read.item tells in omega (arith, there.low, here.start_is, end, some)) c.built-in-Ok-read.ensures.journal
