@@ -4,6 +4,7 @@ use Rattle.std.proofs.lemmas.Bool.{cases_lt}
 use Rattle.std.specs.Prelude.{◌↔◌, Result, IsErrOf, IsTrue}
 use Rattle.volume_base.specs.Log.{Log, end_of, pruned_to}
 use Rattle.volume_base.specs.Volume.{State, Writes, Changes}
+use Rattle.volume_base.specs.Moments.{Steps}
 use Rattle.volume_base.specs.declared.error.JournalError.{JournalError}
 use Rattle.volume_base.specs.declared.error.JournalError.TheVariants as journal
 use Rattle.journal_base.specs.Items.{Spells}
@@ -117,3 +118,16 @@ moved_same r a b c d x y z w ax by cz dw moved =
     (subst (λ (n : ℕ). IsTrue r ↔ ((a < n) ⊎ (z < w))) by
     (subst (λ (n : ℕ). IsTrue r ↔ ((a < b) ⊎ (n < w))) cz
     (subst (λ (n : ℕ). IsTrue r ↔ ((a < b) ⊎ (c < n))) dw moved)))
+
+-- ---- what a crash leaves
+
+module _ {A S T F : Type 0} {left : State → ℕ → A → Type 0} {P Q : A → Type 0} (a b : State) where
+  pub steps_done : (x : S) (y : T) → Steps {E = Error F} left P Q a b (Ok x) → Steps {E = JournalError} left P Q a b (Ok y)
+  steps_done x y st = record { past = st.past; ok = st.ok; err = tt }
+
+  pub steps_refused : (e : Error F) (d : JournalError) → Steps {T = S} left P Q a b (Err e) → Steps {T = T} left P Q a b (Err d)
+  steps_refused e d st = record { past = st.past; ok = tt; err = st.err }
+
+pub ticket_steps : {A F : Type 0} {left : State → ℕ → A → Type 0} {P Q : A → Type 0} (a b : State) (t : SyncTicket) → Steps {E = Error F} left P Q a b (sync_of t) → Steps left P Q a b (tickets.sync_of t)
+ticket_steps a b Done st = steps_done a b tt tt st
+ticket_steps a b Failed st = steps_refused a b joined.Volume journal.Volume st

@@ -15,22 +15,27 @@ fn has_moved(start: u64, later: u64, boundary: u64, next: u64) -> bool
 }
 
 impl<F: Family, C: Backing, H: Hasher> Mutable for Journal<F, C, H> {
-    ghost use Rattle.std.specs.Prelude.{◌≡◌, ◌+◌, ◌≤◌, ◌-◌, ◌^◌, List, [], ◌∷◌, ◌++◌, map, length, true, false, Err, IfOk, IfErr, OnOk, IsErrOf};
+    ghost use Rattle.std.specs.Prelude.{◌≡◌, ◌+◌, ◌≤◌, ◌-◌, ◌^◌, ℕ, List, [], ◌∷◌, ◌++◌, map, length, true, false, Err, IfOk, IfErr, OnOk, IsErrOf};
+    ghost use Rattle.std.specs.FinMap as finmap;
     ghost use Rattle.codec_base.specs.Causes.{Rose};
     ghost use Rattle.journal_base.specs.Answers.{IsOfVolume, IsOfSize, IsOfAppend, RefusesUnwritten};
     ghost use Rattle.journal_base.specs.Items.{Spells, items_of};
     ghost use Rattle.journal_base.specs.Tickets.{is_failed, outcome};
     ghost use Rattle.journal_base.specs.View.{log_of, left_of, prune_point, SameButBounds, after_sync, SameLog, IsDurable, IsHeld};
     ghost use Rattle.merkle_full.specs.Flushing.{IsOfFlush};
+    ghost use Rattle.merkle_full.specs.Full.{IsBeside};
+    ghost use Rattle.tree_core.specs.Applied.{IsLonger};
     ghost use Rattle.volume_base.specs.Log.{end_of, no_log, appended, pruned_to};
     ghost use Rattle.volume_base.specs.Moments.{present};
+    ghost use Rattle.volume_base.specs.Names.{log_alone, NamesCall};
     ghost use Rattle.volume_base.specs.Volume.{OnlyLeft, Writes, Changes};
     ghost use Rattle.volume_base.specs.declared.error.JournalError.{JournalError};
     ghost use Rattle.volume_base.specs.declared.error.JournalError.TheVariants.{EmptyAppend, SizeOverflow, Tree, Volume, Memory};
     ghost use Rattle.volume_base.specs.declared.error.TreeCause.TheVariants.{LocationOverflow};
-    ghost use Rattle.auth_journal.specs.Durable.{IsFromTree, IsJournalUnpruned};
+    ghost use Rattle.auth_journal.specs.Durable.{IsFlushed, IsStarted, IsPrunedTo, IsFromTree, IsJournalUnpruned};
     ghost use Rattle.auth_journal.specs.Errors.{IsLowered};
-    ghost use Rattle.auth_journal.specs.Joined.{IsJoinedOf, log_view};
+    ghost use Rattle.auth_journal.specs.Joined.{IsJoinedOf, IsSameJoin, log_view};
+    ghost use Rattle.auth_journal.specs.Standing.{Marks, items_synced, all_synced, pruned_below, names_of, logs_of, KeepsStanding, StepsStanding, ItemsGoFirst};
 
     ghost one_log = { ⊥ };
 
@@ -58,6 +63,21 @@ impl<F: Family, C: Backing, H: Hasher> Mutable for Journal<F, C, H> {
         ensures errors { IfErr result (λ e. IsOfSize e
             ⊎ ((e ≡ Tree (LocationOverflow (2 ^ 62 + 1))) × (self.tree.tree.leaves ≡ 2 ^ 62))) }
         ensures writes { Writes V.tells Volume (V.state vol.old) (V.state vol.new) result }
+        // Each item has its leaf behind the tree's, and of other logs and of every map nothing changes.
+        ensures same { IfOk result (λ made. IsBeside self.tree made.0.tree × IsSameJoin self made.0) }
+        ensures longer { IfOk result (λ made.
+            IsLonger F.shape (self.tree.tree.leaves + 1) self.tree.tree made.0.tree.tree) }
+        ensures joined { let admits = H.Digest.Read.admits tt in
+            IfOk result (λ made. V.tells → (list : List C.Item) →
+            IsJoinedOf F.shape H.hash H.Digest.spelling admits C.Item.spelling list self (present (V.state vol.old)) →
+            IsJoinedOf F.shape H.hash H.Digest.spelling admits C.Item.spelling
+            (list ++ item.now ∷ []) made.0 (present (V.state vol.new))) }
+        ensures names { V.tells → NamesCall (log_alone self.items.name) (V.state vol.old) (V.state vol.new) }
+        // At each moment whatever a crash leaves stands for the longer list, of which no more is durable than before.
+        ensures images { let admits = H.Digest.Read.admits tt in V.tells → (list : List C.Item) (marks : Marks) →
+            IsJoinedOf F.shape H.hash H.Digest.spelling admits C.Item.spelling list self (present (V.state vol.old)) →
+            KeepsStanding F.shape H.hash H.Digest.spelling C.Item.spelling list (list ++ item.now ∷ []) marks
+            self (V.state vol.old) (V.state vol.new) }
     {
         match self.append(vol, item) {
             Ok((journal, position)) => Ok((journal, position.as_u64())),
@@ -92,6 +112,21 @@ impl<F: Family, C: Backing, H: Hasher> Mutable for Journal<F, C, H> {
         ensures errors { IfErr result (λ e. IsOfAppend e
             ⊎ ((e ≡ Tree (LocationOverflow (2 ^ 62 + 1))) × (2 ^ 62 < self.tree.tree.leaves + length items.now))) }
         ensures writes { Writes V.tells Volume (V.state vol.old) (V.state vol.new) result }
+        // Each item has its leaf behind the tree's, and of other logs and of every map nothing changes.
+        ensures same { IfOk result (λ made. IsBeside self.tree made.0.tree × IsSameJoin self made.0) }
+        ensures longer { IfOk result (λ made.
+            IsLonger F.shape (self.tree.tree.leaves + length items.now) self.tree.tree made.0.tree.tree) }
+        ensures joined { let admits = H.Digest.Read.admits tt in
+            IfOk result (λ made. V.tells → (list : List C.Item) →
+            IsJoinedOf F.shape H.hash H.Digest.spelling admits C.Item.spelling list self (present (V.state vol.old)) →
+            IsJoinedOf F.shape H.hash H.Digest.spelling admits C.Item.spelling
+            (list ++ items.now) made.0 (present (V.state vol.new))) }
+        ensures names { V.tells → NamesCall (log_alone self.items.name) (V.state vol.old) (V.state vol.new) }
+        // At each moment whatever a crash leaves stands for the longer list, of which no more is durable than before.
+        ensures images { let admits = H.Digest.Read.admits tt in V.tells → (list : List C.Item) (marks : Marks) →
+            IsJoinedOf F.shape H.hash H.Digest.spelling admits C.Item.spelling list self (present (V.state vol.old)) →
+            KeepsStanding F.shape H.hash H.Digest.spelling C.Item.spelling list (list ++ items.now) marks
+            self (V.state vol.old) (V.state vol.new) }
     {
         match self.append_many(vol, items) {
             Ok(made) => Ok(made),
@@ -110,6 +145,18 @@ impl<F: Family, C: Backing, H: Hasher> Mutable for Journal<F, C, H> {
             IfErr result IsOfVolume }
         ensures writes { self.failed ≡ false →
             Writes V.tells Volume (V.state vol.old) (V.state vol.new) result }
+        ensures same { IfOk result (λ made. IsFlushed self made) }
+        ensures joined { let admits = H.Digest.Read.admits tt in
+            IfOk result (λ made. V.tells → (list : List C.Item) →
+            IsJoinedOf F.shape H.hash H.Digest.spelling admits C.Item.spelling list self (present (V.state vol.old)) →
+            IsJoinedOf F.shape H.hash H.Digest.spelling admits C.Item.spelling list made (present (V.state vol.new))) }
+        // Every other log and every map stays, and so does what a crash leaves of it.
+        ensures names { V.tells → NamesCall (logs_of self) (V.state vol.old) (V.state vol.new) }
+        // From a turn on all items are durable.
+        ensures images { let admits = H.Digest.Read.admits tt in V.tells → (list : List C.Item) (marks : Marks) →
+            IsJoinedOf F.shape H.hash H.Digest.spelling admits C.Item.spelling list self (present (V.state vol.old)) →
+            StepsStanding F.shape H.hash H.Digest.spelling C.Item.spelling list marks (items_synced (length list) marks)
+            self (V.state vol.old) (V.state vol.new) result }
     {
         match self.commit(vol) {
             Ok(journal) => Ok(journal),
@@ -128,6 +175,19 @@ impl<F: Family, C: Backing, H: Hasher> Mutable for Journal<F, C, H> {
             IfErr result IsOfVolume }
         ensures writes { self.failed ≡ false →
             Writes V.tells Volume (V.state vol.old) (V.state vol.new) result }
+        ensures nodes_durable { OnOk result (V.tells → IsDurable self.tree.log (V.state vol.new)) }
+        ensures same { IfOk result (λ made. IsFlushed self made) }
+        ensures joined { let admits = H.Digest.Read.admits tt in
+            IfOk result (λ made. V.tells → (list : List C.Item) →
+            IsJoinedOf F.shape H.hash H.Digest.spelling admits C.Item.spelling list self (present (V.state vol.old)) →
+            IsJoinedOf F.shape H.hash H.Digest.spelling admits C.Item.spelling list made (present (V.state vol.new))) }
+        // Every other log and every map stays, and so does what a crash leaves of it.
+        ensures names { V.tells → NamesCall (logs_of self) (V.state vol.old) (V.state vol.new) }
+        // From a turn on all items and all their nodes are durable.
+        ensures images { let admits = H.Digest.Read.admits tt in V.tells → (list : List C.Item) (marks : Marks) →
+            IsJoinedOf F.shape H.hash H.Digest.spelling admits C.Item.spelling list self (present (V.state vol.old)) →
+            StepsStanding F.shape H.hash H.Digest.spelling C.Item.spelling list marks (all_synced (length list) marks)
+            self (V.state vol.old) (V.state vol.new) result }
     {
         match self.sync(vol) {
             Ok(journal) => Ok(journal),
@@ -149,6 +209,20 @@ impl<F: Family, C: Backing, H: Hasher> Mutable for Journal<F, C, H> {
             IfErr result IsOfVolume }
         ensures writes { self.failed ≡ false →
             Writes V.tells Volume (V.state vol.old) (V.state vol.new) (outcome result) }
+        ensures nodes_durable { IfOk result (λ made. made.1 ≡ SyncTicket.Done →
+            V.tells → IsDurable self.tree.log (V.state vol.new)) }
+        ensures same { IfOk result (λ made. IsStarted self made.0 (is_failed made.1)) }
+        ensures joined { let admits = H.Digest.Read.admits tt in
+            IfOk result (λ made. V.tells → (list : List C.Item) →
+            IsJoinedOf F.shape H.hash H.Digest.spelling admits C.Item.spelling list self (present (V.state vol.old)) →
+            IsJoinedOf F.shape H.hash H.Digest.spelling admits C.Item.spelling list made.0 (present (V.state vol.new))) }
+        // Every other log and every map stays, and so does what a crash leaves of it.
+        ensures names { V.tells → NamesCall (logs_of self) (V.state vol.old) (V.state vol.new) }
+        // Beside a ticket that is done all items and all their nodes are durable from a turn on.
+        ensures images { let admits = H.Digest.Read.admits tt in V.tells → (list : List C.Item) (marks : Marks) →
+            IsJoinedOf F.shape H.hash H.Digest.spelling admits C.Item.spelling list self (present (V.state vol.old)) →
+            StepsStanding F.shape H.hash H.Digest.spelling C.Item.spelling list marks (all_synced (length list) marks)
+            self (V.state vol.old) (V.state vol.new) (outcome result) }
     {
         match self.start_sync(vol) {
             Ok(made) => Ok(made),
@@ -183,6 +257,18 @@ impl<F: Family, C: Backing, H: Hasher> Mutable for Journal<F, C, H> {
             IfErr result IsOfVolume }
         ensures changes { self.failed ≡ false →
             Changes V.tells Volume (V.state vol.old) (V.state vol.new) result }
+        ensures moved { IfOk result (λ made. 0 < self.items.end → IsPrunedTo self made.0) }
+        ensures joined { let admits = H.Digest.Read.admits tt in
+            IfOk result (λ made. V.tells → (list : List C.Item) →
+            IsJoinedOf F.shape H.hash H.Digest.spelling admits C.Item.spelling list self (present (V.state vol.old)) →
+            IsJoinedOf F.shape H.hash H.Digest.spelling admits C.Item.spelling list made.0 (present (V.state vol.new))) }
+        // Every other log and map stays, and so does what a crash leaves of it.
+        ensures names { V.tells → NamesCall (names_of self) (V.state vol.old) (V.state vol.new) }
+        // From a turn on all items and all their nodes are durable, and only from it on is anything pruned.
+        ensures images { let admits = H.Digest.Read.admits tt in V.tells → (list : List C.Item) (marks : Marks) →
+            IsJoinedOf F.shape H.hash H.Digest.spelling admits C.Item.spelling list self (present (V.state vol.old)) →
+            StepsStanding F.shape H.hash H.Digest.spelling C.Item.spelling list marks
+            (pruned_below least (all_synced (length list) marks)) self (V.state vol.old) (V.state vol.new) result }
     {
         let (start, _) = self.journal.bounds();
         let (boundary, _) = self.merkle.bounds();
@@ -201,6 +287,15 @@ impl<F: Family, C: Backing, H: Hasher> Mutable for Journal<F, C, H> {
         ensures durable { OnOk result (V.tells → OnlyLeft (left_of self.items (V.state vol.new)) no_log) }
         ensures errors { IfErr result IsOfVolume }
         ensures writes { Writes V.tells Volume (V.state vol.old) (V.state vol.new) result }
+        ensures no_nodes { OnOk result (V.tells → log_of self.tree.log (V.state vol.new) ≡ no_log) }
+        ensures no_map { OnOk result (V.tells → (V.state vol.new).map self.tree.metadata ≡ finmap.empty) }
+        ensures durable_nodes { OnOk result (V.tells → OnlyLeft (left_of self.tree.log (V.state vol.new)) no_log) }
+        ensures durable_map { let state = V.state vol.new in
+            OnOk result (V.tells → OnlyLeft (state.map_left state.clock self.tree.metadata) finmap.empty) }
+        // Every other log and map stays, and so does what a crash leaves of it.
+        ensures names { V.tells → NamesCall (names_of self) (V.state vol.old) (V.state vol.new) }
+        // The tree is as it was until nothing is left of the log of items.
+        ensures images { V.tells → ItemsGoFirst self (V.state vol.old) (V.state vol.new) }
     {
         match self.destroy(vol) {
             Ok(()) => Ok(()),

@@ -1,4 +1,4 @@
-use Rattle.std.proofs.Common.{◌≡◌, ◌⊎◌, inl, inr, ◌^◌, ◌+◌, ◌-◌, ◌<◌, ◌++◌, ℕ, Err, Some, length, refl, sym, ◌∙◌, ap, subst}
+use Rattle.std.proofs.Common.{◌≡◌, ◌⊎◌, inl, inr, ◌^◌, ◌+◌, ◌-◌, ◌<◌, ◌++◌, ℕ, Err, Some, length, map, refl, sym, ◌∙◌, ap, subst}
 use Rattle.volume_base.specs.Log.{Log, end_of}
 use Rattle.volume_base.specs.declared.error.JournalError.{JournalError}
 use Rattle.volume_base.specs.declared.error.JournalError.TheVariants as journal
@@ -9,6 +9,9 @@ use Rattle.journal_base.proofs.ItemLemmas.{spells_appended}
 use Rattle.auth_journal.specs.Joined.{Joined}
 use Rattle.auth_journal.proofs.LowerLemmas.{several_fail, append_lowers, append_lowered, own_lowered, several_some, several_of, size_of_append, unwritten_lowered, past_lowered, own_stays, positive}
 use Rattle.auth_journal.proofs.MutableLemmas.{same_view, held_view, writes_done, writes_lowered}
+use Rattle.volume_base.specs.Names.{log_alone}
+use Rattle.volume_base.specs.Log.{Grows}
+use Rattle.volume_base.proofs.CallLemmas.{names_call_log}
 use Rattle.auth_journal.proofs.mutable.JournalMutable.append_many.Goals as goal
 
 pub lower-requires : goal.lower-requires
@@ -71,3 +74,19 @@ returns-in-Ok-clause-listed g c tells list run =
 
 pub returns-in-Ok-clause-writes : goal.returns-in-Ok-clause-writes
 returns-in-Ok-clause-writes g c = writes_done {F = g.row.F.Denot} g.V.Volume.tells (g.V.Volume.state c.args.vol.now) (g.V.Volume.state c.append_many.new.vol) c.in-Ok.made c.in-Ok.made c.in-Ok.ensures.appends.writes
+
+pub returns-in-Err-clause-names : goal.returns-in-Err-clause-names
+returns-in-Err-clause-names g c tells =
+    let items = c.args.self.items in
+    let a = g.V.Volume.state c.args.vol.now in
+    let b = g.V.Volume.state c.append_many.new.vol in
+    let step = Grows (log_of items a) (map g.C.Item.Spelled.spelling c.args.items.now) in
+    names_call_log (log_alone items.name) items.name step a b (inl refl) (c.in-Err.ensures.appends.log tells)
+
+pub returns-in-Ok-clause-names : goal.returns-in-Ok-clause-names
+returns-in-Ok-clause-names g c tells =
+    let items = c.args.self.items in
+    let a = g.V.Volume.state c.args.vol.now in
+    let b = g.V.Volume.state c.append_many.new.vol in
+    let step = Grows (log_of items a) (map g.C.Item.Spelled.spelling c.args.items.now) in
+    names_call_log (log_alone items.name) items.name step a b (inl refl) (c.in-Ok.ensures.appends.log tells)

@@ -4,6 +4,7 @@ use Rattle.auth_journal.specs.Durable.{IsFromTree}
 use Rattle.auth_journal.specs.Joined.{Joined}
 use Rattle.auth_journal.proofs.LowerLemmas.{from_tree_lowers, flush_lowers, lowered_is, outside_lowered}
 use Rattle.auth_journal.proofs.MutableLemmas.{flushed_view, volume_stays, writes_done, writes_lowered}
+use Rattle.auth_journal.proofs.MutableLemmas.{steps_done, steps_refused}
 use Rattle.auth_journal.proofs.mutable.JournalMutable.commit.Goals as goal
 
 pub lower-requires : goal.lower-requires
@@ -32,3 +33,11 @@ returns-in-Err-clause-outside g c tells list joined = outside_lowered c.in-Err.e
 pub returns-in-Err-clause-writes : goal.returns-in-Err-clause-writes
 returns-in-Err-clause-writes g c sound =
     writes_lowered {S = Joined g.row.H-Digest.Denot g.row.C-Item-Cfg.Denot} g.V.Volume.tells (g.V.Volume.state c.args.vol.now) (g.V.Volume.state c.commit.new.vol) c.in-Err.error c.lower.result c.lower.ensures (c.in-Err.ensures.writes sound)
+
+pub returns-in-Ok-clause-images : goal.returns-in-Ok-clause-images
+returns-in-Ok-clause-images g c tells list marks joined stood =
+    steps_done {F = g.row.F.Denot} (g.V.Volume.state c.args.vol.now) (g.V.Volume.state c.commit.new.vol) c.in-Ok.journal c.in-Ok.journal (c.in-Ok.ensures.images tells list marks joined stood)
+
+pub returns-in-Err-clause-images : goal.returns-in-Err-clause-images
+returns-in-Err-clause-images g c tells list marks joined stood =
+    steps_refused {S = Joined g.row.H-Digest.Denot g.row.C-Item-Cfg.Denot} (g.V.Volume.state c.args.vol.now) (g.V.Volume.state c.commit.new.vol) c.in-Err.error c.lower.result (c.in-Err.ensures.images tells list marks joined stood)

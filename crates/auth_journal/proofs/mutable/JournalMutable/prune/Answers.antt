@@ -1,4 +1,4 @@
-use Rattle.std.proofs.Common.{◌≡◌, inl, ◌<◌, ℕ, Err, ◌∙◌, ap, subst}
+use Rattle.std.proofs.Common.{◌≡◌, inl, ◌<◌, ℕ, Bool, length, Ok, Err, ◌∙◌, ap, subst}
 use Rattle.journal_base.specs.Items.{items_of}
 use Rattle.volume_base.specs.Log.{pruned_to}
 use Rattle.journal_base.specs.View.{log_of, prune_point}
@@ -7,6 +7,9 @@ use Rattle.auth_journal.specs.Joined.{Joined}
 use Rattle.auth_journal.proofs.PruneLemmas.{not_failed}
 use Rattle.auth_journal.proofs.LowerLemmas.{from_tree_lowers, prune_lowers, lowered_is, outside_lowered}
 use Rattle.auth_journal.proofs.MutableLemmas.{pair_first, moved_same, pruned_view, pruned_held, pruned_log, pruned_list, pruned_start, volume_stays, changes_done, changes_lowered}
+use Rattle.volume_base.specs.declared.error.JournalError.{JournalError}
+use Rattle.auth_journal.specs.Standing.{StepsStanding, all_synced, pruned_below}
+use Rattle.auth_journal.proofs.MutableLemmas.{steps_done, steps_refused}
 use Rattle.auth_journal.proofs.mutable.JournalMutable.prune.Goals as goal
 
 pub lower-requires : goal.lower-requires
@@ -107,3 +110,17 @@ returns-in-Err-clause-outside g c tells list joined = outside_lowered c.in-Err.e
 pub returns-in-Err-clause-changes : goal.returns-in-Err-clause-changes
 returns-in-Err-clause-changes g c sound =
     changes_lowered {S = (Joined g.row.H-Digest.Denot g.row.C-Item-Cfg.Denot) × ℕ} g.V.Volume.tells (g.V.Volume.state c.args.vol.now) (g.V.Volume.state c.prune.new.vol) c.in-Err.error c.lower.result c.lower.ensures (c.in-Err.ensures.changes sound)
+
+pub returns-in-Ok-clause-images : goal.returns-in-Ok-clause-images
+returns-in-Ok-clause-images g c tells list marks joined =
+    let a = g.V.Volume.state c.args.vol.now in
+    let b = g.V.Volume.state c.prune.new.vol in
+    subst (λ (n : ℕ). StepsStanding {T = (Joined g.row.H-Digest.Denot g.row.C-Item-Cfg.Denot) × Bool} {E = JournalError} g.F.Family.shape g.H.Hasher.hash g.H.Digest.Spelled.spelling g.C.Item.Spelled.spelling list marks (pruned_below n (all_synced (length list) marks)) c.args.self a b (Ok (c.in-Ok.pruned, c.has_moved-moved.result))) c.new.ensures
+    (λ stood. steps_done {F = g.row.F.Denot} a b (c.in-Ok.pruned, c.in-Ok.from) (c.in-Ok.pruned, c.has_moved-moved.result) (c.in-Ok.ensures.images tells list marks joined stood))
+
+pub returns-in-Err-clause-images : goal.returns-in-Err-clause-images
+returns-in-Err-clause-images g c tells list marks joined =
+    let a = g.V.Volume.state c.args.vol.now in
+    let b = g.V.Volume.state c.prune.new.vol in
+    subst (λ (n : ℕ). StepsStanding {T = (Joined g.row.H-Digest.Denot g.row.C-Item-Cfg.Denot) × Bool} {E = JournalError} g.F.Family.shape g.H.Hasher.hash g.H.Digest.Spelled.spelling g.C.Item.Spelled.spelling list marks (pruned_below n (all_synced (length list) marks)) c.args.self a b (Err c.lower.result)) c.new.ensures
+    (λ stood. steps_refused {S = (Joined g.row.H-Digest.Denot g.row.C-Item-Cfg.Denot) × ℕ} a b c.in-Err.error c.lower.result (c.in-Err.ensures.images tells list marks joined stood))

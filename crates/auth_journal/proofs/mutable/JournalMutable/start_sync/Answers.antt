@@ -6,6 +6,7 @@ use Rattle.auth_journal.specs.Durable.{IsFromTree}
 use Rattle.auth_journal.specs.Joined.{Joined}
 use Rattle.auth_journal.proofs.LowerLemmas.{from_tree_lowers, flush_lowers, lowered_is, outside_lowered}
 use Rattle.auth_journal.proofs.MutableLemmas.{started_view, volume_stays, ticket_writes, writes_lowered}
+use Rattle.auth_journal.proofs.MutableLemmas.{ticket_steps, steps_refused}
 use Rattle.auth_journal.proofs.mutable.JournalMutable.start_sync.Goals as goal
 
 pub lower-requires : goal.lower-requires
@@ -36,3 +37,14 @@ returns-in-Err-clause-outside g c tells list joined = outside_lowered c.in-Err.e
 pub returns-in-Err-clause-writes : goal.returns-in-Err-clause-writes
 returns-in-Err-clause-writes g c sound =
     writes_lowered {S = Unit {0}} g.V.Volume.tells (g.V.Volume.state c.args.vol.now) (g.V.Volume.state c.start_sync.new.vol) c.in-Err.error c.lower.result c.lower.ensures (c.in-Err.ensures.writes sound)
+
+pub returns-in-Ok-clause-images : goal.returns-in-Ok-clause-images
+returns-in-Ok-clause-images g c tells list marks joined stood =
+    ticket_steps {F = g.row.F.Denot} (g.V.Volume.state c.args.vol.now) (g.V.Volume.state c.start_sync.new.vol) c.in-Ok.made.1 (c.in-Ok.ensures.images tells list marks joined stood)
+
+pub returns-in-Err-clause-images : goal.returns-in-Err-clause-images
+returns-in-Err-clause-images g c tells list marks joined stood =
+    steps_refused {S = Unit {0}} (g.V.Volume.state c.args.vol.now) (g.V.Volume.state c.start_sync.new.vol) c.in-Err.error c.lower.result (c.in-Err.ensures.images tells list marks joined stood)
+
+pub returns-in-Ok-clause-nodes_durable : goal.returns-in-Ok-clause-nodes_durable
+returns-in-Ok-clause-nodes_durable g c done tells = (c.in-Ok.ensures.durable done tells).1

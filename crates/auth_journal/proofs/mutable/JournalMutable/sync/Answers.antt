@@ -4,6 +4,7 @@ use Rattle.auth_journal.specs.Durable.{IsFromTree}
 use Rattle.auth_journal.specs.Joined.{Joined}
 use Rattle.auth_journal.proofs.LowerLemmas.{from_tree_lowers, flush_lowers, lowered_is, outside_lowered}
 use Rattle.auth_journal.proofs.MutableLemmas.{flushed_view, volume_stays, writes_done, writes_lowered}
+use Rattle.auth_journal.proofs.MutableLemmas.{steps_done, steps_refused}
 use Rattle.auth_journal.proofs.mutable.JournalMutable.sync.Goals as goal
 
 pub lower-requires : goal.lower-requires
@@ -35,3 +36,14 @@ returns-in-Err-clause-writes g c sound =
 
 pub returns-in-Ok-clause-durable : goal.returns-in-Ok-clause-durable
 returns-in-Ok-clause-durable g c tells = (c.in-Ok.ensures.durable tells).0
+
+pub returns-in-Ok-clause-images : goal.returns-in-Ok-clause-images
+returns-in-Ok-clause-images g c tells list marks joined stood =
+    steps_done {F = g.row.F.Denot} (g.V.Volume.state c.args.vol.now) (g.V.Volume.state c.sync.new.vol) c.in-Ok.journal c.in-Ok.journal (c.in-Ok.ensures.images tells list marks joined stood)
+
+pub returns-in-Err-clause-images : goal.returns-in-Err-clause-images
+returns-in-Err-clause-images g c tells list marks joined stood =
+    steps_refused {S = Joined g.row.H-Digest.Denot g.row.C-Item-Cfg.Denot} (g.V.Volume.state c.args.vol.now) (g.V.Volume.state c.sync.new.vol) c.in-Err.error c.lower.result (c.in-Err.ensures.images tells list marks joined stood)
+
+pub returns-in-Ok-clause-nodes_durable : goal.returns-in-Ok-clause-nodes_durable
+returns-in-Ok-clause-nodes_durable g c tells = (c.in-Ok.ensures.durable tells).1
