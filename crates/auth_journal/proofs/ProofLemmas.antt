@@ -137,6 +137,10 @@ module _ (F : Type 0) {D Codec Item : Type 0} (tells : Type 0) (s : Shape) (h : 
   tree_refused e (Err d) is did = subst (λ (x : Error F). Says (Err x)) (sym is) (record {
     refused = λ d bad. absurd (never d bad);
     within = tt;
+    counted = tt;
+    read = tt;
+    told = tt;
+    proof = tt;
     list = tt;
     kept = λ ok low start told list jn al. tree_outside e (did.kept (hist list jn) low told h (leaves_of s h spelling list) jn.tree);
     why = λ ok told list jn. tree_because (told_at reads j.tree image) (cover_positions s (meets a b) n) items a b e
@@ -150,6 +154,10 @@ module _ (F : Type 0) {D Codec Item : Type 0} (tells : Type 0) (s : Shape) (h : 
   log_refused e (Err d) is proof did unread outside = subst (λ (x : Error F). Says (Err x)) (sym is) (record {
     refused = λ d bad. absurd (never d bad);
     within = tt;
+    counted = tt;
+    read = tt;
+    told = tt;
+    proof = tt;
     list = tt;
     kept = λ ok low start told list jn al. log_outside F e (outside told list jn.items (omega (arith, start, jn.start_is)) (within_list list jn) al);
     why = λ ok told list jn. log_because (told_at reads j.tree image) (cover_positions s (meets a b) n) tells items a b e told
@@ -158,12 +166,17 @@ module _ (F : Type 0) {D Codec Item : Type 0} (tells : Type 0) (s : Shape) (h : 
   })
 
   pub both_made : (proof : Proof F D) (made : Vec Item) → IsProved tells s digest admits reads j.tree image (history_answer j.tree.tree.leaves n a b) n inactive a b (Ok proof)
+      → length made.items ≡ b - a
       → (tells → AreItemsAt items (positions a b) made.items)
       → (tells → (list : List Item) → Spells spelling list (image.log j.items.name) → (image.log j.items.name).start ≤ a → b ≤ length list → AreAdmitted (allowed j.items.codec) list a b → made.items ≡ take (b - a) (drop a list))
       → Says (Ok (proof, made))
-  both_made proof made did there listed = record {
+  both_made proof made did counted there listed = record {
     refused = λ d bad. absurd (never d bad);
     within = answer_ok j.items.end n a le lt;
+    counted = counted;
+    read = there;
+    told = did.told;
+    proof = λ told list jn. did.list told h (leaves_of s h spelling list) jn.tree;
     list = λ told list jn al.
         let k : suc (b - a - 1) ≡ b - a = omega (arith, lt, some) in
         let low = low_of items a (b - a - 1) made.items (subst (λ (m : ℕ). AreItemsAt items (range_with_len a m) made.items) (sym k) (there told)) in

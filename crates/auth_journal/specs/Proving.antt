@@ -7,6 +7,7 @@ use Rattle.volume_base.specs.Moments.{Image, present}
 use Rattle.volume_base.specs.Volume.{State}
 use Rattle.volume_base.specs.declared.error.JournalError.{JournalError}
 use Rattle.journal_base.specs.Items.{Items, items_of}
+use Rattle.journal_base.specs.Reads.{AreItemsAt}
 use Rattle.tree_shape.specs.Hashing.{Hashing}
 use Rattle.tree_shape.specs.Pins.{pins}
 use Rattle.tree_shape.specs.Shape.{Shape, peaks}
@@ -17,7 +18,7 @@ use Rattle.tree_store.specs.declared.error.Error.TheVariants.{RangeOutOfBounds, 
 use Rattle.tree_proof.specs.declared.proof.Proof.{Proof}
 use Rattle.tree_proof.specs.Cover.{meets}
 use Rattle.tree_proof.specs.SlowProof.{proof_of}
-use Rattle.tree_verification.specs.Ranges.{cover_positions, Proves}
+use Rattle.tree_verification.specs.Ranges.{cover_positions, Proves, TakesFrom}
 use Rattle.tree_core.specs.Batches.{Sealed, IsSealedOf}
 use Rattle.tree_core.specs.Overlay.{overlaid, AreAlike}
 use Rattle.tree_core.specs.Reading.{OnlyRefusedBy}
@@ -28,7 +29,7 @@ use Rattle.merkle_full.specs.Lists.{IsFullOf}
 use Rattle.merkle_full.specs.Reading.{peaks_answer, IsUnreadAmong}
 use Rattle.auth_journal.specs.Errors.{IsOutside}
 use Rattle.auth_journal.specs.Joined.{Joined, IsJoinedOf, leaves_of}
-use Rattle.auth_journal.specs.Reading.{IsFirstUnread, AreAdmitted}
+use Rattle.auth_journal.specs.Reading.{positions, IsFirstUnread, AreAdmitted}
 use Rattle.auth_journal.specs.declared.error.Error.{Error}
 use Rattle.auth_journal.specs.declared.error.Error.TheVariants.{Merkle, Journal}
 
@@ -79,14 +80,24 @@ WhyUnproved told positions items a b e =
     ⊎ ((d : JournalError) × (e ≡ Journal d) × AreThere told positions × IsFirstUnread (Unit {0}) items a b d))
 
 -- What a proof of at most `count` items from a on in the tree of the first n leaves answers: the refusal that no read
--- decides; or else the list's proof with the list's items; from the boundary and the log's start on the outside alone
--- refuses; and else a node that isn't there goes before an item that can't be read.
+-- decides; or else the list's proof, with the items that the log has there, which are the list's where these are
+-- allowed; from the boundary and the log's start on the outside alone refuses; and else a node that isn't there goes
+-- before an item that can't be read. Its digests are those that memory and node log have there, and the items are
+-- those of the log, of no list either.
 pub record IsItemsProof {F D Codec Item : Type 0} (tells : Type 0) (s : Shape) (h : Hashing D) (digest : D → List ℕ)
     (admits : D → Type 0) (reads : List ℕ → Reading D) (spelling : Item → List ℕ) (allowed : Codec → Item → Type 0)
     (j : Joined D Codec) (image : Image) (n inactive a count : ℕ)
     (result : Result (Proof F D × Vec Item) (Error F)) : Type 0 where
   pub refused : (e : tree_error.Error F) → items_answer j.items.end n a ≡ Err e → result ≡ Err (Merkle e)
   pub within : OnOk result (items_answer {F = F} j.items.end n a ≡ Ok tt)
+  pub counted : IfOk result (λ made. length made.1.items ≡ range_end n a count - a)
+  pub read : IfOk result (λ made. tells → AreItemsAt
+      (record { log = image.log j.items.name; spelling = spelling; admits = allowed j.items.codec })
+      (positions a (range_end n a count)) made.1.items)
+  pub told : IfOk result (λ made. tells → IsHeld s digest admits j.tree image →
+      TakesFrom s (told_at reads j.tree image) n (meets a (range_end n a count)) made.0)
+  pub proof : IfOk result (λ made. tells → (list : List Item) → IsJoinedOf s h digest admits spelling list j image →
+      made.0 ≡ proof_of s h (take n (leaves_of s h spelling list)) inactive (meets a (range_end n a count)))
   pub list : IfOk result (λ made. tells → (list : List Item) → IsJoinedOf s h digest admits spelling list j image →
       AreAdmitted (allowed j.items.codec) list a (range_end n a count) →
       (made.0 ≡ proof_of s h (take n (leaves_of s h spelling list)) inactive (meets a (range_end n a count)))

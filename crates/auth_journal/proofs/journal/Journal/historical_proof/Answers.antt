@@ -138,6 +138,7 @@ returns-clause-proves g c =
     let made = c.in_ok-items.items in
     let read = c.in_ok-items.ensures {u = tt} in
     both_made g.row.F.Denot tells s h digest admits reads spelling allowed j (present old) n c.args.inactive_peaks a count le lt some sound c.in_ok-proof.proof made did
+    (omega (arith, read.counted, c.as_u64-first.ensures, to))
     (λ told. moved (λ (v : View g.row.C-Item-Cfg.Denot) (l : Log) (x y : ℕ). AreItemsAt (record { log = l; spelling = spelling; admits = allowed v.codec }) (positions x y) made.items) i j old new c.as_u64-first.result a (c.as_u64-first.result + c.min-size.result) b c.self.view_is (same told) c.as_u64-first.ensures to (read.items told))
     (λ told. moved (λ (v : View g.row.C-Item-Cfg.Denot) (l : Log) (x y : ℕ). (list : List g.row.C-Item.Denot) → Spells spelling list l → l.start ≤ x → y ≤ length list → AreAdmitted (allowed v.codec) list x y → made.items ≡ take (y - x) (drop x list)) i j old new c.as_u64-first.result a (c.as_u64-first.result + c.min-size.result) b c.self.view_is (same told) c.as_u64-first.ensures to (read.listed told))
 
