@@ -26,7 +26,7 @@ use Rattle.tree_store.specs.Stored.{TreeStands, size}
 use Rattle.merkle_full.specs.Flushing.{AllStand, IsSameTree}
 use Rattle.merkle_full.specs.Full.{Full, Rests}
 use Rattle.merkle_full.specs.Lists.{IsFullOf}
-use Rattle.merkle_full.specs.Pruning.{StandsWhilePruned, KeepsPins, IsOfPrune, at_boundary}
+use Rattle.merkle_full.specs.Pruning.{StandsWhilePruned, KeepsPins, KeepsOthers, IsOfPrune, at_boundary}
 use Rattle.merkle_full.proofs.FullLemmas.{full_later}
 use Rattle.merkle_full.proofs.PruneLemmas.{blob_low}
 use Rattle.tree_core.specs.Tree.{prune_answer}
@@ -300,6 +300,12 @@ module _ {D Codec : Type 0} (j k l m : Joined D Codec) (flushed : IsFlushed j k)
   pub pins_pruned : (a c d : State) → c.map j.tree.metadata ≡ a.map j.tree.metadata → KeepsPins (c.map l.tree.metadata) (d.map l.tree.metadata) → KeepsPins (a.map j.tree.metadata) (d.map j.tree.metadata)
   pins_pruned a c d same keeps =
       subst (λ (m : Map). KeepsPins m (d.map j.tree.metadata)) same (subst (λ (n : List ℕ). KeepsPins (c.map n) (d.map n)) pins_is keeps)
+
+  -- and of other keys nothing changes
+  pub others_pruned : (ps qs : List ℕ) (a c d : State) → ps ≡ qs → c.map j.tree.metadata ≡ a.map j.tree.metadata → KeepsOthers ps (c.map l.tree.metadata) (d.map l.tree.metadata) → KeepsOthers qs (a.map j.tree.metadata) (d.map j.tree.metadata)
+  others_pruned ps qs a c d at same keeps =
+      subst (λ (xs : List ℕ). KeepsOthers xs (a.map j.tree.metadata) (d.map j.tree.metadata)) at
+      (subst (λ (had : Map). KeepsOthers ps had (d.map j.tree.metadata)) same (subst (λ (n : List ℕ). KeepsOthers ps (c.map n) (d.map n)) pins_is keeps))
 
   -- the tree isn't pruned to where the log begins then
   pub unpruned_tree : {F : Type 0} (s : Shape) (tells : Type 0) (digest : D → List ℕ) (admits : Unit {0} → D → Type 0) (c d : State) → k.items.name ≢ k.tree.log.name → (tells → IsHeld l.items c)

@@ -12,7 +12,8 @@ impl<F: Family, C: Backing, H: Hasher> Journal<F, C, H> {
     ghost use Rattle.merkle_full.specs.Flushing.{AllStand};
     ghost use Rattle.merkle_full.specs.Full.{Rests};
     ghost use Rattle.merkle_full.specs.Lists.{IsFullOf};
-    ghost use Rattle.merkle_full.specs.Pruning.{StandsWhilePruned, KeepsPins};
+    ghost use Rattle.merkle_full.specs.Pruning.{StandsWhilePruned, KeepsPins, KeepsOthers};
+    ghost use Rattle.tree_shape.specs.Pins.{pins};
     ghost use Rattle.tree_shape.specs.Shape.{made};
     ghost use Rattle.volume_base.specs.Log.{pruned_to, Advances};
     ghost use Rattle.volume_base.specs.Moments.{present};
@@ -61,6 +62,10 @@ impl<F: Family, C: Backing, H: Hasher> Journal<F, C, H> {
             j.tree.log.start ≡ max self.tree.log.start point) }
         ensures pins { OnOk result (V.tells →
             KeepsPins ((V.state vol.old).map self.tree.metadata) ((V.state vol.new).map self.tree.metadata)) }
+        // Of the map's keys at most the boundary's and those of its pins change.
+        ensures others { let old = V.state vol.old in
+            OnOk result (V.tells → KeepsOthers (pins F.shape self.items.start) (old.map self.tree.metadata)
+            ((V.state vol.new).map self.tree.metadata)) }
         // Of any tree, whatever the volume holds.
         ensures errors { let items = items_of H.Digest.spelling H.Digest.Read.admits self.tree.log (V.state vol.new) in
             IfErr result (IsFromTree (IsTreeUnpruned F.shape V.tells self.tree items self.items.start)) }
@@ -118,6 +123,10 @@ impl<F: Family, C: Backing, H: Hasher> Journal<F, C, H> {
             pruned.0.tree.log.start ≡ max self.tree.log.start point) }
         ensures pins { OnOk result (V.tells →
             KeepsPins ((V.state vol.old).map self.tree.metadata) ((V.state vol.new).map self.tree.metadata)) }
+        // Of the map's keys at most the boundary's and those of its pins change.
+        ensures others { let old = V.state vol.old in
+            IfOk result (λ made. V.tells → KeepsOthers (pins F.shape made.0.items.start) (old.map self.tree.metadata)
+            ((V.state vol.new).map self.tree.metadata)) }
         ensures durable { OnOk result (0 < self.items.end → V.tells → IsDurable self.items (V.state vol.new)) }
         ensures joined { let admits = H.Digest.Read.admits tt in
             IfOk result (λ made. V.tells → (list : List C.Item) →

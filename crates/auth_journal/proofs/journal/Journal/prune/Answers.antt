@@ -1,4 +1,4 @@
-use Rattle.std.proofs.Common.{◌≡◌, ◌≢◌, inl, length, min, ℕ, refl, ◌∙◌, ap, subst, arith, Ok, Err}
+use Rattle.std.proofs.Common.{◌≡◌, ◌≢◌, inl, length, min, ℕ, refl, sym, ◌∙◌, ap, subst, arith, Ok, Err}
 use Rattle.std.specs.Prelude.{Result}
 use Rattle.volume_base.specs.Log.{Log, Advances, end_of, pruned_to}
 use Rattle.volume_base.specs.Names.{log_and_map}
@@ -6,8 +6,9 @@ use Rattle.volume_base.proofs.CallLemmas.{names_call_joins}
 use Rattle.volume_base.proofs.JoinLemmas.{changes_of_writes, changes_joins, went_of_writes, went_joins, writes_joins}
 use Rattle.volume_base.proofs.NameLemmas.{durable_after}
 use Rattle.journal_base.specs.Blobs.{blob_start}
-use Rattle.journal_base.specs.View.{log_of, prune_point, IsDurable}
+use Rattle.journal_base.specs.View.{View, log_of, prune_point, IsDurable}
 use Rattle.journal_base.specs.Items.{items_of}
+use Rattle.tree_shape.specs.Pins.{pins}
 use Rattle.tree_store.specs.declared.error.Error.TheVariants as tree
 use Rattle.auth_journal.specs.Durable.{IsFromTree, IsJournalUnpruned}
 use Rattle.auth_journal.specs.Errors.{IsOutside}
@@ -16,7 +17,7 @@ use Rattle.auth_journal.specs.Standing.{all_synced, pruned_below, names_of}
 use Rattle.auth_journal.specs.declared.error.Error.{Error}
 use Rattle.auth_journal.specs.declared.error.Error.TheVariants as joined
 use Rattle.auth_journal.proofs.DurableLemmas.{err_and, err_not_ok, fault_below, images_none}
-use Rattle.auth_journal.proofs.PruneLemmas.{items_advance, images_pruned, images_failed, images_empty, point_below, items_call, tree_call, pruned_moved, cut_full, cut_start, held_pruned, joined_pruned, keeps_behind, changes_done, nodes_pruned, pins_pruned, unpruned_tree, outside_from_tree}
+use Rattle.auth_journal.proofs.PruneLemmas.{items_advance, images_pruned, images_failed, images_empty, point_below, items_call, tree_call, pruned_moved, cut_full, cut_start, held_pruned, joined_pruned, keeps_behind, changes_done, nodes_pruned, pins_pruned, others_pruned, unpruned_tree, outside_from_tree}
 use Rattle.auth_journal.proofs.ReadingLemmas.{run_end}
 use Rattle.auth_journal.proofs.StandingLemmas.{names_items, names_logs, names_tree_and_map}
 use Rattle.auth_journal.proofs.journal.Journal.prune.Goals as goal
@@ -368,6 +369,22 @@ returns-clause-pins g c tells =
     let synced = c.in_ok-synced.ensures {u = tt} in
     let did = c.in_ok-cut.ensures {u = tt} in
     pins_pruned j k l m synced.same did.cut a d e ((did.log tells).others.maps j.tree.metadata ∙ (synced.names tells).others.maps j.tree.metadata tt) ((c.in_ok-pruned.ensures {u = tt}).pins tells)
+
+pub returns-clause-others : goal.returns-clause-others
+returns-clause-others g c tells =
+    let j = c.args.self in
+    let k = c.in_ok-synced.synced in
+    let l = c.in_ok-cut.cut in
+    let m = c.in_ok-pruned.pruned in
+    let a = g.V.Volume.state c.args.vol.now in
+    let d = g.V.Volume.state c.prune_items.new.vol in
+    let e = g.V.Volume.state c.prune_tree.new.vol in
+    let s = g.F.Family.shape in
+    let synced = c.in_ok-synced.ensures {u = tt} in
+    let did = c.in_ok-cut.ensures {u = tt} in
+    let last = c.in_ok-pruned.ensures {u = tt} in
+    let begins : l.items.start ≡ m.items.start = ap (λ (v : View g.row.C-Item-Cfg.Denot). v.start) (sym last.items) in
+    others_pruned j k l m synced.same did.cut (pins s l.items.start) (pins s m.items.start) a d e (ap (pins s) begins) ((did.log tells).others.maps j.tree.metadata ∙ (synced.names tells).others.maps j.tree.metadata tt) (last.others tells)
 
 pub returns-in_err-synced-clause-names : goal.returns-in_err-synced-clause-names
 returns-in_err-synced-clause-names g c tells = names_logs c.args.self (g.V.Volume.state c.args.vol.now) (g.V.Volume.state c.sync.new.vol) (c.in_err-synced.ensures.names tells)

@@ -1,4 +1,5 @@
 use Rattle.volume_base.proofs.JoinLemmas.{went_none, changes_joins}
+use Rattle.tree_shape.specs.Pins.{pins}
 use Rattle.auth_journal.specs.declared.error.Error.TheVariants as joined
 use Rattle.tree_store.specs.declared.error.Error.TheVariants as tree
 use Rattle.std.proofs.Common.{◌≡◌, ◌<◌, ◌≤◌, Err, ℕ, max, length, refl, sym, ◌∙◌, ap, subst, arith}
@@ -9,7 +10,7 @@ use Rattle.journal_base.specs.Items.{items_of}
 use Rattle.tree_shape.specs.Shape.{made}
 use Rattle.merkle_full.specs.Full.{Full, Rests}
 use Rattle.merkle_full.specs.Lists.{IsFullOf}
-use Rattle.merkle_full.specs.Pruning.{at_boundary, StandsWhilePruned, KeepsPins}
+use Rattle.merkle_full.specs.Pruning.{at_boundary, StandsWhilePruned, KeepsPins, KeepsOthers}
 use Rattle.merkle_full.proofs.PruneRun.{can_prune}
 use Rattle.auth_journal.specs.Durable.{IsPrunedTo, IsFromTree, IsTreeUnpruned}
 use Rattle.auth_journal.specs.Errors.{IsOutside, from_tree}
@@ -134,6 +135,16 @@ returns-clause-pins g c tells =
     let a = g.V.Volume.state c.args.vol.now in
     let b = g.V.Volume.state c.prune.new.vol in
     subst (λ (k : Joined g.row.H-Digest.Denot g.row.C-Item-Cfg.Denot). KeepsPins (a.map k.tree.metadata) (b.map k.tree.metadata)) c.self.view_is ((c.in_ok-merkle.ensures {u = tt}).pins tells)
+
+pub returns-clause-others : goal.returns-clause-others
+returns-clause-others g c tells =
+    let s = g.F.Family.shape in
+    let a = g.V.Volume.state c.args.vol.now in
+    let b = g.V.Volume.state c.prune.new.vol in
+    let m = c.self.inside.merkle.metadata in
+    let at : c.new.result ≡ (g.C.Contiguous.view c.self.inside.journal).start = c.new.ensures ∙ c.bounds-start.ensures.start in
+    subst (λ (k : Joined g.row.H-Digest.Denot g.row.C-Item-Cfg.Denot). KeepsOthers (pins s k.items.start) (a.map k.tree.metadata) (b.map k.tree.metadata)) c.self.view_is
+    (subst (λ (n : ℕ). KeepsOthers (pins s n) (a.map m) (b.map m)) at ((c.in_ok-merkle.ensures {u = tt}).others tells))
 
 pub returns-in_err-merkle-clause-errors : goal.returns-in_err-merkle-clause-errors
 returns-in_err-merkle-clause-errors g c =
