@@ -43,6 +43,9 @@ impl<F: Family, C: Backing, H: Hasher> Recovery<F, C, H> {
             log_of self.items (V.state vol.new) ≡ cut_to (log_of self.items (V.state vol.old)) self.end) }
         ensures seated { IfOk result (λ t. V.tells → IsReadyIn self (V.state vol.old) →
             IsSeated F.shape t.tree (present (V.state vol.new))) }
+        // The map of the tree is the one that was read.
+        ensures map { OnOk result (V.tells → IsReadyIn self (V.state vol.old) →
+            (V.state vol.new).map self.tree.metadata ≡ self.tree.read) }
         // For each list that they stood for, it is the journal of its first items.
         ensures joined { let admits = H.Digest.Read.admits tt in
             IfOk result (λ t. V.tells → (list : List C.Item) (durable top : ℕ) → IsReadyIn self (V.state vol.old) →

@@ -59,6 +59,9 @@ impl<F: Family, C: Backing, H: Hasher> Journal<F, C, H> {
         ensures whole { IfOk result (λ t. t.tree.tree.leaves ≡ t.items.end) }
         ensures rests { IfOk result (λ t. Rests F.shape t.tree) }
         ensures seated { IfOk result (λ t. V.tells → IsSeated F.shape t.tree (present (V.state vol.new))) }
+        // The map of the tree stays.
+        ensures map { let name = string_bytes merkle_cfg.metadata in
+            OnOk result (V.tells → (V.state vol.new).map name ≡ (V.state vol.old).map name) }
         // For each list that the contents stood for, it is the journal of its first items.
         ensures joined { let map = (V.state vol.old).map (string_bytes merkle_cfg.metadata) in
             let log = (V.state vol.old).log (string_bytes merkle_cfg.nodes) in
@@ -154,6 +157,9 @@ impl<F: Family, C: Backing, H: Hasher> Journal<F, C, H> {
         ensures whole { IfOk result (λ t. t.tree.tree.leaves ≡ t.items.end) }
         ensures rests { IfOk result (λ t. Rests F.shape t.tree) }
         ensures seated { IfOk result (λ t. V.tells → IsSeated F.shape t.tree (present (V.state vol.new))) }
+        // The map of the tree stays.
+        ensures map { let name = string_bytes merkle_cfg.metadata in
+            OnOk result (V.tells → (V.state vol.new).map name ≡ (V.state vol.old).map name) }
         // For each list that the contents stood for, it is the journal of its first items.
         ensures joined { let map = (V.state vol.old).map (string_bytes merkle_cfg.metadata) in
             let log = (V.state vol.old).log (string_bytes merkle_cfg.nodes) in
@@ -248,6 +254,9 @@ impl<F: Family, C: Backing, H: Hasher> Journal<F, C, H> {
         ensures whole { IfOk result (λ t. t.tree.tree.leaves ≡ t.items.end) }
         ensures rests { IfOk result (λ t. Rests F.shape t.tree) }
         ensures seated { IfOk result (λ t. V.tells → IsSeated F.shape t.tree (present (V.state vol.new))) }
+        // The map of the tree stays.
+        ensures map { let name = string_bytes merkle_cfg.metadata in
+            OnOk result (V.tells → (V.state vol.new).map name ≡ (V.state vol.old).map name) }
         // For each list that the contents stood for, it is the journal of its first items.
         ensures joined { let map = (V.state vol.old).map (string_bytes merkle_cfg.metadata) in
             let log = (V.state vol.old).log (string_bytes merkle_cfg.nodes) in

@@ -181,6 +181,17 @@ returns-clause-seated g c told =
     let from = did_finish.from in
     did_finish.seated told (did.within told)
 
+pub returns-clause-map : goal.returns-clause-map
+returns-clause-map g c told =
+    let s0 = g.V.Volume.state c.args.vol.now in
+    let s1 = g.V.Volume.state c.prepare.new.vol in
+    let s2 = g.V.Volume.state c.finish.new.vol in
+    let metadata = string_bytes c.args.merkle_cfg.metadata in
+    let did = c.in_ok-recovery.ensures {u = tt} in
+    let is = did.named.1.metadata_is in
+    let ready = did.within told in
+    ap s2.map (sym is) ∙ (c.in_ok-opened.ensures {u = tt}).map told ready ∙ sym ready.tree.read ∙ ap s1.map is ∙ (did.log told).others.maps metadata
+
 pub returns-clause-joined : goal.returns-clause-joined
 returns-clause-joined g c told list durable top run long stands =
     let tells = g.V.Volume.tells in

@@ -205,6 +205,32 @@ returns-clause-seated g c told held =
     let prepared = prepared_later r.tree s0 s1 ((cut.call.log told).others.logs r.tree.log.name (λ e. sound.apart (sym e))) ((cut.call.log told).others.maps r.tree.metadata) ready.tree in
     caught.seated told (opened.seated told prepared)
 
+pub returns-clause-map : goal.returns-clause-map
+returns-clause-map g c told held =
+    let tells = g.V.Volume.tells in
+    let spelling = g.C.Item.Spelled.spelling in
+    let s0 = g.V.Volume.state c.args.vol.now in
+    let r : Readied g.row.H-Digest.Denot g.row.C-Item-Cfg.Denot = record { items = g.C.Recovery.BackingRecovery.view c.self.inside.journal; end = c.self.inside.end; tree = c.self.inside.merkle; bagging = c.self.inside.hasher } in
+    let sound : IsSoundReady r = c.self.invariant in
+    let s1 = g.V.Volume.state c.finish.new.vol in
+    let cut = c.in_ok-journal.ensures {u = tt} in
+    let opened_is = g.met.C.Backing.opened_is c.in_ok-journal.journal in
+    let items = g.C.Contiguous.view c.in_ok-journal.journal in
+    let items_is : SameButBounds r.items items = subst (λ (v : View g.row.C-Item-Cfg.Denot). SameButBounds r.items v) opened_is cut.made in
+    let name : items.name ≡ r.items.name = ap (λ (v : View g.row.C-Item-Cfg.Denot). v.name) items_is in
+    let s2 = g.V.Volume.state c.finish-2.new.vol in
+    let t = c.in_ok-opened.opened in
+    let opened = c.in_ok-opened.ensures {u = tt} in
+    let node : t.log.name ≡ r.tree.log.name = ap (λ (v : View (Unit {0})). v.name) opened.from.log in
+    let apart : items.name ≢ r.tree.log.name = λ e. sound.apart (sym name ∙ e) in
+    let s3 = g.V.Volume.state c.catch_up.new.vol in
+    let u = c.in_ok-merkle.merkle in
+    let caught = c.in_ok-merkle.ensures {u = tt} in
+    let j : Joined g.row.H-Digest.Denot g.row.C-Item-Cfg.Denot = record { items = items; tree = u; bagging = c.self.inside.hasher; failed = false } in
+    let ready : IsReadyIn r s0 = subst (λ (v : Readied g.row.H-Digest.Denot g.row.C-Item-Cfg.Denot). IsReadyIn v s0) (sym c.self.view_is) held in
+    let prepared = prepared_later r.tree s0 s1 ((cut.call.log told).others.logs r.tree.log.name (λ e. sound.apart (sym e))) ((cut.call.log told).others.maps r.tree.metadata) ready.tree in
+    subst (λ (v : Readied g.row.H-Digest.Denot g.row.C-Item-Cfg.Denot). s3.map v.tree.metadata ≡ v.tree.read) c.self.view_is ((caught.names told).others.maps r.tree.metadata tt ∙ opened.map told prepared)
+
 pub returns-clause-joined : goal.returns-clause-joined
 returns-clause-joined g c told list durable top held run long stands of =
     let tells = g.V.Volume.tells in
