@@ -85,6 +85,8 @@ pub(crate) fn catch_up<F: Family, C: Contiguous, H: Hasher, V: Volume>(
     ensures replayed { let items = items_of C.Item.spelling C.Item.admits (C.view journal.now) (V.state vol.old) in
         OnOk result (V.tells → AreReadable items merkle.tree.leaves end) }
     ensures rests { IfOk result (λ t. Rests F.shape t) }
+    ensures begins { let name = merkle.log.name in OnOk result (V.tells →
+        ((V.state vol.new).log name).start ≡ ((V.state vol.old).log name).start) }
     ensures seated { IfOk result (λ t. V.tells → IsSeated F.shape merkle (present (V.state vol.old)) →
         IsSeated F.shape t (present (V.state vol.new))) }
     ensures full { let admits = H.Digest.Read.admits tt in

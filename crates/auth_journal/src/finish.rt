@@ -6,11 +6,12 @@ use tree_core::{Family, Hasher};
 use volume_base::Volume;
 
 impl<F: Family, C: Backing, H: Hasher> Recovery<F, C, H> {
-    ghost use Rattle.std.specs.Prelude.{◌≡◌, ◌≤◌, ◌^◌, ℕ, List, length, take, IfOk, IfErr, OnOk};
+    ghost use Rattle.std.specs.Prelude.{◌≡◌, ◌≤◌, ◌^◌, ℕ, List, length, max, take, IfOk, IfErr, OnOk};
+    ghost use Rattle.journal_base.specs.Blobs.{blob_start};
     ghost use Rattle.journal_base.specs.Items.{items_of, Spells};
     ghost use Rattle.journal_base.specs.View.{log_of, IsHeld, IsDurable};
     ghost use Rattle.tree_core.specs.Tree.{IsOf};
-    ghost use Rattle.tree_store.specs.Stored.{TreeStands};
+    ghost use Rattle.tree_store.specs.Stored.{TreeStands, size};
     ghost use Rattle.volume_base.specs.Log.{cut_to, Shrinks};
     ghost use Rattle.volume_base.specs.Moments.{present, LogKeeps};
     ghost use Rattle.volume_base.specs.Names.{two_logs_and_map, NamesCall};
@@ -46,6 +47,10 @@ impl<F: Family, C: Backing, H: Hasher> Recovery<F, C, H> {
         // The map of the tree is the one that was read.
         ensures map { OnOk result (V.tells → IsReadyIn self (V.state vol.old) →
             (V.state vol.new).map self.tree.metadata ≡ self.tree.read) }
+        // The node log begins where it did, or with the blob of the stored boundary's position.
+        ensures nodes { let log = (V.state vol.old).log self.tree.log.name in
+            let point = blob_start self.tree.log.blob (size F.shape self.tree.boundary) in
+            IfOk result (λ t. V.tells → IsReadyIn self (V.state vol.old) → t.tree.log.start ≡ max log.start point) }
         // For each list that they stood for, it is the journal of its first items.
         ensures joined { let admits = H.Digest.Read.admits tt in
             IfOk result (λ t. V.tells → (list : List C.Item) (durable top : ℕ) → IsReadyIn self (V.state vol.old) →

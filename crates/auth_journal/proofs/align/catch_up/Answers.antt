@@ -1,4 +1,5 @@
-use Rattle.std.proofs.Common.{ℕ, List, Ok, take, sym, ◌∙◌, ap, subst, arith}
+use Rattle.std.proofs.Common.{◌≡◌, ℕ, List, Ok, take, sym, ◌∙◌, ap, subst, arith}
+use Rattle.volume_base.specs.Log.{Log}
 use Rattle.volume_base.specs.Moments.{present}
 use Rattle.volume_base.specs.Names.{log_alone, NamesCall}
 use Rattle.volume_base.specs.Volume.{OnlyLeft}
@@ -45,6 +46,16 @@ pub returns-clause-seated : goal.returns-clause-seated
 returns-clause-seated g c told seated =
     let one = c.in_ok-aligned.ensures {u = tt} in
     (c.in_ok-synced.ensures {u = tt}).seated told (seated_later g.F.Family.shape c.args.merkle c.in_ok-aligned.aligned (g.V.Volume.state c.args.vol.now) (g.V.Volume.state c.align.new.vol) one.beside one.longer.boundary ((one.reads.contents told).logs c.args.merkle.log.name) seated)
+
+pub returns-clause-begins : goal.returns-clause-begins
+returns-clause-begins g c told =
+    let s0 = g.V.Volume.state c.args.vol.now in
+    let s2 = g.V.Volume.state c.sync.new.vol in
+    let one = c.in_ok-aligned.ensures {u = tt} in
+    let held = c.in_ok-aligned.aligned.log.name in
+    let name = ap (λ (v : View _). v.name) one.beside.log in
+    subst (λ (n : List ℕ). (s2.log n).start ≡ (s0.log n).start) name
+    (ap (λ (l : Log). l.start) ((c.in_ok-synced.ensures {u = tt}).filled told).log ∙ ap (λ (l : Log). l.start) ((one.reads.contents told).logs held))
 
 pub returns-clause-full : goal.returns-clause-full
 returns-clause-full g c told list run few full =

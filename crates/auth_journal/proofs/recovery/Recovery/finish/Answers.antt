@@ -1,4 +1,4 @@
-use Rattle.std.proofs.Common.{◌≡◌, ◌≢◌, ◌≤◌, ◌^◌, ◌++◌, inl, List, Ok, Err, max, take, drop, length, map, false, refl, sym, ◌∙◌, ap, subst, arith}
+use Rattle.std.proofs.Common.{◌≡◌, ◌≢◌, ◌≤◌, ◌^◌, ◌++◌, inl, ℕ, List, Ok, Err, max, take, drop, length, map, false, refl, sym, ◌∙◌, ap, subst, arith}
 use Rattle.volume_base.specs.Log.{Log, Shrinks, end_of, cut_to}
 use Rattle.volume_base.specs.Moments.{present, LogKeeps, NamesLeft, Now}
 use Rattle.volume_base.specs.Names.{log_alone, two_logs_and_map, NamesCall}
@@ -7,10 +7,11 @@ use Rattle.volume_base.specs.declared.error.JournalError.TheVariants as journal
 use Rattle.volume_base.proofs.CallLemmas.{names_call_log, names_call_joins}
 use Rattle.volume_base.proofs.JoinLemmas.{went_of_writes, went_joins, changes_of_writes, changes_joins}
 use Rattle.volume_base.proofs.NameLemmas.{durable_after, names_of_image}
+use Rattle.journal_base.specs.Blobs.{blob_start}
 use Rattle.journal_base.specs.Items.{items_of, Spells}
 use Rattle.journal_base.specs.View.{View, SameButBounds, IsHeld, log_of, at_bounds}
 use Rattle.tree_core.specs.Tree.{IsOf}
-use Rattle.tree_store.specs.Stored.{TreeStands}
+use Rattle.tree_store.specs.Stored.{TreeStands, size}
 use Rattle.tree_store.specs.declared.error.Error.TheVariants as tree
 use Rattle.volume_base.proofs.TurnLemmas.{now_after}
 use Rattle.merkle_full.specs.Flushing.{AllStand, AllKeepStanding}
@@ -230,6 +231,38 @@ returns-clause-map g c told held =
     let ready : IsReadyIn r s0 = subst (λ (v : Readied g.row.H-Digest.Denot g.row.C-Item-Cfg.Denot). IsReadyIn v s0) (sym c.self.view_is) held in
     let prepared = prepared_later r.tree s0 s1 ((cut.call.log told).others.logs r.tree.log.name (λ e. sound.apart (sym e))) ((cut.call.log told).others.maps r.tree.metadata) ready.tree in
     subst (λ (v : Readied g.row.H-Digest.Denot g.row.C-Item-Cfg.Denot). s3.map v.tree.metadata ≡ v.tree.read) c.self.view_is ((caught.names told).others.maps r.tree.metadata tt ∙ opened.map told prepared)
+
+pub returns-clause-nodes : goal.returns-clause-nodes
+returns-clause-nodes g c told held =
+    let tells = g.V.Volume.tells in
+    let spelling = g.C.Item.Spelled.spelling in
+    let s0 = g.V.Volume.state c.args.vol.now in
+    let r : Readied g.row.H-Digest.Denot g.row.C-Item-Cfg.Denot = record { items = g.C.Recovery.BackingRecovery.view c.self.inside.journal; end = c.self.inside.end; tree = c.self.inside.merkle; bagging = c.self.inside.hasher } in
+    let sound : IsSoundReady r = c.self.invariant in
+    let s1 = g.V.Volume.state c.finish.new.vol in
+    let cut = c.in_ok-journal.ensures {u = tt} in
+    let opened_is = g.met.C.Backing.opened_is c.in_ok-journal.journal in
+    let items = g.C.Contiguous.view c.in_ok-journal.journal in
+    let items_is : SameButBounds r.items items = subst (λ (v : View g.row.C-Item-Cfg.Denot). SameButBounds r.items v) opened_is cut.made in
+    let name : items.name ≡ r.items.name = ap (λ (v : View g.row.C-Item-Cfg.Denot). v.name) items_is in
+    let s2 = g.V.Volume.state c.finish-2.new.vol in
+    let t = c.in_ok-opened.opened in
+    let opened = c.in_ok-opened.ensures {u = tt} in
+    let node : t.log.name ≡ r.tree.log.name = ap (λ (v : View (Unit {0})). v.name) opened.from.log in
+    let apart : items.name ≢ r.tree.log.name = λ e. sound.apart (sym name ∙ e) in
+    let s3 = g.V.Volume.state c.catch_up.new.vol in
+    let u = c.in_ok-merkle.merkle in
+    let caught = c.in_ok-merkle.ensures {u = tt} in
+    let j : Joined g.row.H-Digest.Denot g.row.C-Item-Cfg.Denot = record { items = items; tree = u; bagging = c.self.inside.hasher; failed = false } in
+    let ready : IsReadyIn r s0 = subst (λ (v : Readied g.row.H-Digest.Denot g.row.C-Item-Cfg.Denot). IsReadyIn v s0) (sym c.self.view_is) held in
+    let prepared = prepared_later r.tree s0 s1 ((cut.call.log told).others.logs r.tree.log.name (λ e. sound.apart (sym e))) ((cut.call.log told).others.maps r.tree.metadata) ready.tree in
+    let point = blob_start r.tree.log.blob (size g.F.Family.shape r.tree.boundary) in
+    let seat = caught.seated told (opened.seated told prepared) in
+    let last : u.log.name ≡ r.tree.log.name = ap (λ (v : View (Unit {0})). v.name) caught.aligned.log ∙ node in
+    let third : (s3.log r.tree.log.name).start ≡ (s2.log r.tree.log.name).start = subst (λ (n : List ℕ). (s3.log n).start ≡ (s2.log n).start) node (caught.begins told) in
+    let first = (cut.call.log told).others.logs r.tree.log.name (λ e. sound.apart (sym e)) in
+    subst (λ (v : Readied g.row.H-Digest.Denot g.row.C-Item-Cfg.Denot). u.log.start ≡ max (s0.log v.tree.log.name).start (blob_start v.tree.log.blob (size g.F.Family.shape v.tree.boundary))) c.self.view_is
+    (seat.start_is ∙ ap (λ (n : List ℕ). (s3.log n).start) last ∙ third ∙ ap (λ (l : Log). l.start) (opened.log told prepared).log ∙ ap (λ (l : Log). max l.start point) first)
 
 pub returns-clause-joined : goal.returns-clause-joined
 returns-clause-joined g c told list durable top held run long stands of =
