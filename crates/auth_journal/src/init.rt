@@ -8,17 +8,20 @@ use tree_core::{Bagging, Family, Hasher};
 use volume_base::Volume;
 
 impl<F: Family, C: Backing, H: Hasher> Journal<F, C, H> {
-    ghost use Rattle.std.specs.Prelude.{◌≡◌, ◌≢◌, ◌≤◌, ◌^◌, ℕ, List, length, take, false, Some, None, string_bytes, IfOk, IfErr, OnOk};
+    ghost use Rattle.std.specs.Prelude.{◌≡◌, ◌≢◌, ◌≤◌, ◌^◌, ℕ, List, length, max, take, false, Option, Some, None, Ok, unwrap_or, string_bytes, IfOk, IfErr, OnOk};
     ghost use Rattle.std.specs.Fn.{FnReturnsAt};
     ghost use Rattle.std.specs.NonZero.{non_zero_u64_get};
+    ghost use Rattle.journal_base.specs.Blobs.{blob_start};
     ghost use Rattle.journal_base.specs.Items.{items_of, Spells};
     ghost use Rattle.journal_base.specs.View.{log_of, SameButBounds, IsHeld, IsDurable};
-    ghost use Rattle.tree_store.specs.Stored.{TreeStands};
+    ghost use Rattle.tree_store.specs.Stored.{TreeStands, size};
     ghost use Rattle.volume_base.specs.Log.{cut_to};
     ghost use Rattle.volume_base.specs.Moments.{present, LogKeeps};
     ghost use Rattle.volume_base.specs.Names.{two_logs_and_map, NamesCall};
     ghost use Rattle.volume_base.specs.Volume.{Follows, Changes};
     ghost use Rattle.merkle_full.specs.Full.{Rests, IsSeated};
+    ghost use Rattle.merkle_full.specs.Opening.{stored_in};
+    ghost use Rattle.merkle_full.specs.Preparing.{log_kept};
     ghost use Rattle.auth_journal.specs.Errors.{IsLifted};
     ghost use Rattle.auth_journal.specs.Joined.{IsJoinedOf, leaves_of};
     ghost use Rattle.auth_journal.specs.Opening.{OpensUpTo, NotOpened, ShrinksToEnd};
@@ -62,6 +65,13 @@ impl<F: Family, C: Backing, H: Hasher> Journal<F, C, H> {
         // The map of the tree stays.
         ensures map { let name = string_bytes merkle_cfg.metadata in
             OnOk result (V.tells → (V.state vol.new).map name ≡ (V.state vol.old).map name) }
+        // The node log begins where the kept one did, or with the blob of the stored boundary's position.
+        ensures nodes { let map = (V.state vol.old).map (string_bytes merkle_cfg.metadata) in
+            let log = (V.state vol.old).log (string_bytes merkle_cfg.nodes) in
+            let blob = non_zero_u64_get merkle_cfg.items_per_blob in
+            IfOk result (λ t. V.tells → (stored : Option ℕ) → stored_in {F = F} map ≡ Ok stored →
+            let point = blob_start blob (size F.shape (unwrap_or stored 0)) in
+            t.tree.log.start ≡ max (log_kept stored log).start point) }
         // For each list that the contents stood for, it is the journal of its first items.
         ensures joined { let map = (V.state vol.old).map (string_bytes merkle_cfg.metadata) in
             let log = (V.state vol.old).log (string_bytes merkle_cfg.nodes) in
@@ -160,6 +170,13 @@ impl<F: Family, C: Backing, H: Hasher> Journal<F, C, H> {
         // The map of the tree stays.
         ensures map { let name = string_bytes merkle_cfg.metadata in
             OnOk result (V.tells → (V.state vol.new).map name ≡ (V.state vol.old).map name) }
+        // The node log begins where the kept one did, or with the blob of the stored boundary's position.
+        ensures nodes { let map = (V.state vol.old).map (string_bytes merkle_cfg.metadata) in
+            let log = (V.state vol.old).log (string_bytes merkle_cfg.nodes) in
+            let blob = non_zero_u64_get merkle_cfg.items_per_blob in
+            IfOk result (λ t. V.tells → (stored : Option ℕ) → stored_in {F = F} map ≡ Ok stored →
+            let point = blob_start blob (size F.shape (unwrap_or stored 0)) in
+            t.tree.log.start ≡ max (log_kept stored log).start point) }
         // For each list that the contents stood for, it is the journal of its first items.
         ensures joined { let map = (V.state vol.old).map (string_bytes merkle_cfg.metadata) in
             let log = (V.state vol.old).log (string_bytes merkle_cfg.nodes) in
@@ -257,6 +274,13 @@ impl<F: Family, C: Backing, H: Hasher> Journal<F, C, H> {
         // The map of the tree stays.
         ensures map { let name = string_bytes merkle_cfg.metadata in
             OnOk result (V.tells → (V.state vol.new).map name ≡ (V.state vol.old).map name) }
+        // The node log begins where the kept one did, or with the blob of the stored boundary's position.
+        ensures nodes { let map = (V.state vol.old).map (string_bytes merkle_cfg.metadata) in
+            let log = (V.state vol.old).log (string_bytes merkle_cfg.nodes) in
+            let blob = non_zero_u64_get merkle_cfg.items_per_blob in
+            IfOk result (λ t. V.tells → (stored : Option ℕ) → stored_in {F = F} map ≡ Ok stored →
+            let point = blob_start blob (size F.shape (unwrap_or stored 0)) in
+            t.tree.log.start ≡ max (log_kept stored log).start point) }
         // For each list that the contents stood for, it is the journal of its first items.
         ensures joined { let map = (V.state vol.old).map (string_bytes merkle_cfg.metadata) in
             let log = (V.state vol.old).log (string_bytes merkle_cfg.nodes) in

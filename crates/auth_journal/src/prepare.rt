@@ -9,7 +9,7 @@ use tree_core::{Bagging, Family, Hasher, Location, MAX_LEAVES, Standard};
 use volume_base::{JournalError, Volume};
 
 impl<F: Family, C: Backing, H: Hasher> Journal<F, C, H> {
-    ghost use Rattle.std.specs.Prelude.{◌≡◌, ◌≢◌, ◌⊎◌, ◌≤◌, ◌^◌, ℕ, List, take, Ok, Some, Option, string_bytes, IfOk, IfErr};
+    ghost use Rattle.std.specs.Prelude.{◌≡◌, ◌≢◌, ◌⊎◌, ◌≤◌, ◌^◌, ℕ, List, take, Ok, Some, Option, string_bytes, IfOk, IfErr, OnOk};
     ghost use Rattle.std.specs.Fn.{FnReturnsAt};
     ghost use Rattle.std.specs.NonZero.{non_zero_u64_get};
     ghost use Rattle.journal_base.specs.Items.{items_of};
@@ -77,6 +77,10 @@ impl<F: Family, C: Backing, H: Hasher> Journal<F, C, H> {
         // At most the node log is cleared, where no boundary is stored and it starts past 0.
         ensures log { V.tells →
             LogCall (string_bytes merkle_cfg.nodes) (BecomesOneOf (cleared_at 0)) (V.state vol.old) (V.state vol.new) }
+        ensures kept { let map = (V.state vol.old).map (string_bytes merkle_cfg.metadata) in
+            let log = (V.state vol.old).log (string_bytes merkle_cfg.nodes) in
+            OnOk result (V.tells → (stored : Option ℕ) → stored_in {F = F} map ≡ Ok stored →
+            (V.state vol.new).log (string_bytes merkle_cfg.nodes) ≡ log_kept stored log) }
         ensures still { let map = (V.state vol.old).map (string_bytes merkle_cfg.metadata) in
             let log = (V.state vol.old).log (string_bytes merkle_cfg.nodes) in
             V.tells → ((stored : Option ℕ) → stored_in {F = F} map ≡ Ok stored → log_kept stored log ≡ log) →

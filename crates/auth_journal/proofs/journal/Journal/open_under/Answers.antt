@@ -1,6 +1,6 @@
-use Rattle.std.proofs.Common.{◌≡◌, ◌≤◌, inl, inr, Ok, Some, take, refl, sym, ◌∙◌, ap, subst, arith}
+use Rattle.std.proofs.Common.{◌≡◌, ◌≤◌, inl, inr, ℕ, List, Option, Ok, Some, max, take, refl, sym, ◌∙◌, ap, subst, arith}
 use Rattle.std.specs.Fn.{FnReturnsAt}
-use Rattle.std.specs.Prelude.{string_bytes}
+use Rattle.std.specs.Prelude.{string_bytes, unwrap_or}
 use Rattle.volume_base.specs.Log.{Log, cut_to, Shrinks}
 use Rattle.volume_base.specs.Moments.{NamesLeft, present, LogKeeps}
 use Rattle.volume_base.specs.Names.{two_logs_and_map, NamesCall}
@@ -12,8 +12,10 @@ use Rattle.volume_base.proofs.TurnLemmas.{names_back, now_after, keeps_idle, kee
 use Rattle.volume_base.proofs.JoinLemmas.{went_of, changes_joins}
 use Rattle.journal_base.specs.Items.{items_of, Spells}
 use Rattle.journal_base.specs.View.{View, at_bounds}
-use Rattle.tree_store.specs.Stored.{TreeStands}
-use Rattle.merkle_full.specs.Preparing.{cap_of}
+use Rattle.std.specs.NonZero.{non_zero_u64_get}
+use Rattle.journal_base.specs.Blobs.{blob_start}
+use Rattle.tree_store.specs.Stored.{TreeStands, size}
+use Rattle.merkle_full.specs.Preparing.{cap_of, log_kept}
 use Rattle.merkle_full.proofs.GrownLemmas.{err_same}
 use Rattle.merkle_full.proofs.PrepareLemmas.{kept_standing, durable_fits}
 use Rattle.auth_journal.specs.Aligning.{NotAligned}
@@ -191,6 +193,26 @@ returns-clause-map g c told =
     let is = did.named.1.metadata_is in
     let ready = did.within told in
     ap s2.map (sym is) ∙ (c.in_ok-opened.ensures {u = tt}).map told ready ∙ sym ready.tree.read ∙ ap s1.map is ∙ (did.log told).others.maps metadata
+
+pub returns-clause-nodes : goal.returns-clause-nodes
+returns-clause-nodes g c told stored is =
+    let s = g.F.Family.shape in
+    let s0 = g.V.Volume.state c.args.vol.now in
+    let s1 = g.V.Volume.state c.prepare.new.vol in
+    let nodes = string_bytes c.args.merkle_cfg.nodes in
+    let r = c.in_ok-recovery.recovery in
+    let did = c.in_ok-recovery.ensures {u = tt} in
+    let named = did.named.1 in
+    let opens = did.opens told in
+    let one : opens.stored ≡ stored = (let both = sym opens.stored_is ∙ is in cc) in
+    let at : r.tree.boundary ≡ unwrap_or stored 0 = opens.boundary_is ∙ ap (λ (x : Option ℕ). unwrap_or x 0) one in
+    let kept = log_kept stored (s0.log nodes) in
+    let blob = non_zero_u64_get c.args.merkle_cfg.items_per_blob in
+    (c.in_ok-opened.ensures {u = tt}).nodes told (did.within told)
+    ∙ ap (λ (n : List ℕ). max (s1.log n).start (blob_start r.tree.log.blob (size s r.tree.boundary))) named.nodes_is
+    ∙ ap (λ (l : Log). max l.start (blob_start r.tree.log.blob (size s r.tree.boundary))) (did.kept told stored is)
+    ∙ ap (λ (b : ℕ). max kept.start (blob_start b (size s r.tree.boundary))) named.blob_is
+    ∙ ap (λ (b : ℕ). max kept.start (blob_start blob (size s b))) at
 
 pub returns-clause-joined : goal.returns-clause-joined
 returns-clause-joined g c told list durable top run long stands =

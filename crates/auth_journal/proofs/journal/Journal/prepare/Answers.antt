@@ -7,6 +7,7 @@ use Rattle.volume_base.proofs.JoinLemmas.{same_joins, went_of_reads, went_joins}
 use Rattle.journal_base.specs.View.{View}
 use Rattle.tree_store.specs.Stored.{TreeStands}
 use Rattle.tree_core.specs.Tree.{IsOf}
+use Rattle.merkle_full.specs.Opening.{stored_in}
 use Rattle.merkle_full.specs.Preparing.{Opens, NotPrepared, cap_of, log_kept}
 use Rattle.merkle_full.proofs.GrownLemmas.{err_same}
 use Rattle.auth_journal.specs.Errors.{from_journal, from_tree}
@@ -309,6 +310,17 @@ invariant_of-result g c =
       few = omega (arith, c.if-end-gt-MAX_LEAVES.false);
       low = omega arith;
     }
+
+pub returns-clause-kept : goal.returns-clause-kept
+returns-clause-kept g c told stored is =
+    let s0 = g.V.Volume.state c.args.vol.now in
+    let s1 = g.V.Volume.state c.recover.new.vol in
+    let s2 = g.V.Volume.state c.find_end.new.vol in
+    let nodes = string_bytes c.args.merkle_cfg.nodes in
+    let metadata = string_bytes c.args.merkle_cfg.metadata in
+    let read = same_joins s0 s1 s2 ((c.in_ok-journal.ensures {u = tt}).answers.contents told) ((c.in_ok-end.ensures {u = tt}).reads.contents told) in
+    let held = ap (λ (m : Map). stored_in {F = g.row.F.Denot} m) (read.maps metadata) ∙ is in
+    (c.in_ok-merkle.ensures {u = tt}).kept told stored held ∙ ap (λ (l : Log). log_kept stored l) (read.logs nodes)
 
 pub returns-clause-within : goal.returns-clause-within
 returns-clause-within g c told =
