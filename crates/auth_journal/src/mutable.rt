@@ -215,7 +215,8 @@ impl<F: Family, C: Backing, H: Hasher> Mutable for Journal<F, C, H> {
         ensures joined { let admits = H.Digest.Read.admits tt in
             IfOk result (λ made. V.tells → (list : List C.Item) →
             IsJoinedOf F.shape H.hash H.Digest.spelling admits C.Item.spelling list self (present (V.state vol.old)) →
-            IsJoinedOf F.shape H.hash H.Digest.spelling admits C.Item.spelling list made.0 (present (V.state vol.new))) }
+            IsJoinedOf F.shape H.hash H.Digest.spelling admits C.Item.spelling list made.0
+            (present (V.state vol.new))) }
         // Every other log and every map stays, and so does what a crash leaves of it.
         ensures names { V.tells → NamesCall (logs_of self) (V.state vol.old) (V.state vol.new) }
         // Beside a ticket that is done all items and all their nodes are durable from a turn on.
@@ -261,7 +262,8 @@ impl<F: Family, C: Backing, H: Hasher> Mutable for Journal<F, C, H> {
         ensures joined { let admits = H.Digest.Read.admits tt in
             IfOk result (λ made. V.tells → (list : List C.Item) →
             IsJoinedOf F.shape H.hash H.Digest.spelling admits C.Item.spelling list self (present (V.state vol.old)) →
-            IsJoinedOf F.shape H.hash H.Digest.spelling admits C.Item.spelling list made.0 (present (V.state vol.new))) }
+            IsJoinedOf F.shape H.hash H.Digest.spelling admits C.Item.spelling list made.0
+            (present (V.state vol.new))) }
         // Every other log and map stays, and so does what a crash leaves of it.
         ensures names { V.tells → NamesCall (names_of self) (V.state vol.old) (V.state vol.new) }
         // From a turn on all items and all their nodes are durable, and only from it on is anything pruned.
