@@ -17,3 +17,4 @@ pub mod CompactLemmas
 pub mod CompactOpening
 pub mod CompactSizes
 pub mod CompactStanding
+pub mod FullLemmas

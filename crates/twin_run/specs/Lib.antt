@@ -10,6 +10,7 @@ pub mod Lists
 pub mod Kind
 pub mod ListKind
 pub mod CompactKind
+pub mod FullKind
 pub mod StateOf
 pub mod Outcome
 pub mod Report

@@ -1,5 +1,5 @@
 //! A run of commands over one list in memory, which stands for both forms of the log, and the top call of the program `twins`. The compact
-//! database can take the list's place.
+//! database and the full one can each take the list's place.
 #![tactic(auto)]
 
 mod batch;
@@ -7,6 +7,7 @@ mod compact_side;
 mod config;
 mod database;
 mod ending;
+mod full_side;
 mod laws;
 mod list_db;
 mod log_list;
