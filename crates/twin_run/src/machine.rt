@@ -11,7 +11,6 @@ ghost use Rattle.twin_run.specs.StateOf.{IsShaped, HasRoom, IsStateOf, RepliesAs
 
 use crate::database::Database;
 use crate::list_db::ListDb;
-use crate::numbers::Numbers;
 use crate::side::Side;
 use chain_core::Error;
 use codec_base::CodecError;
@@ -30,11 +29,7 @@ impl Side<ListDb> {
         ensures memory { IsOkUnless result CodecError.Memory }
     {
         let db = ListDb::new(alloc)?;
-        Ok(Side {
-            db,
-            numbers: Numbers::new(alloc),
-            limit,
-        })
+        Ok(Side::of(db, alloc, limit))
     }
 
     /// What a command answers.

@@ -1,5 +1,5 @@
 //! One side of the run: a database, and the batches of the run's numbers.
-ghost use Rattle.std.specs.Prelude.{◌≡◌, ◌<◌, ◌≤◌, length, slice_index_or, None, IfOk, IfErr, IsOkUnless};
+ghost use Rattle.std.specs.Prelude.{◌≡◌, ◌<◌, ◌≤◌, [], length, slice_index_or, None, IfOk, IfErr, IsOkUnless};
 ghost use Rattle.log_model.specs.StateBatches as batches;
 ghost use Rattle.log_model.specs.Machine.{State, batch_at, with_batch};
 ghost use Rattle.chain_core.specs.Answers.{IsOutside};
@@ -9,6 +9,7 @@ ghost use Rattle.log_model.specs.declared.refusal.Refusal.{Refusal};
 ghost use Rattle.volume_base.specs.Moments.{Image, present};
 ghost use Rattle.volume_base.specs.Names.{NamesCall};
 ghost use Rattle.volume_base.specs.Volume.{Writes};
+ghost use Rattle.twin_run.specs.Kind.{kept_of};
 ghost use Rattle.twin_run.specs.Operation.{Operation};
 ghost use Rattle.twin_run.specs.Step.{begin, append_to, metadata_length, seal, apply, hold, release, snapshot, size, metadata};
 ghost use Rattle.twin_run.specs.Told.{IsTold};
@@ -20,6 +21,7 @@ use crate::numbers::{Batch, Holding, Numbers};
 use chain_core::Error;
 use codec_base::{Bytes, Duplicate};
 use command_text::{Answer, Refusal};
+use std::alloc::Global;
 use std::mem::replace;
 use tree_shape::{MAX_LEAVES, Mmr};
 use volume_base::Volume;
@@ -43,6 +45,23 @@ fn metadata_length(metadata: &Option<Bytes>) -> u64
 }
 
 impl<D: Database> Side<D> {
+    /// The side of a database that was opened: it has no batches, and has taken no step. It takes no memory.
+    pub fn of(db: D, alloc: Global, limit: u64) -> Self
+        ensures shaped { IsShaped D.kind result.numbers }
+        // It stands for each state without batches of which the database is.
+        ensures state { (image : Image) (s : State Operation) → s.batches ≡ [] → D.kind.is_of (kept_of s) image db →
+            IsStateOf D.kind image result.db result.numbers s }
+        ensures db { result.db ≡ db }
+        ensures limit { result.limit ≡ limit }
+        ensures taken { result.numbers.taken ≡ 0 }
+    {
+        Side {
+            db,
+            numbers: Numbers::new(alloc),
+            limit,
+        }
+    }
+
     /// Makes an unsealed batch on the present list, or on a sealed batch.
     pub fn begin(&mut self, parent: Option<u64>) -> Result<Answer, Error<Mmr>>
         requires shaped { IsShaped D.kind self.old.numbers }
