@@ -18,3 +18,4 @@ pub mod CompactOpening
 pub mod CompactSizes
 pub mod CompactStanding
 pub mod FullLemmas
+pub mod FoundLemmas
