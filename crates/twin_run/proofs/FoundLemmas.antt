@@ -1,18 +1,18 @@
 -- The end at which a log of a list is opened is that of the list's last commit within the cap.
 use Rattle.std.proofs.Common.{◌≡◌, ◌⊎◌, inl, inr, true, false, Bool, ℕ, zero, suc, ◌+◌, ◌-◌, ◌<◌, ◌≤◌, List, [], ◌∷◌, length, map, Option, Some, None, refl, sym, ◌∙◌, ap, subst, arith}
-use Rattle.std.specs.Prelude.{slice_get, nat_lt, is_some, min, ◌&&◌, cond}
+use Rattle.std.specs.Prelude.{slice_get, nat_lt, is_some, ◌&&◌, cond}
 use Rattle.std.specs.Option.{option_map}
 use Rattle.std.proofs.lemmas.Option.{slice_get-map}
 use Rattle.volume_base.specs.Log.{end_of}
 use Rattle.journal_base.specs.Items.{Items, Holds, Spells}
-use Rattle.journal_base.specs.Matches.{IsAnswered, IsLastMatch, NoneMatches}
+use Rattle.journal_base.specs.Matches.{IsAnswered}
 use Rattle.journal_base.specs.View.{capped}
 use Rattle.merkle_full.proofs.ListLemmas.{logged_entry, there_is}
 use Rattle.auth_journal.specs.Searching.{EndsAt}
 use Rattle.auth_journal.proofs.ReadingLemmas.{run_end}
 use Rattle.log_model.specs.Meaning.{Meaning}
 use Rattle.log_model.specs.Opening.{commit_from, last_commit}
-use Rattle.log_model.proofs.SizeLemmas.{either, lt_is, not_lt}
+use Rattle.log_model.proofs.SizeLemmas.{lt_is, not_lt}
 
 module _ {Op V : Type 0} (m : Meaning Op V) where
   -- whether an operation is said to be a commit, as it is
@@ -64,7 +64,7 @@ module _ {Op V : Type 0} (m : Meaning Op V) where
       let same : first ≡ op = cc in
       let here : i < most = omega (arith, lt) in
       let now : cond (nat_lt i most && is_some (m.floor first)) (i + 1) found ≡ i + 1 =
-          picked most i found first here (subst (λ (o : Op). is_some (m.floor o) ≡ true) (sym same) is) in
+      picked most i found first here (subst (λ (o : Op). is_some (m.floor o) ≡ true) (sym same) is) in
       let sum : i + 1 ≡ i + zero + 1 = omega arith in
       found_stays most (i + 1) (cond (nat_lt i most && is_some (m.floor first)) (i + 1) found) ops
       (λ k other there below. none (suc k) other there (omega arith) (omega (arith, below))) ∙ now ∙ sum
@@ -85,8 +85,8 @@ module _ {Op V : Type 0} (m : Meaning Op V) where
     item_is : (p : ℕ) (x op : Op) → Holds items p x → items.admits x → slice_get ops p ≡ Some op → x ≡ op
     item_is p x op here admits at =
         let bytes : Some (items.spelling x) ≡ Some (items.spelling op) =
-            sym here.here ∙ logged_entry (map items.spelling ops) items.log p spelled.items here.low ∙ slice_get-map items.spelling ops p
-            ∙ ap (option_map items.spelling) at in
+        sym here.here ∙ logged_entry (map items.spelling ops) items.log p spelled.items here.low ∙ slice_get-map items.spelling ops p
+        ∙ ap (option_map items.spelling) at in
         let same : items.spelling x ≡ items.spelling op = cc in
         once x op admits (allowed p op at) same
 

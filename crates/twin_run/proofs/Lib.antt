@@ -19,3 +19,4 @@ pub mod CompactSizes
 pub mod CompactStanding
 pub mod FullLemmas
 pub mod FoundLemmas
+pub mod FullOpening

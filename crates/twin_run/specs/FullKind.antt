@@ -1,5 +1,5 @@
 -- What the full database and its batches stand for.
-use Rattle.std.specs.Prelude.{◌≡◌, List}
+use Rattle.std.specs.Prelude.{◌≡◌, ℕ, List}
 use Rattle.std.proofs.Common.{ap, sym, ◌∙◌, subst}
 use Rattle.volume_base.specs.Log.{Log, end_of}
 use Rattle.volume_base.specs.Moments.{Image}
@@ -43,6 +43,10 @@ IsUnsealedBatchOf list u = IsUnmerkleizedOf mmr sha meaning meaning.encoding lis
 pub record IsFullDbOf (kept : Kept) (image : Image) (db : FullView) : Type 0 where
   pub held : IsHeldIn kept.ops db image
   pub begins : (image.log db.journal.items.name).start ≡ kept.start
+
+-- What is kept of a log that is opened.
+abbrev pub kept_full : List Operation → List ℕ → (start wstart : ℕ) → Kept
+kept_full ops sizes start wstart = record { ops = ops; sizes = sizes; start = start; wstart = wstart }
 
 -- It reads no more of a volume than its two logs and its map.
 pub held_over : (ops : List Operation) (db : FullView) (was is : Image)

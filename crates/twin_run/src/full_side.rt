@@ -1,12 +1,27 @@
 //! The full database, which keeps each operation and their tree on a volume, as a database of the run.
-ghost use Rattle.twin_run.specs.FullKind.{full_kind};
+ghost use Rattle.std.specs.Prelude.{◌≡◌, ◌≢◌, ◌<◌, ◌≤◌, ◌^◌, ◌∷◌, [], ℕ, List, Some, Err, length, take, slice_get, IfOk, string_bytes};
+ghost use Rattle.volume_base.specs.Moments.{present};
+ghost use Rattle.volume_base.specs.Names.{two_logs_and_map, NamesCall};
+ghost use Rattle.volume_base.specs.Volume.{Changes};
+ghost use Rattle.journal_base.specs.Items.{Spells};
+ghost use Rattle.journal_base.specs.View.{capped};
+ghost use Rattle.tree_shape.specs.Mmr.{mmr};
+ghost use Rattle.tree_shape.specs.Sha256Codec.{bytes_of};
+ghost use Rattle.tree_store.specs.Stored.{TreeStands};
+ghost use Rattle.auth_journal.specs.Joined.{leaves_of};
+ghost use Rattle.log_model.specs.Opening.{last_commit};
+ghost use Rattle.twin_run.specs.FullKind.{IsFullDbOf, full_kind, kept_full};
+ghost use Rattle.twin_run.specs.Operation.{Operation, meaning, sha};
+ghost use Rattle.twin_run.specs.Step.{plain_commit};
 
 use crate::database::Database;
 use crate::operation::Operation;
 use chain_core::{BatchId, Bounds, Commitment, Error, Pool};
-use codec_base::{Bytes, Duplicate};
+use codec_base::{Bytes, Duplicate, LengthCfg, Read};
 use journal_base::VariableJournal;
+use keyless_db::variable::Config;
 use keyless_db::{Keyless, MerkleizedBatch, UnmerkleizedBatch};
+use std::alloc::Global;
 use tree_shape::{Location, Mmr, Sha256Digest, Sha256Hasher};
 use volume_base::Volume;
 
@@ -98,4 +113,36 @@ impl Database for Keyless<Mmr, Operation, VariableJournal<Operation>, Sha256Hash
     ) -> Result<Self, Error<Mmr>> {
         self.apply_batch(volume, pool, id)
     }
+}
+
+/// The full database of a log of operations and their tree, at the last commit within a cap. It refuses as
+/// `Keyless::init`.
+pub fn open_full<V: Volume>(
+    alloc: Global,
+    volume: &mut V,
+    cfg: Config<LengthCfg>,
+    cap: Option<Location<Mmr>>,
+) -> Result<Keyless<Mmr, Operation, VariableJournal<Operation>, Sha256Hasher>, Error<Mmr>>
+    requires { string_bytes cfg.log.name ≢ string_bytes cfg.merkle.nodes }
+    ensures bound { cap ≡ Some 0 → (result ≡ Err Error.InvalidInitializationBound) × (volume.new ≡ volume.old) }
+    // Of a log with a list's operations, beside the list's tree, it is the list's up to the last commit within the cap;
+    // where there is none, that of the first commit alone. The log begins where it did.
+    ensures held { V.tells → let log = (V.state volume.old).log (string_bytes cfg.log.name) in
+        let nodes = (V.state volume.old).log (string_bytes cfg.merkle.nodes) in
+        let pins = (V.state volume.old).map (string_bytes cfg.merkle.metadata) in
+        IfOk result (λ db. (ops : List Operation) (durable wstart : ℕ) (sizes : List ℕ) → Spells meaning.encoding ops log →
+        length ops ≤ 2 ^ 62 →
+        TreeStands mmr sha bytes_of (leaves_of mmr sha meaning.encoding ops) durable log.start nodes pins →
+        ((i : ℕ) (op : Operation) → slice_get ops i ≡ Some op → ⟦<Operation as Read>⟧.admits cfg.log.codec op) →
+        let size = last_commit meaning (capped cap (length ops)) ops in
+        (0 < size → IsFullDbOf (kept_full (take size ops) sizes log.start wstart) (present (V.state volume.new)) db)
+        × (size ≡ 0 →
+        IsFullDbOf (kept_full (plain_commit ∷ []) sizes log.start wstart) (present (V.state volume.new)) db)) }
+    ensures names { let names = two_logs_and_map (string_bytes cfg.log.name) (string_bytes cfg.merkle.nodes)
+        (string_bytes cfg.merkle.metadata) in V.tells → NamesCall names (V.state volume.old) (V.state volume.new) }
+    ensures same_names { IfOk result (λ db. full_kind.names db ≡ two_logs_and_map (string_bytes cfg.log.name)
+        (string_bytes cfg.merkle.nodes) (string_bytes cfg.merkle.metadata)) }
+    ensures changes { Changes V.tells Error.Volume (V.state volume.old) (V.state volume.new) result }
+{
+    Keyless::init(alloc, volume, cfg, cap)
 }
