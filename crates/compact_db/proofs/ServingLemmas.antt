@@ -1,6 +1,6 @@
 -- What a database whose witnesses are held serves.
 use Rattle.std.proofs.Common.{◌≡◌, ◌⊎◌, inl, inr, ℕ, zero, suc, ◌+◌, ◌-◌, ◌^◌, ◌<◌, ◌≤◌, true, false, List, [], ◌∷◌, length, map, take, drop, Option, Some, None, refl, sym, ◌∙◌, ap, subst, arith}
-use Rattle.std.specs.Prelude.{◌&&◌, nat_lt, nat_le, Bool, slice_get, Result, Ok, Err, IfOk, IfErr, IsErrOf, if◌then◌else◌}
+use Rattle.std.specs.Prelude.{◌&&◌, nat_lt, nat_le, Bool, slice_get, Result, Ok, Err, IfOk, IfErr, IsErrOf, IsOk, if◌then◌else◌}
 use Rattle.std.specs.List.{AllByRecursion}
 use Rattle.std.specs.Option.{option_map}
 use Rattle.std.proofs.lemmas.Bool.Decides.{nat_tests}
@@ -28,8 +28,9 @@ use Rattle.witness_store.specs.declared.witness.Witness.{Witness}
 use Rattle.compact_db.specs.DbView.{DbView, seen_log}
 use Rattle.compact_db.specs.Held.{IsSizeOf, IsHeldFor}
 use Rattle.compact_db.specs.Rebuild.{RefusedOnlyAs, fits_witness, commit_answer, decoded_answer, rebuild_answer}
-use Rattle.compact_db.specs.Serving.{IsKeptAt, has_size, kept_answer, AnswersAs, IsDamaged, IsLogFault}
+use Rattle.compact_db.specs.Serving.{IsKeptAt, has_size, kept_answer, AnswersAs, IsDamaged, IsLogFault, IsRebuiltAt}
 use Rattle.compact_db.specs.WitnessOf.{witness_of}
+use Rattle.compact_db.specs.declared.verified.VerifiedWitness.{VerifiedWitness}
 use Rattle.compact_db.proofs.WitnessLemmas.{longer}
 
 -- ---- lists
@@ -207,3 +208,21 @@ pub size_ended : {Op V : Type 0} (m : Meaning Op V) (ops : List Op) (sizes : Lis
 size_ended m ops sizes start p size all at =
     let there : start + (p - start) ≡ p = omega (arith, at.0) in
     each_at (IsSizeOf m ops) (drop start sizes) (p - start) size all (get_behind sizes start (p - start) ∙ ap (slice_get sizes) there ∙ at.1)
+
+pub and_ok : {A E : Type 0} (r : Result A E) (P R : A → Type 0) → IfOk r P → IfOk r R → IfOk r (λ a. P a × R a)
+and_ok (Ok a) P R p q = (p, q)
+and_ok (Err e) P R p q = tt
+
+pub is_ok : {A E : Type 0} (r : Result A E) (a : A) → r ≡ Ok a → IsOk r
+is_ok r a is = subst (λ x. IsOk x) (sym is) refl
+
+-- a witness that stands here, and has been rebuilt
+pub rebuilt_here : {F D Op V : Type 0} (s : Shape) (m : Meaning Op V) (decoded : List ℕ → Result Op CodecError) (items : Items (Witness F D)) (size p : ℕ) (w : Witness F D)
+    (v : VerifiedWitness F D) (commit : Op) → IsWitnessAt items p w × (w.size ≡ size) → rebuild_answer s m decoded w ≡ Ok commit → v.witness ≡ w
+    → IsRebuiltAt s m decoded items size v commit
+rebuilt_here {F} {D} s m decoded items size p w v commit here answer is = record {
+  position = p;
+  here = subst (λ (x : Witness F D). IsWitnessAt items p x) (sym is) here.0;
+  sized = ap (λ (x : Witness F D). x.size) is ∙ here.1;
+  rebuilt = ap (λ (x : Witness F D). rebuild_answer s m decoded x) is ∙ answer;
+}

@@ -1,5 +1,5 @@
 //! What a compact database serves: the kept states, their commits and the proofs of these.
-ghost use Rattle.std.specs.Prelude.{◌≡◌, ◌⊎◌, ◌<◌, ◌≤◌, ◌-◌, ℕ, List, [], length, drop, take, true, false, Some, None, Ok, Err, slice_get, IfOk, IfErr, IfSome, IsErrOf, IsOkUnless};
+ghost use Rattle.std.specs.Prelude.{◌≡◌, ◌≢◌, ◌⊎◌, ◌<◌, ◌≤◌, ◌-◌, ℕ, List, [], length, drop, take, true, false, Some, None, Ok, Err, slice_get, IsOk, IfOk, IfErr, IfSome, IsErrOf, IsOkUnless};
 ghost use Rattle.codec_base.specs.Parts.{whole};
 ghost use Rattle.journal_base.specs.Answers.{IsOfRead};
 ghost use Rattle.journal_base.specs.Items.{IsCorrupt};
@@ -14,7 +14,7 @@ ghost use Rattle.witness_store.specs.Witnesses.{witnesses_of, Keeps, IsKept};
 ghost use Rattle.compact_db.specs.DbView.{IsOfList, seen_log, waits};
 ghost use Rattle.compact_db.specs.Held.{IsHeldFor};
 ghost use Rattle.compact_db.specs.Rebuild.{rebuild_answer};
-ghost use Rattle.compact_db.specs.Serving.{IsKeptAt, has_size, is_kept, kept_answer, serve_answer, response_to, AnswersAs, IsDamaged, IsLogFault};
+ghost use Rattle.compact_db.specs.Serving.{IsKeptAt, has_size, is_kept, kept_answer, serve_answer, response_to, AnswersAs, IsDamaged, IsLogFault, IsRebuiltAt};
 ghost use Rattle.compact_db.specs.StateOf.{IsStateOf, verified_of};
 ghost use Rattle.compact_db.specs.WitnessOf.{witness_of};
 
@@ -107,6 +107,17 @@ impl<F: Family, O: CompactOperation, H: Hasher> CompactDb<F, O, H> {
             AnswersAs (kept_answer size (has_size (drop (seen_log self.now.log).start sizes) size))
             (rebuild_answer {F = F} F.shape O.meaning (λ bytes. whole (O.reads self.now.codec bytes))
             (witness_of F.shape H.hash O.meaning ops size)) result }
+        // It answers only where the list's witness of this size rebuilds.
+        ensures rebuilds { IfOk result (λ r. V.tells → (ops : List O) (sizes : List ℕ) →
+            IsHeldFor F.shape H.hash O.meaning H.Digest.spelling (H.Digest.admits tt) ops sizes self.now
+            (V.state vol.old) →
+            IsOk (rebuild_answer {F = F} F.shape O.meaning (λ bytes. whole (O.reads self.now.codec bytes))
+            (witness_of F.shape H.hash O.meaning ops size))) }
+        // On any contents it is what a witness of this size, which stands in the log, rebuilds.
+        ensures rebuilt { let view = seen_log self.now.log in
+            let items = witnesses_of {F = F} H.Digest.spelling (H.Digest.admits tt) view (V.state vol.old) in
+            IfOk result (λ r. V.tells → IsWithin view (V.state vol.old) →
+            IsRebuiltAt F.shape O.meaning (λ bytes. whole (O.reads self.now.codec bytes)) items size r.tip r.commit) }
         ensures list { IfOk result (λ r. V.tells → (ops : List O) (sizes : List ℕ) →
             IsHeldFor F.shape H.hash O.meaning H.Digest.spelling (H.Digest.admits tt) ops sizes self.now
             (V.state vol.old) →
@@ -176,6 +187,20 @@ impl<F: Family, O: CompactOperation, H: Hasher> CompactDb<F, O, H> {
             AnswersAs (serve_answer last (size_of request) (start_of request) kept)
             (rebuild_answer {F = F} F.shape O.meaning (λ bytes. whole (O.reads self.now.codec bytes))
             (witness_of F.shape H.hash O.meaning ops (size_of request))) result }
+        // Of another state than the last it answers only where the list's witness of this size rebuilds.
+        ensures rebuilds { IfOk result (λ r. V.tells → (ops : List O) (sizes : List ℕ) →
+            IsHeldFor F.shape H.hash O.meaning H.Digest.spelling (H.Digest.admits tt) ops sizes self.now
+            (V.state vol.old) →
+            size_of request ≢ self.now.tip.witness.size →
+            IsOk (rebuild_answer {F = F} F.shape O.meaning (λ bytes. whole (O.reads self.now.codec bytes))
+            (witness_of F.shape H.hash O.meaning ops (size_of request)))) }
+        // On any contents it is the answer of a witness of this size that stands in the log, and rebuilds.
+        ensures rebuilt { let view = seen_log self.now.log in
+            let items = witnesses_of {F = F} H.Digest.spelling (H.Digest.admits tt) view (V.state vol.old) in
+            IfOk result (λ r. size_of request ≢ self.now.tip.witness.size → V.tells → IsWithin view (V.state vol.old) →
+            (v : VerifiedWitness F H.Digest) × (commit : O)
+            × IsRebuiltAt F.shape O.meaning (λ bytes. whole (O.reads self.now.codec bytes)) items (size_of request) v
+            commit × (r ≡ response_to request v commit)) }
         // It is the answer of the state of so many of the list's operations, where the commit is allowed.
         ensures list { IfOk result (λ r. V.tells → (ops : List O) (sizes : List ℕ) →
             IsHeldFor F.shape H.hash O.meaning H.Digest.spelling (H.Digest.admits tt) ops sizes self.now

@@ -1,5 +1,5 @@
 use Rattle.std.proofs.Common.{◌≡◌, ◌⊎◌, ◌-◌, ◌<◌, inl, inr, true, false, ℕ, List, [], drop, take, Ok, Err, refl, sym, ◌∙◌, ap, subst}
-use Rattle.std.specs.Prelude.{slice_get}
+use Rattle.std.specs.Prelude.{slice_get, IsOk}
 use Rattle.codec_base.specs.Parts.{whole}
 use Rattle.journal_base.specs.View.{IsWithin}
 use Rattle.volume_base.proofs.ReadLemmas.{only_read_none, only_read_joins, reads_of}
@@ -10,7 +10,7 @@ use Rattle.chain_core.specs.declared.error.Error.TheVariants.{Journal, Volume}
 use Rattle.witness_store.specs.Witnesses.{witnesses_of}
 use Rattle.compact_db.specs.DbView.{DbView, seen_log}
 use Rattle.compact_db.specs.Rebuild.{rebuild_answer}
-use Rattle.compact_db.specs.Serving.{has_size, is_kept, kept_answer, serve_answer, AnswersAs, IsDamaged, IsLogFault}
+use Rattle.compact_db.specs.Serving.{has_size, is_kept, kept_answer, serve_answer, AnswersAs, IsDamaged, IsLogFault, IsRebuiltAt}
 use Rattle.compact_db.specs.StateOf.{IsStateOf}
 use Rattle.compact_db.specs.WitnessOf.{witness_of}
 use Rattle.compact_db.proofs.ApplyLemmas.{one_item}
@@ -181,3 +181,50 @@ state_at-requires g c =
     let passed : serve_answer {F = g.row.F.Denot} last n at true ≡ Ok tt = subst (λ (t : ℕ). serve_answer {F = g.row.F.Denot} t n at true ≡ Ok tt) tip (sym c.in-Ok.ensures) in
     let size : c.as_u64-size.result ≡ n = c.as_u64-size.ensures ∙ c.size.ensures in
     subst (λ (k : ℕ). 0 < k) (sym size) (serve_some last n at passed)
+
+pub returns-then-size-tip-clause-rebuilds : goal.returns-then-size-tip-clause-rebuilds
+returns-then-size-tip-clause-rebuilds g c =
+    let n = size_of c.args.request in
+    let last = c.args.self.now.tip.witness.size in
+    let tip : c.as_u64-tip.result ≡ last = c.as_u64-tip.ensures ∙ ap (λ (d : DbView g.row.F.Denot g.row.H-Digest.Denot g.row.O.Denot g.row.O-Cfg.Denot). d.tip.witness.size) c.self.view_is in
+    let size : c.as_u64-size.result ≡ n = c.as_u64-size.ensures ∙ c.size.ensures in
+    let same : n ≡ last = sym size ∙ c.if-size-tip.true ∙ tip in
+    if_ok c.serve_tip.result _ _ c.serve_tip.ensures.response (λ x is told ops sizes held other. absurd (other same))
+
+pub returns-then-size-tip-clause-rebuilt : goal.returns-then-size-tip-clause-rebuilt
+returns-then-size-tip-clause-rebuilt g c =
+    let n = size_of c.args.request in
+    let last = c.args.self.now.tip.witness.size in
+    let tip : c.as_u64-tip.result ≡ last = c.as_u64-tip.ensures ∙ ap (λ (d : DbView g.row.F.Denot g.row.H-Digest.Denot g.row.O.Denot g.row.O-Cfg.Denot). d.tip.witness.size) c.self.view_is in
+    let size : c.as_u64-size.result ≡ n = c.as_u64-size.ensures ∙ c.size.ensures in
+    let same : n ≡ last = sym size ∙ c.if-size-tip.true ∙ tip in
+    if_ok c.serve_tip.result _ _ c.serve_tip.ensures.response (λ x is other told within. absurd (other same))
+
+pub returns-clause-rebuilds : goal.returns-clause-rebuilds
+returns-clause-rebuilds g c =
+    let s = g.F.Family.shape in
+    let h = g.H.Hasher.hash in
+    let m = g.O.Logged.meaning in
+    let n = size_of c.args.request in
+    let size : c.as_u64-size.result ≡ n = c.as_u64-size.ensures ∙ c.size.ensures in
+    let decoded = λ (bytes : List ℕ). whole (g.O.Read.reads c.args.self.now.codec bytes) in
+    if_ok c.response.result _ _ c.response.ensures.response (λ x is told ops sizes held other.
+    subst (λ (k : ℕ). IsOk (rebuild_answer {F = g.row.F.Denot} s m decoded (witness_of s h m ops k))) size
+    (c.in-Ok-state_at.ensures.rebuilds told ops sizes held))
+
+pub returns-clause-rebuilt : goal.returns-clause-rebuilt
+returns-clause-rebuilt g c =
+    let s = g.F.Family.shape in
+    let m = g.O.Logged.meaning in
+    let n = size_of c.args.request in
+    let size : c.as_u64-size.result ≡ n = c.as_u64-size.ensures ∙ c.size.ensures in
+    let r = c.in-Ok-state_at.rebuilt in
+    let state = g.V.Volume.state c.args.vol.now in
+    let items = witnesses_of {F = g.row.F.Denot} g.H.Digest.Spelled.spelling (g.H.Digest.Read.admits tt) (seen_log c.args.self.now.log) state in
+    let decoded = λ (bytes : List ℕ). whole (g.O.Read.reads c.args.self.now.codec bytes) in
+    if_ok c.response.result _ _ c.response.ensures.response (λ x is other told within. (
+      r.tip,
+      r.commit,
+      subst (λ (k : ℕ). IsRebuiltAt s m decoded items k r.tip r.commit) size (c.in-Ok-state_at.ensures.rebuilt told within),
+      is r.tip refl refl,
+    ))

@@ -1,5 +1,5 @@
-use Rattle.std.proofs.Common.{rules, ◌≡◌, ◌⊎◌, ◌-◌, inl, inr, false, ℕ, List, map, drop, take, Option, Some, None, Err, sym, ◌∙◌, subst, arith}
-use Rattle.std.specs.Prelude.{slice_get, IfSome, IfErr}
+use Rattle.std.proofs.Common.{rules, ◌≡◌, ◌⊎◌, ◌-◌, inl, inr, false, ℕ, List, map, drop, take, Option, Some, None, Err, sym, ◌∙◌, ap, subst, arith}
+use Rattle.std.specs.Prelude.{slice_get, IsOk, IfSome, IfErr}
 use Rattle.std.specs.List.{AllByRecursion}
 use Rattle.std.proofs.lemmas.List.{length-take}
 use Rattle.codec_base.specs.Parts.{whole}
@@ -15,9 +15,9 @@ use Rattle.witness_store.specs.declared.witness.Witness.{Witness}
 use Rattle.compact_db.specs.DbView.{DbView, seen_log}
 use Rattle.compact_db.specs.Held.{IsHeldFor, IsSizeOf}
 use Rattle.compact_db.specs.Rebuild.{RefusedOnlyAs, rebuild_answer}
-use Rattle.compact_db.specs.Serving.{has_size, kept_answer, AnswersAs, IsDamaged, IsLogFault}
+use Rattle.compact_db.specs.Serving.{has_size, kept_answer, AnswersAs, IsDamaged, IsLogFault, IsRebuiltAt}
 use Rattle.compact_db.specs.WitnessOf.{witness_of}
-use Rattle.compact_db.proofs.ServingLemmas.{size_ended, size_none, size_here, witness_here, front_witness, kept_true, kept_false, none_kept, rebuilt_as, damaged_as, fault_outside, never_volume, not_volume, if_ok}
+use Rattle.compact_db.proofs.ServingLemmas.{size_ended, size_none, size_here, witness_here, front_witness, kept_true, kept_false, none_kept, rebuilt_as, damaged_as, fault_outside, never_volume, not_volume, if_ok, and_ok, is_ok, rebuilt_here}
 use Rattle.compact_db.proofs.StateLemmas.{last_taken}
 use Rattle.compact_db.proofs.database.CompactDb.state_at.Goals as goal
 
@@ -117,3 +117,38 @@ returns-in-Ok-Some-clause-answers g c =
     (only_read_joins g.V.Volume.tells Volume old old new c.in-Ok-Some.field-0 (only_read_none g.V.Volume.tells old) c.in-Ok-Some.ensures.answers)
     (not_volume (rebuild_answer g.F.Family.shape g.O.Logged.meaning decoded c.in-Ok-Some.witness) c.rebuild.result c.rebuild.ensures.refused
     (never_volume g.F.Family.shape g.O.Logged.meaning decoded c.in-Ok-Some.witness))
+
+pub returns-in-Ok-Some-clause-rebuilds : goal.returns-in-Ok-Some-clause-rebuilds
+returns-in-Ok-Some-clause-rebuilds g c = if_ok c.rebuild.result _ _ c.rebuild.ensures.answer (λ r answer told ops sizes held.
+    let s = g.F.Family.shape in
+    let h = g.H.Hasher.hash in
+    let m = g.O.Logged.meaning in
+    let was = subst (λ (d : DbView g.row.F.Denot g.row.H-Digest.Denot g.row.O.Denot g.row.O-Cfg.Denot). IsHeldFor s h m g.H.Digest.Spelled.spelling (g.H.Digest.Read.admits tt) ops sizes d (g.V.Volume.state c.args.vol.now))
+    (sym c.self.view_is) held in
+    let one : c.in-Ok-Some.field-0 ≡ Some (c.in-Ok-Some.field-0-0-0, c.in-Ok-Some.witness) = first_of (search rules, cc) in
+    let first = (seen_log c.self.inside.log).start in
+    let found = subst (λ (o : Option (ℕ × Witness g.row.F.Denot g.row.H-Digest.Denot)). IsKept (map (witness_of s h m ops) sizes) first c.new.result o) one
+    (c.in-Ok-Some.ensures.kept was.opened told was.bounds _ was.witnesses) in
+    let kept = subst (λ (n : ℕ). IsKept (map (witness_of s h m ops) sizes) first n (Some (c.in-Ok-Some.field-0-0-0, c.in-Ok-Some.witness))) c.new.ensures found in
+    let same = witness_here s h m ops sizes first c.args.size c.in-Ok-Some.field-0-0-0 c.in-Ok-Some.witness kept in
+    let decoded = λ (bytes : List ℕ). whole (g.O.Read.reads c.self.inside.codec bytes) in
+    let is = ap (λ (x : Witness g.row.F.Denot g.row.H-Digest.Denot). rebuild_answer s m decoded x) (sym same) ∙ answer in
+    subst (λ (d : DbView g.row.F.Denot g.row.H-Digest.Denot g.row.O.Denot g.row.O-Cfg.Denot).
+    IsOk (rebuild_answer {F = g.row.F.Denot} s m (λ bytes. whole (g.O.Read.reads d.codec bytes)) (witness_of s h m ops c.args.size))) c.self.view_is
+    (is_ok (rebuild_answer s m decoded (witness_of s h m ops c.args.size)) r.commit is))
+
+pub returns-in-Ok-Some-clause-rebuilt : goal.returns-in-Ok-Some-clause-rebuilt
+returns-in-Ok-Some-clause-rebuilt g c = if_ok c.rebuild.result _ _ (and_ok c.rebuild.result _ _ c.rebuild.ensures.answer c.rebuild.ensures.witness) (λ r is.
+    let s = g.F.Family.shape in
+    let m = g.O.Logged.meaning in
+    let state = g.V.Volume.state c.args.vol.now in
+    let one : c.in-Ok-Some.field-0 ≡ Some (c.in-Ok-Some.field-0-0-0, c.in-Ok-Some.witness) = first_of (search rules, cc) in
+    let items = witnesses_of {F = g.row.F.Denot} g.H.Digest.Spelled.spelling (g.H.Digest.Read.admits tt) (seen_log c.self.inside.log) state in
+    let decoded = λ (bytes : List ℕ). whole (g.O.Read.reads c.self.inside.codec bytes) in
+    subst (λ (d : DbView g.row.F.Denot g.row.H-Digest.Denot g.row.O.Denot g.row.O-Cfg.Denot).
+    let there = witnesses_of {F = g.row.F.Denot} g.H.Digest.Spelled.spelling (g.H.Digest.Read.admits tt) (seen_log d.log) state in
+    g.V.Volume.tells → IsWithin (seen_log d.log) state →
+    IsRebuiltAt s m (λ bytes. whole (g.O.Read.reads d.codec bytes)) there c.args.size r.tip r.commit) c.self.view_is
+    (λ told within.
+    let x = subst (λ (o : Option (ℕ × Witness g.row.F.Denot g.row.H-Digest.Denot)). IfSome o (λ y. IsWitnessAt items y.0 y.1 × (y.1.size ≡ c.new.result))) one (c.in-Ok-Some.ensures.stands told within) in
+    rebuilt_here s m decoded items c.args.size c.in-Ok-Some.field-0-0-0 c.in-Ok-Some.witness r.tip r.commit (x.0, x.1 ∙ c.new.ensures) is.0 is.1))
