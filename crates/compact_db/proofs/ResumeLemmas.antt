@@ -192,6 +192,7 @@ module _ (F Cfg : Type 0) {D Op V : Type 0} (s : Shape) (h : Hashing D) (m : Mea
                   chosen = chosen told;
                   rebuilt = answer;
                   tip = tip_is;
+                  list = list;
                   cut = cut told ∙ ap (λ (l : Log). cut_to l end) ((read.contents told).logs view.name);
                 };
                 held = held_all told;

@@ -232,7 +232,7 @@ module _ (F Cfg : Type 0) {D Op V : Type 0} (s : Shape) (h : Hashing D) (m : Mea
       from_as seen state r log named is = record {
         tip = is.tip;
         begun = is.begun;
-        resumed = subst (λ (n : List ℕ). IfOk r (λ db. 0 < length log.items → IsOpenedAt s m decoded (kept_in log) cap db (state.log n))) named is.resumed;
+        resumed = subst (λ (n : List ℕ). IfOk r (λ db. 0 < length log.items → IsOpenedAt s m decoded (kept_in log) cap h allowed db (state.log n))) named is.resumed;
         held = is.held;
         refused = is.refused;
         damaged = is.damaged;

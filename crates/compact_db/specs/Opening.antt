@@ -1,5 +1,5 @@
 -- At which state a compact database is opened, and why at none.
-use Rattle.std.specs.Prelude.{◌≡◌, ◌⊎◌, ℕ, ◌-◌, ◌<◌, ◌≤◌, false, List, [], ◌∷◌, length, map, take, Option, Some, None, Result, Ok, Err, IfOk, IfErr, OnOk, MatchOption, slice_get}
+use Rattle.std.specs.Prelude.{◌≡◌, ◌⊎◌, ℕ, ◌-◌, ◌^◌, ◌<◌, ◌≤◌, false, List, [], ◌∷◌, length, map, take, Option, Some, None, Result, Ok, Err, IfOk, IfErr, OnOk, MatchOption, slice_get}
 use Rattle.codec_base.specs.declared.error.CodecError.{CodecError}
 use Rattle.journal_base.specs.Answers.{IsOfRead, IsOfSize}
 use Rattle.journal_base.specs.Items.{Items, IsCorrupt}
@@ -12,6 +12,7 @@ use Rattle.volume_base.specs.declared.error.JournalError.{JournalError}
 use Rattle.volume_base.specs.declared.error.JournalError.TheVariants as journal_error
 use Rattle.tree_shape.specs.Hashing.{Hashing}
 use Rattle.tree_shape.specs.Shape.{Shape}
+use Rattle.log_model.specs.Good.{EndsWithCommit}
 use Rattle.log_model.specs.Meaning.{Meaning}
 use Rattle.chain_core.specs.Answers.{IsOutside}
 use Rattle.chain_core.specs.Errors.{from_journal}
@@ -26,6 +27,7 @@ use Rattle.witness_store.specs.declared.witness.Witness.{Witness}
 use Rattle.compact_db.specs.DbView.{DbView, seen_log, waits, is_uncommitted}
 use Rattle.compact_db.specs.Held.{HasStates, IsHeldFor}
 use Rattle.compact_db.specs.Rebuild.{rebuild_answer}
+use Rattle.compact_db.specs.StateOf.{IsStateOf}
 use Rattle.compact_db.specs.WitnessOf.{witness_of}
 use Rattle.compact_db.specs.declared.database.WitnessLog.{WitnessLog}
 
@@ -79,13 +81,18 @@ pub record IsFirstCommit {Op V : Type 0} (m : Meaning Op V) (op : Op) : Type 0 w
 
 module _ {F D Op V : Type 0} (s : Shape) (m : Meaning Op V) (decoded : List ℕ → Result Op CodecError)
     (items : Items (Witness F D)) (cap : Option ℕ) where
-  -- The database is at the state that the selected witness rebuilds, and the log ends behind it.
-  pub record IsOpenedAt {Cfg : Type 0} (db : DbView F D Op Cfg) (log : Log) : Type 0 where
+  -- The database is at the state that the selected witness rebuilds, and the log ends behind it. Where that witness is
+  -- a list's, whatever else the log has, the database is the list's.
+  pub record IsOpenedAt {Cfg : Type 0} (h : Hashing D) (allowed : Op → Type 0) (db : DbView F D Op Cfg) (log : Log)
+      : Type 0 where
     pub end : ℕ
     pub witness : Witness F D
     pub chosen : IsChosen items cap (Some (end, witness))
     pub rebuilt : rebuild_answer s m decoded witness ≡ Ok db.commit
     pub tip : db.tip.witness ≡ witness
+    pub list : (ops : List Op) → EndsWithCommit m ops → length ops ≤ 2 ^ 62 →
+        ((op : Op) → slice_get ops (length ops - 1) ≡ Some op → allowed op) →
+        witness ≡ witness_of s h m ops (length ops) → IsStateOf s h m ops db.tip db.tree db.commit
     pub cut : log ≡ cut_to items.log end
 
   -- Why no witness is rebuilt: none is selected, or the selected one doesn't rebuild.
@@ -140,7 +147,7 @@ module _ {F D Op V Cfg : Type 0} (s : Shape) (h : Hashing D) (m : Meaning Op V) 
         IsFirstCommit m db.commit × IsHeldFor s h m spelling admits (db.commit ∷ []) (1 ∷ []) db new)
     -- Of another one the selected witness is rebuilt.
     pub resumed : IfOk result (λ db. 0 < length log.items →
-        IsOpenedAt s m decoded (witnesses_in spelling admits log) cap db (log_of view new))
+        IsOpenedAt s m decoded (witnesses_in spelling admits log) cap h allowed db (log_of view new))
     -- A log that keeps the witnesses of a list is opened at the latest size within the cap, where its commit is
     -- allowed.
     pub held : IfOk result (λ db. (ops : List Op) (sizes : List ℕ) (count size : ℕ) →
