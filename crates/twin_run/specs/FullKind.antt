@@ -65,8 +65,8 @@ held_over ops db was is items nodes pins held = record {
   low = held.low;
 }
 
--- A sealed batch is of its list, and has a mark at each state of its chain; the marks of an unsealed one are those of its
--- segments. It keeps its operations, their tree's nodes and its pins on a volume.
+-- A sealed batch is of its list, and has a mark at each state of its chain; the marks of an unsealed one are those of
+-- its segments. It keeps its operations, their tree's nodes and its pins on a volume.
 abbrev pub full_kind : Kind FullView SealedView UnsealedView
 full_kind = record {
   is_of = IsFullDbOf;

@@ -130,8 +130,8 @@ pub fn open_full<V: Volume>(
     ensures held { V.tells → let log = (V.state volume.old).log (string_bytes cfg.log.name) in
         let nodes = (V.state volume.old).log (string_bytes cfg.merkle.nodes) in
         let pins = (V.state volume.old).map (string_bytes cfg.merkle.metadata) in
-        IfOk result (λ db. (ops : List Operation) (durable wstart : ℕ) (sizes : List ℕ) → Spells meaning.encoding ops log →
-        length ops ≤ 2 ^ 62 →
+        IfOk result (λ db. (ops : List Operation) (durable wstart : ℕ) (sizes : List ℕ) →
+        Spells meaning.encoding ops log → length ops ≤ 2 ^ 62 →
         TreeStands mmr sha bytes_of (leaves_of mmr sha meaning.encoding ops) durable log.start nodes pins →
         ((i : ℕ) (op : Operation) → slice_get ops i ≡ Some op → ⟦<Operation as Read>⟧.admits cfg.log.codec op) →
         let size = last_commit meaning (capped cap (length ops)) ops in
