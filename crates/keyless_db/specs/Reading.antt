@@ -1,5 +1,5 @@
 -- What reads of a database and of its batches answer.
-use Rattle.std.specs.Prelude.{◌≡◌, ◌⊎◌, ℕ, ◌-◌, ◌<◌, ◌≤◌, ◌&&◌, ◌||◌, min, Bool, not, nat_lt, nat_le, is_none, List, [], ◌∷◌, map, Option, Some, None, Result, Ok, Err, Contains}
+use Rattle.std.specs.Prelude.{◌≡◌, ◌⊎◌, ℕ, ◌-◌, ◌<◌, ◌≤◌, ◌&&◌, ◌||◌, min, Bool, not, nat_lt, nat_le, is_none, List, [], ◌∷◌, map, Option, Some, None, Result, Ok, Err, Contains, slice_get, if◌then◌else◌}
 use Rattle.std.specs.Option.{option_map_or}
 use Rattle.volume_base.specs.Log.{end_of}
 use Rattle.volume_base.specs.declared.error.JournalError.{JournalError}
@@ -7,6 +7,7 @@ use Rattle.volume_base.specs.declared.error.JournalError.TheVariants.{ItemPruned
 use Rattle.journal_base.specs.Answers.{IsOfRead}
 use Rattle.journal_base.specs.Items.{Items, IsCorrupt}
 use Rattle.tree_store.specs.declared.error.Error as tree_error
+use Rattle.auth_journal.specs.Kept.{kept_item}
 use Rattle.log_model.specs.Meaning.{Meaning}
 use Rattle.log_model.specs.Reads.{or_else, refuse_if, unless_refused, unordered, first_below, read_refusal, many_refusal, value_at}
 use Rattle.log_model.specs.declared.refusal.Refusal.{Refusal}
@@ -16,6 +17,7 @@ use Rattle.chain_core.specs.Errors.{from_journal, from_tree}
 use Rattle.chain_core.specs.Reached.{linked_item, parent_floor}
 use Rattle.chain_core.specs.declared.commitment.Commitment.{Commitment}
 use Rattle.chain_core.specs.declared.error.Error.{Error}
+use Rattle.chain_core.specs.declared.error.Error.TheVariants.{Journal}
 use Rattle.chain_core.specs.declared.pool.HeldBatch.{HeldBatch}
 use Rattle.keyless_db.specs.Batches.{UnmerkleizedView, MerkleizedView, bounds_of}
 use Rattle.keyless_db.specs.DbView.{DbView}
@@ -103,9 +105,25 @@ module _ {F D Op : Type 0} (pool : List (Option (HeldBatch (MerkleizedView F D O
   abbrev pub chain_start : ℕ
   chain_start = min b.base.size (option_map_or (λ p. p.tree.nodes.first) (linked_item pool b.parent) b.base.size)
 
+  -- The operation at a location that it has collected, or that its parent's chain keeps.
+  abbrev pub pending_item : ℕ → Option Op
+  pending_item l =
+      if nat_le b.base.size l then slice_get b.tree.items (l - b.base.size)
+      else option_map_or (λ p. kept_item p.tree l) (linked_item pool b.parent) None
+
   -- The floor below which it isn't read: that on which it builds; what it collects is never below.
   abbrev pub read_floor : ℕ → ℕ
   read_floor floor = min b.base.size (parent_floor bounds_of pool b.parent floor)
+
+-- An operation that the chain doesn't keep is one that may be read.
+abbrev pub IsReadable : {Op : Type 0} → (Op → Type 0) → List Op → Option Op → ℕ → Type 0
+IsReadable {Op = Op} admits ops kept l = kept ≡ None → (op : Op) → slice_get ops l ≡ Some op → admits op
+
+-- It is an error of a read of a batch: neither the chain nor a database of so many operations keeps one at this
+-- location, or the read of the database's fails.
+abbrev pub IsChainFault : {F Op : Type 0} → Type 0 → Items Op → ℕ → Option Op → ℕ → Error F → Type 0
+IsChainFault tells items size kept l e =
+    ((kept ≡ None) × (size ≤ l) × (e ≡ Journal (ItemPruned l))) ⊎ IsReadFault tells items l e
 
 -- Which operations of a batch's list are kept: those from here on by its chain, and those within these bounds by a
 -- database.

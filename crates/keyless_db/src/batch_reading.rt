@@ -8,13 +8,15 @@ use tree_core::{Family, Hasher, Location};
 use volume_base::Volume;
 
 impl<F: Family, H: Hasher, O: KeylessOperation> UnmerkleizedBatch<F, H, O> {
-    ghost use Rattle.std.specs.Prelude.{◌≡◌, ◌↔◌, ◌+◌, ◌<◌, ◌++◌, List, length, map, take, slice_get, Some, None, Err, IsOk, IfOk, IsOkUnless, Contains};
+    ghost use Rattle.std.specs.Prelude.{◌≡◌, ◌↔◌, ◌+◌, ◌<◌, ◌++◌, ℕ, List, length, map, take, slice_get, Some, None, Ok, Err, IsOk};
+    ghost use Rattle.std.specs.Prelude.{IfOk, IfErr, IsErrOf, IsOkUnless, Contains};
     ghost use Rattle.std.specs.List.{AllByRecursion};
     ghost use Rattle.std.specs.Option.{ForSome};
     ghost use Rattle.volume_base.specs.Moments.{present};
     ghost use Rattle.volume_base.specs.Volume.{Reads};
     ghost use Rattle.log_model.specs.Reads.{unless_refused, value_at};
     ghost use Rattle.log_model.specs.declared.refusal.Refusal.{Refusal};
+    ghost use Rattle.journal_base.specs.Items.{items_of};
     ghost use Rattle.auth_journal.specs.Batched.{IsSealedOfItems};
     ghost use Rattle.chain_core.specs.Answers.{IsRefusedFor};
     ghost use Rattle.chain_core.specs.Reached.{linked_item};
@@ -22,7 +24,8 @@ impl<F: Family, H: Hasher, O: KeylessOperation> UnmerkleizedBatch<F, H, O> {
     ghost use Rattle.chain_core.specs.declared.error.Error.{Error};
     ghost use Rattle.keyless_db.specs.Batches.{MerkleizedView, IsUnmerkleizedOf};
     ghost use Rattle.keyless_db.specs.DbView.{IsHeldFor, floor_in};
-    ghost use Rattle.keyless_db.specs.Reading.{AnswersAs, batch_answer, batch_many_answer, chain_start, first_refused, floored_refusal, kept_over, kept_value, location_refusal, locations_refusal, lost, read_floor, read_states};
+    ghost use Rattle.keyless_db.specs.Reading.{AnswersAs, IsReadable, IsChainFault, pending_item};
+    ghost use Rattle.keyless_db.specs.Reading.{batch_answer, batch_many_answer, chain_start, first_refused, floored_refusal, kept_over, kept_value, location_refusal, locations_refusal, lost, read_floor, read_states};
 
     /// The floor below which the batch isn't read, where the database stands at a state at which it is: its parent
     /// decides, or else its base. It refuses with `StaleRead`.
@@ -81,12 +84,18 @@ impl<F: Family, H: Hasher, O: KeylessOperation> UnmerkleizedBatch<F, H, O> {
         ensures listed { let admits = H.Digest.Read.admits tt in V.tells → (ops list : List O) →
             IsHeldFor F.shape H.hash O.meaning H.Digest.spelling admits O.spelling ops db.now
             (present (V.state vol.old)) →
-            AllByRecursion (O.admits db.now.journal.items.codec) ops → ops ≡ take (length ops) list →
-            IsUnmerkleizedOf F.shape H.hash O.meaning O.spelling list self.now →
+            IsReadable (O.admits db.now.journal.items.codec) ops (pending_item pool.now self.now location) location →
+            ops ≡ take (length ops) list → IsUnmerkleizedOf F.shape H.hash O.meaning O.spelling list self.now →
             ((p : MerkleizedView F H.Digest O) → linked_item pool.now self.now.parent ≡ Some p →
             IsSealedOfItems F.shape H.hash O.spelling list p.tree) →
             let kept = kept_over (chain_start pool.now self.now) db.now in
             AnswersAs (λ value. value) (kept_value O.meaning (list ++ self.now.tree.items) kept location) result }
+        // What is collected, or kept by the parent's chain, is told without the volume.
+        ensures chain { (op : O) → pending_item pool.now self.now location ≡ Some op →
+            AnswersAs (λ value. value) (Ok (O.meaning.value op)) result × (vol.new ≡ vol.old) }
+        ensures fault { let items = items_of O.spelling O.admits db.now.journal.items (V.state vol.old) in
+            IfErr result
+            (IsChainFault V.tells items db.now.state.size (pending_item pool.now self.now location) location) }
         ensures reads { Reads V.tells Error.Volume (V.state vol.old) (V.state vol.new) result }
     {
         let base = self.base.size.as_u64();
@@ -124,13 +133,26 @@ impl<F: Family, H: Hasher, O: KeylessOperation> UnmerkleizedBatch<F, H, O> {
             (ops list : List O) →
             IsHeldFor F.shape H.hash O.meaning H.Digest.spelling admits O.spelling ops db.now
             (present (V.state vol.old)) →
-            AllByRecursion (O.admits db.now.journal.items.codec) ops → ops ≡ take (length ops) list →
-            IsUnmerkleizedOf F.shape H.hash O.meaning O.spelling list self.now →
+            IsReadable (O.admits db.now.journal.items.codec) ops (pending_item pool.now self.now loc) loc →
+            ops ≡ take (length ops) list → IsUnmerkleizedOf F.shape H.hash O.meaning O.spelling list self.now →
             ((p : MerkleizedView F H.Digest O) → linked_item pool.now self.now.parent ≡ Some p →
             IsSealedOfItems F.shape H.hash O.spelling list p.tree) →
             let kept = kept_over (chain_start pool.now self.now) db.now in
             let floor = read_floor pool.now self.now (floor_in O.meaning db.now) in
             AnswersAs (λ value. value) (batch_answer O.meaning (list ++ self.now.tree.items) floor kept loc) result }
+        // What is collected, or kept by the parent's chain, is told without the volume.
+        ensures chain { (op : O) → Contains (read_states pool.now self.now) db.now.state →
+            location_refusal (self.now.base.size + length self.now.tree.items)
+            (read_floor pool.now self.now (floor_in O.meaning db.now)) loc ≡ None →
+            pending_item pool.now self.now loc ≡ Some op →
+            AnswersAs (λ value. value) (Ok (O.meaning.value op)) result × (vol.new ≡ vol.old) }
+        ensures stale_only { IsErrOf result Error.StaleRead →
+            Contains (read_states pool.now self.now) db.now.state → ⊥ }
+        ensures fault { let items = items_of O.spelling O.admits db.now.journal.items (V.state vol.old) in
+            Contains (read_states pool.now self.now) db.now.state →
+            location_refusal (self.now.base.size + length self.now.tree.items)
+            (read_floor pool.now self.now (floor_in O.meaning db.now)) loc ≡ None →
+            IfErr result (IsChainFault V.tells items db.now.state.size (pending_item pool.now self.now loc) loc) }
         ensures reads { Reads V.tells Error.Volume (V.state vol.old) (V.state vol.new) result }
     {
         let floor = match self.readable(pool, db) {
@@ -160,13 +182,17 @@ impl<F: Family, H: Hasher, O: KeylessOperation> UnmerkleizedBatch<F, H, O> {
         ensures listed { let admits = H.Digest.Read.admits tt in V.tells → (ops list : List O) →
             IsHeldFor F.shape H.hash O.meaning H.Digest.spelling admits O.spelling ops db.now
             (present (V.state vol.old)) →
-            AllByRecursion (O.admits db.now.journal.items.codec) ops → ops ≡ take (length ops) list →
-            IsUnmerkleizedOf F.shape H.hash O.meaning O.spelling list self.now →
+            AllByRecursion (λ l. IsReadable (O.admits db.now.journal.items.codec) ops
+            (pending_item pool.now self.now l) l) locs.now →
+            ops ≡ take (length ops) list → IsUnmerkleizedOf F.shape H.hash O.meaning O.spelling list self.now →
             ((p : MerkleizedView F H.Digest O) → linked_item pool.now self.now.parent ≡ Some p →
             IsSealedOfItems F.shape H.hash O.spelling list p.tree) →
             let kept = kept_over (chain_start pool.now self.now) db.now in AnswersAs (λ values. values.items)
             (unless_refused (first_refused (lost kept) locs.now)
             (map (value_at O.meaning (list ++ self.now.tree.items)) locs.now)) result }
+        ensures fault { let items = items_of O.spelling O.admits db.now.journal.items (V.state vol.old) in
+            IfErr result (λ e. (l : ℕ) × Contains locs.now l
+            × IsChainFault V.tells items db.now.state.size (pending_item pool.now self.now l) l e) }
         ensures reads { Reads V.tells Error.Volume (V.state vol.old) (V.state vol.new) result }
     {
         let mut values = Vec::new(db.alloc);
@@ -206,14 +232,23 @@ impl<F: Family, H: Hasher, O: KeylessOperation> UnmerkleizedBatch<F, H, O> {
             (ops list : List O) →
             IsHeldFor F.shape H.hash O.meaning H.Digest.spelling admits O.spelling ops db.now
             (present (V.state vol.old)) →
-            AllByRecursion (O.admits db.now.journal.items.codec) ops → ops ≡ take (length ops) list →
-            IsUnmerkleizedOf F.shape H.hash O.meaning O.spelling list self.now →
+            AllByRecursion (λ l. IsReadable (O.admits db.now.journal.items.codec) ops
+            (pending_item pool.now self.now l) l) locs.now →
+            ops ≡ take (length ops) list → IsUnmerkleizedOf F.shape H.hash O.meaning O.spelling list self.now →
             ((p : MerkleizedView F H.Digest O) → linked_item pool.now self.now.parent ≡ Some p →
             IsSealedOfItems F.shape H.hash O.spelling list p.tree) →
             let kept = kept_over (chain_start pool.now self.now) db.now in
             let floor = read_floor pool.now self.now (floor_in O.meaning db.now) in
             AnswersAs (λ values. values.items)
             (batch_many_answer O.meaning (list ++ self.now.tree.items) floor kept locs.now) result }
+        ensures stale_only { IsErrOf result Error.StaleRead →
+            Contains (read_states pool.now self.now) db.now.state → ⊥ }
+        ensures fault { let items = items_of O.spelling O.admits db.now.journal.items (V.state vol.old) in
+            Contains (read_states pool.now self.now) db.now.state →
+            floored_refusal (self.now.base.size + length self.now.tree.items)
+            (read_floor pool.now self.now (floor_in O.meaning db.now)) locs.now ≡ None →
+            IfErr result (λ e. (l : ℕ) × Contains locs.now l
+            × IsChainFault V.tells items db.now.state.size (pending_item pool.now self.now l) l e) }
         ensures reads { Reads V.tells Error.Volume (V.state vol.old) (V.state vol.new) result }
     {
         let floor = match self.readable(pool, db) {

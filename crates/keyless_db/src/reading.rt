@@ -19,7 +19,7 @@ impl<F: Family, O: KeylessOperation, C: Backing<Item = O>, H: Hasher> Keyless<F,
     ghost use Rattle.chain_core.specs.Answers.{IsRefusedFor};
     ghost use Rattle.chain_core.specs.declared.error.Error.{Error};
     ghost use Rattle.keyless_db.specs.DbView.{IsHeldFor};
-    ghost use Rattle.keyless_db.specs.Reading.{AnswersAs, IsReadFault, below_start, first_refused, from_start, kept_over, kept_value, locations_refusal};
+    ghost use Rattle.keyless_db.specs.Reading.{AnswersAs, IsChainFault, IsReadFault, below_start, first_refused, from_start, kept_over, kept_value, locations_refusal};
 
     /// The value of the operation that the log has at a location; of a commit, its metadata.
     pub(crate) fn value<V: Volume>(
@@ -54,11 +54,13 @@ impl<F: Family, O: KeylessOperation, C: Backing<Item = O>, H: Hasher> Keyless<F,
         ensures listed { let admits = H.Digest.Read.admits tt in V.tells → (ops list : List O) (first : ℕ) →
             IsHeldFor F.shape H.hash O.meaning H.Digest.spelling admits O.spelling ops self.now
             (present (V.state vol.old)) →
-            AllByRecursion (O.admits self.now.journal.items.codec) ops → ops ≡ take (length ops) list →
-            location < first →
+            ((op : O) → slice_get ops location ≡ Some op → O.admits self.now.journal.items.codec op) →
+            ops ≡ take (length ops) list → location < first →
             AnswersAs (λ value. value) (kept_value O.meaning list (kept_over first self.now) location) result }
         ensures nowhere { self.now.state.size ≤ location →
             (result ≡ Err (Error.Journal (journal_error.ItemPruned location))) × (vol.new ≡ vol.old) }
+        ensures fault { let items = items_of O.spelling O.admits self.now.journal.items (V.state vol.old) in
+            IfErr result (IsChainFault V.tells items self.now.state.size None location) }
         ensures reads { Reads V.tells Error.Volume (V.state vol.old) (V.state vol.new) result }
     {
         if location >= self.state.size.as_u64() {

@@ -1,18 +1,21 @@
 //! Reads of sealed batches: of the chain, and of the database below.
-ghost use Rattle.std.specs.Prelude.{◌≡◌, ◌↔◌, ◌∷◌, ◌<◌, ◌≤◌, List, length, map, take, Some, None, Ok, Err, IsOk, IsOkUnless, Contains};
+ghost use Rattle.std.specs.Prelude.{◌≡◌, ◌↔◌, ◌∷◌, ◌<◌, ◌≤◌, ℕ, List, length, map, take, Some, None, Ok, Err, IsOk, IfErr, IsErrOf};
+ghost use Rattle.std.specs.Prelude.{IsOkUnless, Contains};
 ghost use Rattle.std.specs.List.{AllByRecursion};
 ghost use Rattle.volume_base.specs.Moments.{present};
 ghost use Rattle.volume_base.specs.Volume.{Reads};
 ghost use Rattle.volume_base.specs.declared.error.JournalError.TheVariants.{ItemPruned};
 ghost use Rattle.log_model.specs.Reads.{unless_refused, value_at};
 ghost use Rattle.log_model.specs.declared.refusal.Refusal.{Refusal};
+ghost use Rattle.journal_base.specs.Items.{items_of};
 ghost use Rattle.auth_journal.specs.Batched.{IsSealedOfItems};
 ghost use Rattle.auth_journal.specs.Kept.{kept_item};
 ghost use Rattle.chain_core.specs.Answers.{IsRefusedFor};
 ghost use Rattle.chain_core.specs.declared.error.Error.{Error};
 ghost use Rattle.keyless_db.specs.Batches.{IsMerkleizedOf};
 ghost use Rattle.keyless_db.specs.DbView.{IsHeldFor};
-ghost use Rattle.keyless_db.specs.Reading.{AnswersAs, IsInChain, batch_answer, batch_many_answer, first_refused, floored_refusal, kept_over, kept_value, location_refusal, locations_refusal, lost};
+ghost use Rattle.keyless_db.specs.Reading.{AnswersAs, IsInChain, IsReadable, IsChainFault};
+ghost use Rattle.keyless_db.specs.Reading.{batch_answer, batch_many_answer, first_refused, floored_refusal, kept_over, kept_value, location_refusal, locations_refusal, lost};
 
 use crate::locations::{check_location, check_locations_from};
 use crate::{Keyless, KeylessOperation, MerkleizedBatch};
@@ -47,7 +50,8 @@ impl<F: Family, D: Digest, O: KeylessOperation> MerkleizedBatch<F, D, O> {
         // Of a batch of a list, over a database that is held for a front of it, it is the list's.
         ensures listed { let admits = D.Read.admits tt in V.tells → (ops list : List O) →
             IsHeldFor F.shape H.hash O.meaning D.spelling admits O.spelling ops db.now (present (V.state vol.old)) →
-            AllByRecursion (O.admits db.now.journal.items.codec) ops → ops ≡ take (length ops) list →
+            IsReadable (O.admits db.now.journal.items.codec) ops (kept_item self.now.tree location) location →
+            ops ≡ take (length ops) list →
             IsSealedOfItems F.shape H.hash O.spelling list self.now.tree → location < length list →
             AnswersAs (λ value. value)
             (kept_value O.meaning list (kept_over self.now.tree.nodes.first db.now) location) result }
@@ -56,6 +60,8 @@ impl<F: Family, D: Digest, O: KeylessOperation> MerkleizedBatch<F, D, O> {
             AnswersAs (λ value. value) (Ok (O.meaning.value op)) result × (vol.new ≡ vol.old) }
         ensures nowhere { kept_item self.now.tree location ≡ None → db.now.state.size ≤ location →
             (result ≡ Err (Error.Journal (ItemPruned location))) × (vol.new ≡ vol.old) }
+        ensures fault { let items = items_of O.spelling O.admits db.now.journal.items (V.state vol.old) in
+            IfErr result (IsChainFault V.tells items db.now.state.size (kept_item self.now.tree location) location) }
         ensures reads { Reads V.tells Error.Volume (V.state vol.old) (V.state vol.new) result }
     {
         match self.tree.item(location) {
@@ -84,10 +90,21 @@ impl<F: Family, D: Digest, O: KeylessOperation> MerkleizedBatch<F, D, O> {
         // Of a batch of a list, over a database that is held for a front of it, it is the list's answer.
         ensures answer { let admits = D.Read.admits tt in V.tells → IsInChain self.now db.now → (ops list : List O) →
             IsHeldFor F.shape H.hash O.meaning D.spelling admits O.spelling ops db.now (present (V.state vol.old)) →
-            AllByRecursion (O.admits db.now.journal.items.codec) ops → ops ≡ take (length ops) list →
+            IsReadable (O.admits db.now.journal.items.codec) ops (kept_item self.now.tree loc) loc →
+            ops ≡ take (length ops) list →
             IsMerkleizedOf F.shape H.hash O.meaning O.spelling list self.now →
             let kept = kept_over self.now.tree.nodes.first db.now in
             AnswersAs (λ value. value) (batch_answer O.meaning list self.now.bounds.inactivity_floor kept loc) result }
+        // What the chain keeps is told without the volume.
+        ensures chain { (op : O) → IsInChain self.now db.now →
+            location_refusal self.now.bounds.tip.size self.now.bounds.inactivity_floor loc ≡ None →
+            kept_item self.now.tree loc ≡ Some op →
+            AnswersAs (λ value. value) (Ok (O.meaning.value op)) result × (vol.new ≡ vol.old) }
+        ensures stale_only { IsErrOf result Error.StaleRead → IsInChain self.now db.now → ⊥ }
+        ensures fault { let items = items_of O.spelling O.admits db.now.journal.items (V.state vol.old) in
+            IsInChain self.now db.now →
+            location_refusal self.now.bounds.tip.size self.now.bounds.inactivity_floor loc ≡ None →
+            IfErr result (IsChainFault V.tells items db.now.state.size (kept_item self.now.tree loc) loc) }
         ensures reads { Reads V.tells Error.Volume (V.state vol.old) (V.state vol.new) result }
     {
         match check_read(&self.bounds, db.commitment()) {
@@ -114,11 +131,15 @@ impl<F: Family, D: Digest, O: KeylessOperation> MerkleizedBatch<F, D, O> {
         O::Value: Drop,
         ensures listed { let admits = D.Read.admits tt in V.tells → (ops list : List O) →
             IsHeldFor F.shape H.hash O.meaning D.spelling admits O.spelling ops db.now (present (V.state vol.old)) →
-            AllByRecursion (O.admits db.now.journal.items.codec) ops → ops ≡ take (length ops) list →
+            AllByRecursion (λ l. IsReadable (O.admits db.now.journal.items.codec) ops (kept_item self.now.tree l) l)
+            locs.now → ops ≡ take (length ops) list →
             IsSealedOfItems F.shape H.hash O.spelling list self.now.tree → locations_refusal (length list) locs.now ≡
             None →
             let kept = kept_over self.now.tree.nodes.first db.now in AnswersAs (λ values. values.items)
             (unless_refused (first_refused (lost kept) locs.now) (map (value_at O.meaning list) locs.now)) result }
+        ensures fault { let items = items_of O.spelling O.admits db.now.journal.items (V.state vol.old) in
+            IfErr result (λ e. (l : ℕ) × Contains locs.now l
+            × IsChainFault V.tells items db.now.state.size (kept_item self.now.tree l) l e) }
         ensures reads { Reads V.tells Error.Volume (V.state vol.old) (V.state vol.new) result }
     {
         let mut values = Vec::new(db.alloc);
@@ -149,10 +170,17 @@ impl<F: Family, D: Digest, O: KeylessOperation> MerkleizedBatch<F, D, O> {
         // Of a batch of a list, over a database that is held for a front of it, it is the list's answer.
         ensures answer { let admits = D.Read.admits tt in V.tells → IsInChain self.now db.now → (ops list : List O) →
             IsHeldFor F.shape H.hash O.meaning D.spelling admits O.spelling ops db.now (present (V.state vol.old)) →
-            AllByRecursion (O.admits db.now.journal.items.codec) ops → ops ≡ take (length ops) list →
+            AllByRecursion (λ l. IsReadable (O.admits db.now.journal.items.codec) ops (kept_item self.now.tree l) l)
+            locs.now → ops ≡ take (length ops) list →
             IsMerkleizedOf F.shape H.hash O.meaning O.spelling list self.now →
             let kept = kept_over self.now.tree.nodes.first db.now in AnswersAs (λ values. values.items)
             (batch_many_answer O.meaning list self.now.bounds.inactivity_floor kept locs.now) result }
+        ensures stale_only { IsErrOf result Error.StaleRead → IsInChain self.now db.now → ⊥ }
+        ensures fault { let items = items_of O.spelling O.admits db.now.journal.items (V.state vol.old) in
+            IsInChain self.now db.now →
+            floored_refusal self.now.bounds.tip.size self.now.bounds.inactivity_floor locs.now ≡ None →
+            IfErr result (λ e. (l : ℕ) × Contains locs.now l
+            × IsChainFault V.tells items db.now.state.size (kept_item self.now.tree l) l e) }
         ensures reads { Reads V.tells Error.Volume (V.state vol.old) (V.state vol.new) result }
     {
         match check_read(&self.bounds, db.commitment()) {

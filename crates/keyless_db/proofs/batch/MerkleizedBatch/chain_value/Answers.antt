@@ -1,8 +1,11 @@
-use Rattle.std.proofs.Common.{◌≡◌, Some, None, Ok, sym, ◌∙◌, ap}
+use Rattle.std.proofs.Common.{◌≡◌, inr, Some, None, Option, Ok, sym, ◌∙◌, ap, subst}
+use Rattle.std.specs.Prelude.{IfErr}
+use Rattle.journal_base.specs.Items.{items_of}
 use Rattle.auth_journal.specs.Batched.{joined_items}
 use Rattle.auth_journal.specs.Kept.{kept_item}
 use Rattle.keyless_db.specs.Batches.{MerkleizedView}
-use Rattle.keyless_db.specs.Reading.{kept_over}
+use Rattle.keyless_db.specs.Reading.{IsChainFault, kept_over}
+use Rattle.keyless_db.proofs.FaultLemmas.{memory_fault}
 use Rattle.keyless_db.proofs.KeptLemmas.{kept_there, kept_nowhere, from_chain}
 use Rattle.keyless_db.proofs.batch.MerkleizedBatch.chain_value.Goals as goal
 
@@ -20,4 +23,17 @@ returns-in-None-clause-listed g c tells ops list held all front of within =
     let tree = c.args.self.now.tree in
     let l = c.args.location in
     let none : kept_item tree l ≡ None = ap (λ (b : MerkleizedView g.row.F.Denot g.row.D.Denot g.row.O.Denot). kept_item b.tree l) (sym c.self.view_is) ∙ sym c.in-None.ensures in
-    c.value_before.ensures.listed tells ops list tree.nodes.first held all front (kept_nowhere tree.nodes.first (joined_items tree.items) list l of.items none within)
+    c.value_before.ensures.listed tells ops list tree.nodes.first held (all none) front (kept_nowhere tree.nodes.first (joined_items tree.items) list l of.items none within)
+
+pub returns-in-Err-clause-fault : goal.returns-in-Err-clause-fault
+returns-in-Err-clause-fault g c =
+    inr (memory_fault g.V.Volume.tells (items_of g.O.Spelled.spelling g.O.Read.admits c.args.db.now.journal.items (g.V.Volume.state c.args.vol.now)) c.args.location)
+
+pub returns-in-None-clause-fault : goal.returns-in-None-clause-fault
+returns-in-None-clause-fault g c =
+    let tree = c.args.self.now.tree in
+    let l = c.args.location in
+    let size = c.args.db.now.state.size in
+    let items = items_of g.O.Spelled.spelling g.O.Read.admits c.args.db.now.journal.items (g.V.Volume.state c.args.vol.now) in
+    let none : None ≡ kept_item tree l = c.in-None.ensures ∙ ap (λ (b : MerkleizedView g.row.F.Denot g.row.D.Denot g.row.O.Denot). kept_item b.tree l) c.self.view_is in
+    subst (λ (kept : Option g.row.O.Denot). IfErr c.value_before.result (IsChainFault g.V.Volume.tells items size kept l)) none c.value_before.ensures.fault

@@ -3,9 +3,10 @@ use Rattle.std.specs.List.{AllByRecursion}
 use Rattle.volume_base.specs.Moments.{present}
 use Rattle.volume_base.proofs.ReadLemmas.{OnlyRead}
 use Rattle.auth_journal.specs.Batched.{IsSealedOfItems}
+use Rattle.auth_journal.specs.Kept.{kept_item}
 use Rattle.log_model.specs.Reads.{value_at}
 use Rattle.keyless_db.specs.DbView.{IsHeldFor}
-use Rattle.keyless_db.specs.Reading.{kept_over, locations_refusal, lost}
+use Rattle.keyless_db.specs.Reading.{IsReadable, kept_over, locations_refusal, lost}
 use Rattle.keyless_db.proofs.SeveralLemmas.{ReadSoFar}
 use Rattle.keyless_db.proofs.batch.MerkleizedBatch.chain_values.Given as goal
 
@@ -18,7 +19,7 @@ invariant-loop-i g l =
       so_far : OnlyRead g.V.Volume.tells old (g.V.Volume.state l.vol);
       listed : g.V.Volume.tells → (ops list : List g.row.O.Denot) →
           IsHeldFor s g.H.Hasher.hash m g.D.Spelled.spelling (g.D.Read.admits tt) g.O.Spelled.spelling ops l.db (present old) →
-          AllByRecursion (g.O.Read.admits l.db.journal.items.codec) ops → ops ≡ take (length ops) list →
+          AllByRecursion (λ k. IsReadable (g.O.Read.admits l.db.journal.items.codec) ops (kept_item l.self.tree k) k) l.locs → ops ≡ take (length ops) list →
           IsSealedOfItems s g.H.Hasher.hash g.O.Spelled.spelling list l.self.tree → locations_refusal (length list) l.locs ≡ None →
           ReadSoFar (lost (kept_over l.self.tree.nodes.first l.db)) (value_at m list) l.locs l.i l.values.items;
     }

@@ -1,10 +1,13 @@
-use Rattle.std.proofs.Common.{◌≡◌, ◌+◌, ◌++◌, length, Some, Option, refl, sym, ◌∙◌, ap}
-use Rattle.std.specs.Prelude.{slice_get}
+use Rattle.std.proofs.Common.{◌≡◌, inr, ℕ, ◌+◌, ◌++◌, length, Some, Option, refl, sym, ◌∙◌, ap}
+use Rattle.std.specs.Prelude.{slice_get, Contains}
 use Rattle.std.proofs.lemmas.Option.{slice_get_read}
 use Rattle.volume_base.proofs.ReadLemmas.{only_read_joins}
+use Rattle.journal_base.specs.Items.{items_of}
 use Rattle.log_model.specs.Reads.{value_at}
 use Rattle.chain_core.specs.declared.error.Error.TheVariants.{Volume, Memory}
-use Rattle.keyless_db.specs.Reading.{chain_start, kept_over, lost}
+use Rattle.keyless_db.specs.Reading.{IsChainFault, IsReadable, chain_start, kept_over, lost, pending_item}
+use Rattle.keyless_db.proofs.FaultLemmas.{contains_at, err_handed, fault_still, memory_fault}
+use Rattle.keyless_db.proofs.ReadLemmas.{all_at}
 use Rattle.keyless_db.proofs.SeveralLemmas.{fit_within, so_far_more, so_far_all, so_far_refused}
 use Rattle.keyless_db.proofs.StillLemmas.{held_still, reads_err, reads_memory}
 use Rattle.keyless_db.proofs.batch.UnmerkleizedBatch.own_values.Goals as goal
@@ -31,7 +34,7 @@ loop-i-preserved g c =
       listed = λ told ops list held all front of parents.
           let here = held_still g.F.Family.shape g.H.Hasher.hash m g.H.Digest.Spelled.spelling (g.H.Digest.Read.admits tt) g.O.Spelled.spelling ops db _ _ (c.loop-i.invariant.so_far.contents told) held in
           so_far_more (lost (kept_over (chain_start c.args.pool.now b) db)) (value_at m (list ++ b.tree.items)) locs c.loop-i.i l c.loop-i.values.items _ c.in_ok-value.value at
-          (c.loop-i.invariant.listed told ops list held all front of parents) (read.listed told ops list here all front of parents) c.in_ok-push.ensures.items;
+          (c.loop-i.invariant.listed told ops list held all front of parents) (read.listed told ops list here (all_at (λ k. IsReadable (g.O.Read.admits db.journal.items.codec) ops (pending_item c.args.pool.now b k) k) locs c.loop-i.i l all at) front of parents) c.in_ok-push.ensures.items;
     }
 
 pub returns-in_err-value-clause-listed : goal.returns-in_err-value-clause-listed
@@ -45,7 +48,7 @@ returns-in_err-value-clause-listed g c tells ops list held all front of parents 
     slice_get_read locs (length locs) c.loop-i.i c.index-locs-i.result refl c.loop-i-test.true c.index-locs-i.is ∙ ap Some (sym c.as_u64-location.ensures) in
     let here = held_still g.F.Family.shape g.H.Hasher.hash m g.H.Digest.Spelled.spelling (g.H.Digest.Read.admits tt) g.O.Spelled.spelling ops db _ _ (c.loop-i.invariant.so_far.contents tells) held in
     so_far_refused (lost (kept_over (chain_start c.args.pool.now b) db)) (value_at m (list ++ b.tree.items)) locs (λ (v : Option g.row.O-Value.Denot). v) _ c.loop-i.i l c.loop-i.values.items c.in_err-value.field-0.0
-    c.from_residual.result c.from_residual.ensures.1 at (c.loop-i.invariant.listed tells ops list held all front of parents) (c.in_err-value.ensures.listed tells ops list here all front of parents)
+    c.from_residual.result c.from_residual.ensures.1 at (c.loop-i.invariant.listed tells ops list held all front of parents) (c.in_err-value.ensures.listed tells ops list here (all_at (λ k. IsReadable (g.O.Read.admits db.journal.items.codec) ops (pending_item c.args.pool.now b k) k) locs c.loop-i.i l all at) front of parents)
 
 pub returns-in_err-value-clause-reads : goal.returns-in_err-value-clause-reads
 returns-in_err-value-clause-reads g c =
@@ -60,3 +63,31 @@ returns-clause-listed g c tells ops list held all front of parents =
     let b = c.args.self.now in
     so_far_all (lost (kept_over (chain_start c.args.pool.now b) c.args.db.now)) (value_at g.O.Logged.meaning (list ++ b.tree.items)) c.args.locs.now c.loop-i.i c.loop-i.values.items c.loop-i-test.false
     (c.loop-i.invariant.listed tells ops list held all front of parents)
+
+pub returns-in_err-value-clause-fault : goal.returns-in_err-value-clause-fault
+returns-in_err-value-clause-fault g c =
+    let tells = g.V.Volume.tells in
+    let a = g.V.Volume.state c.args.vol.now in
+    let db = c.args.db.now in
+    let locs = c.args.locs.now in
+    let l = c.as_u64-location.result in
+    let at : slice_get locs c.loop-i.i ≡ Some l =
+    slice_get_read locs (length locs) c.loop-i.i c.index-locs-i.result refl c.loop-i-test.true c.index-locs-i.is ∙ ap Some (sym c.as_u64-location.ensures) in
+    let kept = pending_item c.args.pool.now c.args.self.now in
+    let items = items_of g.O.Spelled.spelling g.O.Read.admits db.journal.items a in
+    let e = c.in_err-value.field-0.0 in
+    let fault = fault_still g.row.F.Denot tells g.O.Spelled.spelling g.O.Read.admits db.journal.items a (g.V.Volume.state c.loop-i.vol) c.loop-i.invariant.so_far.contents db.state.size (kept l) l e c.in_err-value.ensures.fault in
+    err_handed c.from_residual.result e (λ d. (k : ℕ) × Contains locs k × IsChainFault tells items db.state.size (kept k) k d) c.from_residual.ensures.1 (l, contains_at locs c.loop-i.i l at, fault)
+
+pub returns-in_err-push-clause-fault : goal.returns-in_err-push-clause-fault
+returns-in_err-push-clause-fault g c =
+    let tells = g.V.Volume.tells in
+    let db = c.args.db.now in
+    let locs = c.args.locs.now in
+    let l = c.as_u64-location.result in
+    let at : slice_get locs c.loop-i.i ≡ Some l =
+    slice_get_read locs (length locs) c.loop-i.i c.index-locs-i.result refl c.loop-i-test.true c.index-locs-i.is ∙ ap Some (sym c.as_u64-location.ensures) in
+    let kept = pending_item c.args.pool.now c.args.self.now in
+    let items = items_of g.O.Spelled.spelling g.O.Read.admits db.journal.items (g.V.Volume.state c.args.vol.now) in
+    err_handed c.from_residual-in_err-push.result Memory (λ d. (k : ℕ) × Contains locs k × IsChainFault tells items db.state.size (kept k) k d) c.from_residual-in_err-push.ensures.1
+    (l, contains_at locs c.loop-i.i l at, inr (memory_fault tells items l))

@@ -7,7 +7,7 @@ use Rattle.log_model.specs.Reads.{value_at}
 use Rattle.chain_core.specs.Reached.{linked_item}
 use Rattle.keyless_db.specs.Batches.{MerkleizedView, IsUnmerkleizedOf}
 use Rattle.keyless_db.specs.DbView.{IsHeldFor}
-use Rattle.keyless_db.specs.Reading.{chain_start, kept_over, lost}
+use Rattle.keyless_db.specs.Reading.{IsReadable, chain_start, kept_over, lost, pending_item}
 use Rattle.keyless_db.proofs.SeveralLemmas.{ReadSoFar}
 use Rattle.keyless_db.proofs.batch.UnmerkleizedBatch.own_values.Given as goal
 
@@ -21,7 +21,7 @@ invariant-loop-i g l =
       so_far : OnlyRead g.V.Volume.tells old (g.V.Volume.state l.vol);
       listed : g.V.Volume.tells → (ops list : List g.row.O.Denot) →
           IsHeldFor s h m g.H.Digest.Spelled.spelling (g.H.Digest.Read.admits tt) g.O.Spelled.spelling ops l.db (present old) →
-          AllByRecursion (g.O.Read.admits l.db.journal.items.codec) ops → ops ≡ take (length ops) list →
+          AllByRecursion (λ k. IsReadable (g.O.Read.admits l.db.journal.items.codec) ops (pending_item l.pool l.self k) k) l.locs → ops ≡ take (length ops) list →
           IsUnmerkleizedOf s h m g.O.Spelled.spelling list l.self →
           ((p : MerkleizedView g.row.F.Denot g.row.H-Digest.Denot g.row.O.Denot) → linked_item l.pool l.self.parent ≡ Some p → IsSealedOfItems s h g.O.Spelled.spelling list p.tree) →
           ReadSoFar (lost (kept_over (chain_start l.pool l.self) l.db)) (value_at m (list ++ l.self.tree.items)) l.locs l.i l.values.items;
