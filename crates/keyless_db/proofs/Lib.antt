@@ -2,6 +2,7 @@ pub mod SealLemmas
 pub mod DbLemmas
 pub mod MadeLemmas
 pub mod LiftLemmas
+pub mod LawLemmas
 pub mod FaultLemmas
 pub mod HeldLemmas
 pub mod ApplyLemmas

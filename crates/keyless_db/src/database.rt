@@ -34,9 +34,10 @@ impl<F: Family, O: KeylessOperation, C: Backing<Item = O>, H: Hasher> Keyless<F,
     ghost use Rattle.std.specs.Prelude.{IfOk, OnOk, OnErr, IsOkUnless, Contains};
     ghost use Rattle.volume_base.specs.Moments.{Image};
     ghost use Rattle.tree_core.specs.Batches.{BeginsAt};
+    ghost use Rattle.chain_core.specs.MarkedPool.{AreMarked};
     ghost use Rattle.chain_core.specs.Reached.{item_at};
     ghost use Rattle.chain_core.specs.Slots.{IsAlive};
-    ghost use Rattle.keyless_db.specs.Batches.{MerkleizedView, IsUnmerkleizedOf, IsMerkleizedOf, HasMarks, own_items};
+    ghost use Rattle.keyless_db.specs.Batches.{MerkleizedView, IsUnmerkleizedOf, IsMerkleizedOf, HasMarks, bounds_of};
     ghost use Rattle.keyless_db.specs.DbView.{IsHeldFor, floor_in, snapshot_of};
 
     /// The root of the applied list.
@@ -153,6 +154,9 @@ impl<F: Family, O: KeylessOperation, C: Backing<Item = O>, H: Hasher> Keyless<F,
         ensures stands { (b : MerkleizedView F H.Digest O) → item_at pool.now id ≡ Some b →
             (IsOk result ↔ Contains (b.bounds.db ∷ b.bounds.ancestors) self.now.state) }
         ensures stale { IsOkUnless result Error.StaleBatch }
+        // Where each batch of the pool has its marks, one isn't applied at its own tip, unless that is its boundary.
+        ensures own_tip { (b : MerkleizedView F H.Digest O) → item_at pool.now id ≡ Some b →
+            AreMarked bounds_of pool.now → self.now.state ≡ b.bounds.tip → IsOk result → b.bounds.db ≡ b.bounds.tip }
     {
         pool.item(id).bounds.validate_apply_to(self.commitment())
     }
