@@ -33,6 +33,7 @@ impl<F: Family, O: KeylessOperation, C: Backing<Item = O>, H: Hasher> Keyless<F,
     ghost use Rattle.std.specs.Prelude.{◌≡◌, ◌↔◌, ◌<◌, ◌≤◌, ◌^◌, ◌-◌, [], ◌∷◌, ◌++◌, List, length, Some, None, IsOk};
     ghost use Rattle.std.specs.Prelude.{IfOk, OnOk, OnErr, IsOkUnless, Contains};
     ghost use Rattle.volume_base.specs.Moments.{Image};
+    ghost use Rattle.tree_core.specs.Applied.{FitsTree};
     ghost use Rattle.tree_core.specs.Batches.{BeginsAt};
     ghost use Rattle.chain_core.specs.MarkedPool.{AreMarked};
     ghost use Rattle.chain_core.specs.Reached.{item_at};
@@ -129,6 +130,9 @@ impl<F: Family, O: KeylessOperation, C: Backing<Item = O>, H: Hasher> Keyless<F,
             IsHeldFor F.shape H.hash O.meaning H.Digest.spelling (H.Digest.Read.admits tt) O.spelling ops
             self.now image →
             IsMerkleizedOf F.shape H.hash O.meaning O.spelling ops b)) }
+        // Whatever the volume holds, its part of the tree fits behind the database's.
+        ensures fits { IfOk result (λ id. (b : MerkleizedView F H.Digest O) → item_at pool.new id ≡ Some b →
+            FitsTree F.shape self.now.journal.tree.tree b.tree.nodes 0) }
         ensures err { OnErr result (pool.new ≡ pool.old) }
         ensures memory { IsOkUnless result Error.Memory }
     {

@@ -37,6 +37,9 @@ impl<F: Family, O: KeylessOperation, C: Backing<Item = O>, H: Hasher> Keyless<F,
             (result ≡ Err (Error.PruneBeyondMinRequired loc (floor_in O.meaning self))) × (vol.new ≡ vol.old) }
         ensures refused_only { (location floor : ℕ) → IsErrOf result (Error.PruneBeyondMinRequired location floor) →
             floor_in O.meaning self < loc }
+        // Where the log never had an operation nothing is done.
+        ensures empty { self.journal.failed ≡ false → loc ≤ floor_in O.meaning self → self.journal.items.end ≡ 0 →
+            (result ≡ Ok self) × (vol.new ≡ vol.old) }
         ensures same { IfOk result (SameState self) }
         ensures below { OnOk result (loc ≤ floor_in O.meaning self) }
         ensures moved { IfOk result (λ d. 0 < self.journal.items.end → IsPrunedTo self.journal d.journal) }
@@ -58,6 +61,8 @@ impl<F: Family, O: KeylessOperation, C: Backing<Item = O>, H: Hasher> Keyless<F,
             d.journal.tree.log.start ≡ max self.journal.tree.log.start point) }
         ensures pins { let metadata = self.journal.tree.metadata in OnOk result (V.tells →
             KeepsPins ((V.state vol.old).map metadata) ((V.state vol.new).map metadata)) }
+        ensures log { IfOk result (λ d. 0 < self.journal.items.end → V.tells →
+            IsHeld d.journal.items (V.state vol.new)) }
         ensures durable { OnOk result (0 < self.journal.items.end → V.tells →
             IsDurable self.journal.items (V.state vol.new)) }
         // Of any database, whatever the volume holds: the place is where the log of operations begins then.

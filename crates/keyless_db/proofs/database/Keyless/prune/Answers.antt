@@ -167,3 +167,9 @@ returns-in-Err-clause-errors g c le sound =
           IsFromTree (IsJournalUnpruned g.F.Family.shape g.V.Volume.tells x.tree (items_of g.H.Digest.Spelled.spelling g.H.Digest.Read.admits x.tree.log b) (log_of x.items b).start) c.in-Err.error) same
           c.in-Err.ensures.errors,
     )
+
+pub returns-in-Ok-clause-log : goal.returns-in-Ok-clause-log
+returns-in-Ok-clause-log g c =
+    let b = g.V.Volume.state c.prune.new.vol in
+    let same : c.self.inside.journal ≡ c.args.self.journal = ap (λ (d : DbView g.row.F.Denot g.row.H-Digest.Denot g.row.O.Denot g.row.O-Cfg.Denot). d.journal) c.self.view_is in
+    subst (λ (x : Joined g.row.H-Digest.Denot g.row.O-Cfg.Denot). 0 < x.items.end → g.V.Volume.tells → IsHeld c.in-Ok.journal.items b) same c.in-Ok.ensures.held
