@@ -4,6 +4,7 @@ pub mod MadeLemmas
 pub mod LiftLemmas
 pub mod LawLemmas
 pub mod FaultLemmas
+pub mod KeptReadLemmas
 pub mod HeldLemmas
 pub mod ApplyLemmas
 pub mod BeginLemmas

@@ -162,6 +162,11 @@ module _ {Op V : Type 0} (m : Meaning Op V) where
   abbrev pub batch_answer : List Op → ℕ → Kept → ℕ → Result (Option V) Refusal
   batch_answer list floor k l = unless_refused (or_else (read_refusal list floor refusal.BelowInactivityFloor l) (lost k l)) (value_at m list l)
 
+  -- At each of these locations whose operation a chain keeps, the value is that of the operation.
+  abbrev pub AreKeptValues : (ℕ → Option Op) → List ℕ → List (Option V) → Type 0
+  AreKeptValues kept ls values =
+      (i l : ℕ) (op : Op) → slice_get ls i ≡ Some l → kept l ≡ Some op → slice_get values i ≡ Some (m.value op)
+
   -- The values at several locations.
   abbrev pub batch_many_answer : List Op → ℕ → Kept → List ℕ → Result (List (Option V)) Refusal
   batch_many_answer list floor k ls =

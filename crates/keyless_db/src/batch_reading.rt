@@ -9,7 +9,7 @@ use volume_base::Volume;
 
 impl<F: Family, H: Hasher, O: KeylessOperation> UnmerkleizedBatch<F, H, O> {
     ghost use Rattle.std.specs.Prelude.{◌≡◌, ◌↔◌, ◌+◌, ◌<◌, ◌++◌, ℕ, List, length, map, take, slice_get, Some, None, Ok, Err, IsOk};
-    ghost use Rattle.std.specs.Prelude.{IfOk, IfErr, IsErrOf, IsOkUnless, Contains};
+    ghost use Rattle.std.specs.Prelude.{IfOk, IfErr, IsErrOf, IsOkUnless, IsSome, Contains};
     ghost use Rattle.std.specs.List.{AllByRecursion};
     ghost use Rattle.std.specs.Option.{ForSome};
     ghost use Rattle.volume_base.specs.Moments.{present};
@@ -24,7 +24,7 @@ impl<F: Family, H: Hasher, O: KeylessOperation> UnmerkleizedBatch<F, H, O> {
     ghost use Rattle.chain_core.specs.declared.error.Error.{Error};
     ghost use Rattle.keyless_db.specs.Batches.{MerkleizedView, IsUnmerkleizedOf};
     ghost use Rattle.keyless_db.specs.DbView.{IsHeldFor, floor_in};
-    ghost use Rattle.keyless_db.specs.Reading.{AnswersAs, IsReadable, IsChainFault, pending_item};
+    ghost use Rattle.keyless_db.specs.Reading.{AnswersAs, AreKeptValues, IsReadable, IsChainFault, pending_item};
     ghost use Rattle.keyless_db.specs.Reading.{batch_answer, batch_many_answer, chain_start, first_refused, floored_refusal, kept_over, kept_value, location_refusal, locations_refusal, lost, read_floor, read_states};
 
     /// The floor below which the batch isn't read, where the database stands at a state at which it is: its parent
@@ -190,6 +190,8 @@ impl<F: Family, H: Hasher, O: KeylessOperation> UnmerkleizedBatch<F, H, O> {
             let kept = kept_over (chain_start pool.now self.now) db.now in AnswersAs (λ values. values.items)
             (unless_refused (first_refused (lost kept) locs.now)
             (map (value_at O.meaning (list ++ self.now.tree.items)) locs.now)) result }
+        ensures kept { IfOk result (λ values. AreKeptValues O.meaning (pending_item pool.now self.now) locs.now values.items) }
+        ensures unread { AllByRecursion (λ l. IsSome (pending_item pool.now self.now l)) locs.now → vol.new ≡ vol.old }
         ensures fault { let items = items_of O.spelling O.admits db.now.journal.items (V.state vol.old) in
             IfErr result (λ e. (l : ℕ) × Contains locs.now l
             × IsChainFault V.tells items db.now.state.size (pending_item pool.now self.now l) l e) }
@@ -241,6 +243,10 @@ impl<F: Family, H: Hasher, O: KeylessOperation> UnmerkleizedBatch<F, H, O> {
             let floor = read_floor pool.now self.now (floor_in O.meaning db.now) in
             AnswersAs (λ values. values.items)
             (batch_many_answer O.meaning (list ++ self.now.tree.items) floor kept locs.now) result }
+        // What is collected, or kept by the parent's chain, is told by it, and where all is the volume isn't called.
+        ensures kept { IfOk result (λ values.
+            AreKeptValues O.meaning (pending_item pool.now self.now) locs.now values.items) }
+        ensures unread { AllByRecursion (λ l. IsSome (pending_item pool.now self.now l)) locs.now → vol.new ≡ vol.old }
         ensures stale_only { IsErrOf result Error.StaleRead →
             Contains (read_states pool.now self.now) db.now.state → ⊥ }
         ensures fault { let items = items_of O.spelling O.admits db.now.journal.items (V.state vol.old) in

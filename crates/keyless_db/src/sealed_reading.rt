@@ -1,6 +1,6 @@
 //! Reads of sealed batches: of the chain, and of the database below.
-ghost use Rattle.std.specs.Prelude.{◌≡◌, ◌↔◌, ◌∷◌, ◌<◌, ◌≤◌, ℕ, List, length, map, take, Some, None, Ok, Err, IsOk, IfErr, IsErrOf};
-ghost use Rattle.std.specs.Prelude.{IsOkUnless, Contains};
+ghost use Rattle.std.specs.Prelude.{◌≡◌, ◌↔◌, ◌∷◌, ◌<◌, ◌≤◌, ℕ, List, length, map, take, Some, None, Ok, Err, IsOk, IfOk, IfErr};
+ghost use Rattle.std.specs.Prelude.{IsErrOf, IsOkUnless, IsSome, Contains};
 ghost use Rattle.std.specs.List.{AllByRecursion};
 ghost use Rattle.volume_base.specs.Moments.{present};
 ghost use Rattle.volume_base.specs.Volume.{Reads};
@@ -14,7 +14,7 @@ ghost use Rattle.chain_core.specs.Answers.{IsRefusedFor};
 ghost use Rattle.chain_core.specs.declared.error.Error.{Error};
 ghost use Rattle.keyless_db.specs.Batches.{IsMerkleizedOf};
 ghost use Rattle.keyless_db.specs.DbView.{IsHeldFor};
-ghost use Rattle.keyless_db.specs.Reading.{AnswersAs, IsInChain, IsReadable, IsChainFault};
+ghost use Rattle.keyless_db.specs.Reading.{AnswersAs, AreKeptValues, IsInChain, IsReadable, IsChainFault};
 ghost use Rattle.keyless_db.specs.Reading.{batch_answer, batch_many_answer, first_refused, floored_refusal, kept_over, kept_value, location_refusal, locations_refusal, lost};
 
 use crate::locations::{check_location, check_locations_from};
@@ -137,6 +137,8 @@ impl<F: Family, D: Digest, O: KeylessOperation> MerkleizedBatch<F, D, O> {
             None →
             let kept = kept_over self.now.tree.nodes.first db.now in AnswersAs (λ values. values.items)
             (unless_refused (first_refused (lost kept) locs.now) (map (value_at O.meaning list) locs.now)) result }
+        ensures kept { IfOk result (λ values. AreKeptValues O.meaning (kept_item self.now.tree) locs.now values.items) }
+        ensures unread { AllByRecursion (λ l. IsSome (kept_item self.now.tree l)) locs.now → vol.new ≡ vol.old }
         ensures fault { let items = items_of O.spelling O.admits db.now.journal.items (V.state vol.old) in
             IfErr result (λ e. (l : ℕ) × Contains locs.now l
             × IsChainFault V.tells items db.now.state.size (kept_item self.now.tree l) l e) }
@@ -175,6 +177,9 @@ impl<F: Family, D: Digest, O: KeylessOperation> MerkleizedBatch<F, D, O> {
             IsMerkleizedOf F.shape H.hash O.meaning O.spelling list self.now →
             let kept = kept_over self.now.tree.nodes.first db.now in AnswersAs (λ values. values.items)
             (batch_many_answer O.meaning list self.now.bounds.inactivity_floor kept locs.now) result }
+        // What the chain keeps is told by it, and where it keeps all the volume isn't called.
+        ensures kept { IfOk result (λ values. AreKeptValues O.meaning (kept_item self.now.tree) locs.now values.items) }
+        ensures unread { AllByRecursion (λ l. IsSome (kept_item self.now.tree l)) locs.now → vol.new ≡ vol.old }
         ensures stale_only { IsErrOf result Error.StaleRead → IsInChain self.now db.now → ⊥ }
         ensures fault { let items = items_of O.spelling O.admits db.now.journal.items (V.state vol.old) in
             IsInChain self.now db.now →

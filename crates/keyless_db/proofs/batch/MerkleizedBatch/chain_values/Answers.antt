@@ -1,5 +1,5 @@
 use Rattle.std.proofs.Common.{◌≡◌, ℕ, inr, length, Some, Option, refl, sym, ◌∙◌, ap}
-use Rattle.std.specs.Prelude.{slice_get, Contains}
+use Rattle.std.specs.Prelude.{slice_get, Contains, IsSome}
 use Rattle.std.proofs.lemmas.Option.{slice_get_read}
 use Rattle.volume_base.proofs.ReadLemmas.{only_read_joins}
 use Rattle.journal_base.specs.Items.{items_of}
@@ -8,6 +8,7 @@ use Rattle.log_model.specs.Reads.{value_at}
 use Rattle.chain_core.specs.declared.error.Error.TheVariants.{Volume, Memory}
 use Rattle.keyless_db.specs.Reading.{IsChainFault, IsReadable, kept_over, lost}
 use Rattle.keyless_db.proofs.FaultLemmas.{contains_at, err_handed, fault_still, memory_fault}
+use Rattle.keyless_db.proofs.KeptReadLemmas.{some_of, kept_more, kept_all}
 use Rattle.keyless_db.proofs.ReadLemmas.{all_at}
 use Rattle.keyless_db.proofs.SeveralLemmas.{fit_within, so_far_more, so_far_all, so_far_refused}
 use Rattle.keyless_db.proofs.StillLemmas.{held_still, reads_err, reads_memory}
@@ -24,6 +25,10 @@ loop-i-preserved g c =
     slice_get_read locs (length locs) c.loop-i.i c.index-locs-i.result refl c.loop-i-test.true c.index-locs-i.is ∙ ap Some (sym c.as_u64-location.ensures) in
     record {
       so_far = only_read_joins _ _ _ _ _ _ c.loop-i.invariant.so_far read.reads;
+      kept = kept_more m (kept_item c.args.self.now.tree) locs c.loop-i.i l c.loop-i.values.items _ c.in_ok-value.value at c.loop-i.invariant.kept (λ op there. let same = (read.chain op there).0 in cc) c.in_ok-push.ensures.items;
+      unread = λ all.
+          let there = some_of (kept_item c.args.self.now.tree l) (all_at (λ n. IsSome (kept_item c.args.self.now.tree n)) locs c.loop-i.i l all at) in
+          (read.chain there.0 there.1).1 ∙ c.loop-i.invariant.unread all;
       listed = λ told ops list held all front of fit.
           let here = held_still g.F.Family.shape g.H.Hasher.hash m g.D.Spelled.spelling (g.D.Read.admits tt) g.O.Spelled.spelling ops db _ _ (c.loop-i.invariant.so_far.contents told) held in
           so_far_more (lost (kept_over c.args.self.now.tree.nodes.first db)) (value_at m list) locs c.loop-i.i l c.loop-i.values.items _ c.in_ok-value.value at
@@ -82,3 +87,24 @@ returns-in_err-push-clause-fault g c =
     let items = items_of g.O.Spelled.spelling g.O.Read.admits db.journal.items (g.V.Volume.state c.args.vol.now) in
     err_handed c.from_residual-in_err-push.result Memory (λ d. (k : ℕ) × Contains locs k × IsChainFault tells items db.state.size (kept k) k d) c.from_residual-in_err-push.ensures.1
     (l, contains_at locs c.loop-i.i l at, inr (memory_fault tells items l))
+
+pub returns-in_err-value-clause-unread : goal.returns-in_err-value-clause-unread
+returns-in_err-value-clause-unread g c all =
+    let locs = c.args.locs.now in
+    let l = c.as_u64-location.result in
+    let at : slice_get locs c.loop-i.i ≡ Some l =
+    slice_get_read locs (length locs) c.loop-i.i c.index-locs-i.result refl c.loop-i-test.true c.index-locs-i.is ∙ ap Some (sym c.as_u64-location.ensures) in
+    let there = some_of (kept_item c.args.self.now.tree l) (all_at (λ n. IsSome (kept_item c.args.self.now.tree n)) locs c.loop-i.i l all at) in
+    (c.in_err-value.ensures.chain there.0 there.1).1 ∙ c.loop-i.invariant.unread all
+
+pub returns-in_err-push-clause-unread : goal.returns-in_err-push-clause-unread
+returns-in_err-push-clause-unread g c all =
+    let locs = c.args.locs.now in
+    let l = c.as_u64-location.result in
+    let at : slice_get locs c.loop-i.i ≡ Some l =
+    slice_get_read locs (length locs) c.loop-i.i c.index-locs-i.result refl c.loop-i-test.true c.index-locs-i.is ∙ ap Some (sym c.as_u64-location.ensures) in
+    let there = some_of (kept_item c.args.self.now.tree l) (all_at (λ n. IsSome (kept_item c.args.self.now.tree n)) locs c.loop-i.i l all at) in
+    (c.in_ok-value.ensures.chain there.0 there.1).1 ∙ c.loop-i.invariant.unread all
+
+pub returns-clause-kept : goal.returns-clause-kept
+returns-clause-kept g c = kept_all g.O.Logged.meaning (kept_item c.args.self.now.tree) c.args.locs.now c.loop-i.i c.loop-i.values.items c.loop-i-test.false c.loop-i.invariant.kept

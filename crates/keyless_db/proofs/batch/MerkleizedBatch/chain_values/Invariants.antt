@@ -1,4 +1,5 @@
 use Rattle.std.proofs.Common.{◌≡◌, None, List, length, take}
+use Rattle.std.specs.Prelude.{IsSome}
 use Rattle.std.specs.List.{AllByRecursion}
 use Rattle.volume_base.specs.Moments.{present}
 use Rattle.volume_base.proofs.ReadLemmas.{OnlyRead}
@@ -7,6 +8,7 @@ use Rattle.auth_journal.specs.Kept.{kept_item}
 use Rattle.log_model.specs.Reads.{value_at}
 use Rattle.keyless_db.specs.DbView.{IsHeldFor}
 use Rattle.keyless_db.specs.Reading.{IsReadable, kept_over, locations_refusal, lost}
+use Rattle.keyless_db.proofs.KeptReadLemmas.{KeptSoFar}
 use Rattle.keyless_db.proofs.SeveralLemmas.{ReadSoFar}
 use Rattle.keyless_db.proofs.batch.MerkleizedBatch.chain_values.Given as goal
 
@@ -17,6 +19,8 @@ invariant-loop-i g l =
     let m = g.O.Logged.meaning in
     record {
       so_far : OnlyRead g.V.Volume.tells old (g.V.Volume.state l.vol);
+      kept : KeptSoFar m (kept_item l.self.tree) l.locs l.i l.values.items;
+      unread : AllByRecursion (λ k. IsSome (kept_item l.self.tree k)) l.locs → l.vol ≡ l.initial.vol;
       listed : g.V.Volume.tells → (ops list : List g.row.O.Denot) →
           IsHeldFor s g.H.Hasher.hash m g.D.Spelled.spelling (g.D.Read.admits tt) g.O.Spelled.spelling ops l.db (present old) →
           AllByRecursion (λ k. IsReadable (g.O.Read.admits l.db.journal.items.codec) ops (kept_item l.self.tree k) k) l.locs → ops ≡ take (length ops) list →

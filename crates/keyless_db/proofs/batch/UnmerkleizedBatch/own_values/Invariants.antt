@@ -1,4 +1,5 @@
 use Rattle.std.proofs.Common.{◌≡◌, ◌++◌, Some, List, length, take}
+use Rattle.std.specs.Prelude.{IsSome}
 use Rattle.std.specs.List.{AllByRecursion}
 use Rattle.volume_base.specs.Moments.{present}
 use Rattle.volume_base.proofs.ReadLemmas.{OnlyRead}
@@ -8,6 +9,7 @@ use Rattle.chain_core.specs.Reached.{linked_item}
 use Rattle.keyless_db.specs.Batches.{MerkleizedView, IsUnmerkleizedOf}
 use Rattle.keyless_db.specs.DbView.{IsHeldFor}
 use Rattle.keyless_db.specs.Reading.{IsReadable, chain_start, kept_over, lost, pending_item}
+use Rattle.keyless_db.proofs.KeptReadLemmas.{KeptSoFar}
 use Rattle.keyless_db.proofs.SeveralLemmas.{ReadSoFar}
 use Rattle.keyless_db.proofs.batch.UnmerkleizedBatch.own_values.Given as goal
 
@@ -19,6 +21,8 @@ invariant-loop-i g l =
     let m = g.O.Logged.meaning in
     record {
       so_far : OnlyRead g.V.Volume.tells old (g.V.Volume.state l.vol);
+      kept : KeptSoFar m (pending_item l.pool l.self) l.locs l.i l.values.items;
+      unread : AllByRecursion (λ k. IsSome (pending_item l.pool l.self k)) l.locs → l.vol ≡ l.initial.vol;
       listed : g.V.Volume.tells → (ops list : List g.row.O.Denot) →
           IsHeldFor s h m g.H.Digest.Spelled.spelling (g.H.Digest.Read.admits tt) g.O.Spelled.spelling ops l.db (present old) →
           AllByRecursion (λ k. IsReadable (g.O.Read.admits l.db.journal.items.codec) ops (pending_item l.pool l.self k) k) l.locs → ops ≡ take (length ops) list →
