@@ -5,7 +5,7 @@ use Rattle.volume_base.specs.Log.{end_of}
 use Rattle.volume_base.specs.declared.error.JournalError.{JournalError}
 use Rattle.volume_base.specs.declared.error.JournalError.TheVariants.{ItemPruned, ItemOutOfRange, Corruption}
 use Rattle.journal_base.specs.Answers.{IsOfRead}
-use Rattle.journal_base.specs.Items.{Items, IsCorrupt}
+use Rattle.journal_base.specs.Items.{Items, Holds, IsCorrupt}
 use Rattle.tree_store.specs.declared.error.Error as tree_error
 use Rattle.auth_journal.specs.Kept.{kept_item}
 use Rattle.log_model.specs.Meaning.{Meaning}
@@ -161,6 +161,14 @@ module _ {Op V : Type 0} (m : Meaning Op V) where
   -- The same, where the location is in the list, and isn't below this floor.
   abbrev pub batch_answer : List Op → ℕ → Kept → ℕ → Result (Option V) Refusal
   batch_answer list floor k l = unless_refused (or_else (read_refusal list floor refusal.BelowInactivityFloor l) (lost k l)) (value_at m list l)
+
+  -- The value is that of an operation that may be read, and stands at this location.
+  abbrev pub IsReadAt : Items Op → ℕ → Option V → Type 0
+  IsReadAt items l value = (op : Op) × Holds items l op × items.admits op × (value ≡ m.value op)
+
+  -- Where the chain keeps no operation at a location, the value is that of one that a database of so many has there.
+  abbrev pub IsReadBelow : Type 0 → Items Op → ℕ → Option Op → ℕ → Option V → Type 0
+  IsReadBelow tells items size kept l value = kept ≡ None → (l < size) × (tells → IsReadAt items l value)
 
   -- At each of these locations whose operation a chain keeps, the value is that of the operation.
   abbrev pub AreKeptValues : (ℕ → Option Op) → List ℕ → List (Option V) → Type 0

@@ -24,7 +24,7 @@ impl<F: Family, H: Hasher, O: KeylessOperation> UnmerkleizedBatch<F, H, O> {
     ghost use Rattle.chain_core.specs.declared.error.Error.{Error};
     ghost use Rattle.keyless_db.specs.Batches.{MerkleizedView, IsUnmerkleizedOf};
     ghost use Rattle.keyless_db.specs.DbView.{IsHeldFor, floor_in};
-    ghost use Rattle.keyless_db.specs.Reading.{AnswersAs, AreKeptValues, IsReadable, IsChainFault, pending_item};
+    ghost use Rattle.keyless_db.specs.Reading.{AnswersAs, AreKeptValues, IsReadable, IsReadBelow, IsChainFault, pending_item};
     ghost use Rattle.keyless_db.specs.Reading.{batch_answer, batch_many_answer, chain_start, first_refused, floored_refusal, kept_over, kept_value, location_refusal, locations_refusal, lost, read_floor, read_states};
 
     /// The floor below which the batch isn't read, where the database stands at a state at which it is: its parent
@@ -93,6 +93,9 @@ impl<F: Family, H: Hasher, O: KeylessOperation> UnmerkleizedBatch<F, H, O> {
         // What is collected, or kept by the parent's chain, is told without the volume.
         ensures chain { (op : O) → pending_item pool.now self.now location ≡ Some op →
             AnswersAs (λ value. value) (Ok (O.meaning.value op)) result × (vol.new ≡ vol.old) }
+        ensures told { let items = items_of O.spelling O.admits db.now.journal.items (V.state vol.old) in
+            IfOk result (IsReadBelow O.meaning V.tells items db.now.state.size
+            (pending_item pool.now self.now location) location) }
         ensures fault { let items = items_of O.spelling O.admits db.now.journal.items (V.state vol.old) in
             IfErr result
             (IsChainFault V.tells items db.now.state.size (pending_item pool.now self.now location) location) }
@@ -146,6 +149,10 @@ impl<F: Family, H: Hasher, O: KeylessOperation> UnmerkleizedBatch<F, H, O> {
             (read_floor pool.now self.now (floor_in O.meaning db.now)) loc ≡ None →
             pending_item pool.now self.now loc ≡ Some op →
             AnswersAs (λ value. value) (Ok (O.meaning.value op)) result × (vol.new ≡ vol.old) }
+        // Of any contents, any other is that of an operation that the database has there.
+        ensures told { let items = items_of O.spelling O.admits db.now.journal.items (V.state vol.old) in
+            IfOk result
+            (IsReadBelow O.meaning V.tells items db.now.state.size (pending_item pool.now self.now loc) loc) }
         ensures stale_only { IsErrOf result Error.StaleRead →
             Contains (read_states pool.now self.now) db.now.state → ⊥ }
         ensures fault { let items = items_of O.spelling O.admits db.now.journal.items (V.state vol.old) in

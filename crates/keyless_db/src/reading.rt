@@ -7,7 +7,7 @@ use tree_core::{Family, Hasher, Location};
 use volume_base::{JournalError, Volume};
 
 impl<F: Family, O: KeylessOperation, C: Backing<Item = O>, H: Hasher> Keyless<F, O, C, H> {
-    ghost use Rattle.std.specs.Prelude.{◌≡◌, ◌⊎◌, ℕ, ◌<◌, ◌≤◌, List, length, map, take, Some, None, slice_get, Err, IfErr};
+    ghost use Rattle.std.specs.Prelude.{◌≡◌, ◌⊎◌, ℕ, ◌<◌, ◌≤◌, List, length, map, take, Some, None, slice_get, Err, IfOk, IfErr};
     ghost use Rattle.std.specs.List.{AllByRecursion};
     ghost use Rattle.journal_base.specs.Items.{items_of};
     ghost use Rattle.volume_base.specs.Moments.{present};
@@ -19,7 +19,7 @@ impl<F: Family, O: KeylessOperation, C: Backing<Item = O>, H: Hasher> Keyless<F,
     ghost use Rattle.chain_core.specs.Answers.{IsRefusedFor};
     ghost use Rattle.chain_core.specs.declared.error.Error.{Error};
     ghost use Rattle.keyless_db.specs.DbView.{IsHeldFor};
-    ghost use Rattle.keyless_db.specs.Reading.{AnswersAs, IsChainFault, IsReadFault, below_start, first_refused, from_start, kept_over, kept_value, locations_refusal};
+    ghost use Rattle.keyless_db.specs.Reading.{AnswersAs, IsChainFault, IsReadAt, IsReadFault, below_start, first_refused, from_start, kept_over, kept_value, locations_refusal};
 
     /// The value of the operation that the log has at a location; of a commit, its metadata.
     pub(crate) fn value<V: Volume>(
@@ -33,6 +33,9 @@ impl<F: Family, O: KeylessOperation, C: Backing<Item = O>, H: Hasher> Keyless<F,
             (present (V.state vol.old)) →
             slice_get ops location ≡ Some op → O.admits self.now.journal.items.codec op →
             AnswersAs (λ value. value) (from_start self.now.journal.items.start location (O.meaning.value op)) result }
+        // Of any contents it is that of an operation that stands there.
+        ensures told { let items = items_of O.spelling O.admits self.now.journal.items (V.state vol.old) in
+            IfOk result (λ value. V.tells → IsReadAt O.meaning items location value) }
         ensures fault { let items = items_of O.spelling O.admits self.now.journal.items (V.state vol.old) in
             IfErr result (IsReadFault V.tells items location) }
         ensures reads { Reads V.tells Error.Volume (V.state vol.old) (V.state vol.new) result }
@@ -59,6 +62,9 @@ impl<F: Family, O: KeylessOperation, C: Backing<Item = O>, H: Hasher> Keyless<F,
             AnswersAs (λ value. value) (kept_value O.meaning list (kept_over first self.now) location) result }
         ensures nowhere { self.now.state.size ≤ location →
             (result ≡ Err (Error.Journal (journal_error.ItemPruned location))) × (vol.new ≡ vol.old) }
+        ensures told { let items = items_of O.spelling O.admits self.now.journal.items (V.state vol.old) in
+            IfOk result (λ value. (location < self.now.state.size)
+            × (V.tells → IsReadAt O.meaning items location value)) }
         ensures fault { let items = items_of O.spelling O.admits self.now.journal.items (V.state vol.old) in
             IfErr result (IsChainFault V.tells items self.now.state.size None location) }
         ensures reads { Reads V.tells Error.Volume (V.state vol.old) (V.state vol.new) result }

@@ -14,7 +14,7 @@ ghost use Rattle.chain_core.specs.Answers.{IsRefusedFor};
 ghost use Rattle.chain_core.specs.declared.error.Error.{Error};
 ghost use Rattle.keyless_db.specs.Batches.{IsMerkleizedOf};
 ghost use Rattle.keyless_db.specs.DbView.{IsHeldFor};
-ghost use Rattle.keyless_db.specs.Reading.{AnswersAs, AreKeptValues, IsInChain, IsReadable, IsChainFault};
+ghost use Rattle.keyless_db.specs.Reading.{AnswersAs, AreKeptValues, IsInChain, IsReadable, IsReadBelow, IsChainFault};
 ghost use Rattle.keyless_db.specs.Reading.{batch_answer, batch_many_answer, first_refused, floored_refusal, kept_over, kept_value, location_refusal, locations_refusal, lost};
 
 use crate::locations::{check_location, check_locations_from};
@@ -60,6 +60,9 @@ impl<F: Family, D: Digest, O: KeylessOperation> MerkleizedBatch<F, D, O> {
             AnswersAs (λ value. value) (Ok (O.meaning.value op)) result × (vol.new ≡ vol.old) }
         ensures nowhere { kept_item self.now.tree location ≡ None → db.now.state.size ≤ location →
             (result ≡ Err (Error.Journal (ItemPruned location))) × (vol.new ≡ vol.old) }
+        ensures told { let items = items_of O.spelling O.admits db.now.journal.items (V.state vol.old) in
+            IfOk result (IsReadBelow O.meaning V.tells items db.now.state.size (kept_item self.now.tree location)
+            location) }
         ensures fault { let items = items_of O.spelling O.admits db.now.journal.items (V.state vol.old) in
             IfErr result (IsChainFault V.tells items db.now.state.size (kept_item self.now.tree location) location) }
         ensures reads { Reads V.tells Error.Volume (V.state vol.old) (V.state vol.new) result }
@@ -100,6 +103,9 @@ impl<F: Family, D: Digest, O: KeylessOperation> MerkleizedBatch<F, D, O> {
             location_refusal self.now.bounds.tip.size self.now.bounds.inactivity_floor loc ≡ None →
             kept_item self.now.tree loc ≡ Some op →
             AnswersAs (λ value. value) (Ok (O.meaning.value op)) result × (vol.new ≡ vol.old) }
+        // Of any contents, what it doesn't keep is that of an operation that the database has there.
+        ensures told { let items = items_of O.spelling O.admits db.now.journal.items (V.state vol.old) in
+            IfOk result (IsReadBelow O.meaning V.tells items db.now.state.size (kept_item self.now.tree loc) loc) }
         ensures stale_only { IsErrOf result Error.StaleRead → IsInChain self.now db.now → ⊥ }
         ensures fault { let items = items_of O.spelling O.admits db.now.journal.items (V.state vol.old) in
             IsInChain self.now db.now →

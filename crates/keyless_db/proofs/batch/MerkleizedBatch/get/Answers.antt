@@ -1,10 +1,10 @@
 use Rattle.std.proofs.Common.{◌≡◌, ◌<◌, length, None, Option, refl, sym, ◌∙◌, ap, subst}
-use Rattle.std.specs.Prelude.{IfErr}
+use Rattle.std.specs.Prelude.{IfErr, IfOk}
 use Rattle.journal_base.specs.Items.{items_of}
 use Rattle.auth_journal.specs.Kept.{kept_item}
 use Rattle.chain_core.specs.declared.commitment.Commitment.{Commitment}
 use Rattle.keyless_db.specs.Batches.{MerkleizedView}
-use Rattle.keyless_db.specs.Reading.{AnswersAs, IsChainFault, IsReadable, kept_over, kept_value, location_refusal}
+use Rattle.keyless_db.specs.Reading.{AnswersAs, IsChainFault, IsReadable, IsReadBelow, kept_over, kept_value, location_refusal}
 use Rattle.keyless_db.proofs.FaultLemmas.{location_not_stale, read_not_stale}
 use Rattle.keyless_db.proofs.KeptLemmas.{batch_fit, fit_below, chain_here}
 use Rattle.keyless_db.proofs.SeveralLemmas.{answers_by, fit_ok}
@@ -58,3 +58,10 @@ pub returns-in-Err-clause-stale_only : goal.returns-in-Err-clause-stale_only
 returns-in-Err-clause-stale_only g c at here =
     let there = c.in-Err.ensures.in_chain.1 (chain_here (sym c.self.view_is) (sym c.commitment.ensures) here) in
     cc
+
+pub returns-in-Ok-check_location-clause-told : goal.returns-in-Ok-check_location-clause-told
+returns-in-Ok-check_location-clause-told g c =
+    let db = c.args.db.now in
+    let tree = c.args.self.now.tree in
+    let items = items_of g.O.Spelled.spelling g.O.Read.admits db.journal.items (g.V.Volume.state c.args.vol.now) in
+    subst (λ n. IfOk c.chain_value.result (λ v. IsReadBelow g.O.Logged.meaning g.V.Volume.tells items db.state.size (kept_item tree n) n v)) c.as_u64-location.ensures c.chain_value.ensures.told

@@ -1,12 +1,13 @@
 use Rattle.std.proofs.Common.{◌≡◌, ◌≤◌, ◌<◌, ◌-◌, ◌++◌, length, min, Some, None, Option, Ok, refl, sym, ◌∙◌, ap, subst, arith}
-use Rattle.std.specs.Prelude.{slice_get, IfErr}
+use Rattle.std.specs.Prelude.{slice_get, IfErr, IfOk}
 use Rattle.std.specs.Option.{option_map_or}
 use Rattle.merkle_full.proofs.ListLemmas.{there_is}
 use Rattle.journal_base.specs.Items.{items_of}
 use Rattle.chain_core.specs.Reached.{linked_item}
 use Rattle.chain_core.specs.declared.commitment.Commitment.{Commitment}
 use Rattle.keyless_db.specs.Batches.{MerkleizedView, UnmerkleizedView}
-use Rattle.keyless_db.specs.Reading.{IsChainFault, chain_start, kept_over, kept_value, pending_item}
+use Rattle.keyless_db.specs.Reading.{IsChainFault, IsReadAt, IsReadBelow, chain_start, kept_over, kept_value, pending_item}
+use Rattle.keyless_db.proofs.ApplyLemmas.{for_each, if_more}
 use Rattle.keyless_db.proofs.FaultLemmas.{pending_collected, pending_kept, pending_none, unless_memory}
 use Rattle.keyless_db.proofs.KeptLemmas.{from_chain, get_later, kept_longer}
 use Rattle.keyless_db.proofs.SeveralLemmas.{answers_by, answers_copied}
@@ -131,3 +132,38 @@ returns-in-None-clause-fault g c =
     let linked : linked_item pool b.parent ≡ None =
     ap (λ (x : UnmerkleizedView g.row.F.Denot g.row.H-Digest.Denot g.row.O.Denot). linked_item pool x.parent) (sym c.self.view_is) ∙ ap (linked_item pool) c.in-None.is in
     subst (λ (kept : Option g.row.O.Denot). IfErr c.value_before.result (IsChainFault g.V.Volume.tells items db.state.size kept l)) (sym (pending_none pool b l below linked)) c.value_before.ensures.fault
+
+pub returns-then-location-base-clause-told : goal.returns-then-location-base-clause-told
+returns-then-location-base-clause-told g c =
+    let b = c.args.self.now in
+    let l = c.args.location in
+    let pool = c.args.pool.now in
+    let items = items_of g.O.Spelled.spelling g.O.Read.admits c.args.db.now.journal.items (g.V.Volume.state c.args.vol.now) in
+    let base : c.as_u64-base.result ≡ b.base.size = c.as_u64-base.ensures ∙ ap (λ (x : UnmerkleizedView g.row.F.Denot g.row.H-Digest.Denot g.row.O.Denot). x.base.size) c.self.view_is in
+    let low : b.base.size ≤ l = omega (arith, c.if-location-base.true, base) in
+    let entry = there_is b.tree.items (l - b.base.size) (omega (arith, c.requires.within, low)) in
+    for_each c.collected_value.result (λ v. IsReadBelow g.O.Logged.meaning g.V.Volume.tells items c.args.db.now.state.size (pending_item pool b l) l v)
+    (λ v none. let bad : None ≡ Some entry.0 = sym none ∙ pending_collected pool b l low ∙ entry.1 in absurd cc)
+
+pub returns-in-Some-clause-told : goal.returns-in-Some-clause-told
+returns-in-Some-clause-told g c =
+    let b = c.args.self.now in
+    let l = c.args.location in
+    let pool = c.args.pool.now in
+    let db = c.args.db.now in
+    let p = c.item.result.now in
+    let items = items_of g.O.Spelled.spelling g.O.Read.admits db.journal.items (g.V.Volume.state c.args.vol.now) in
+    let base : c.as_u64-base.result ≡ b.base.size = c.as_u64-base.ensures ∙ ap (λ (x : UnmerkleizedView g.row.F.Denot g.row.H-Digest.Denot g.row.O.Denot). x.base.size) c.self.view_is in
+    let below : l < b.base.size = omega (arith, c.if-location-base.false, base) in
+    let linked : linked_item pool b.parent ≡ Some p =
+    ap (λ (x : UnmerkleizedView g.row.F.Denot g.row.H-Digest.Denot g.row.O.Denot). linked_item pool x.parent) (sym c.self.view_is) ∙ ap (linked_item pool) c.in-Some.is ∙ c.item.ensures in
+    subst (λ (kept : Option g.row.O.Denot). IfOk c.chain_value.result (λ v. IsReadBelow g.O.Logged.meaning g.V.Volume.tells items db.state.size kept l v)) (sym (pending_kept pool b l p below linked)) c.chain_value.ensures.told
+
+pub returns-in-None-clause-told : goal.returns-in-None-clause-told
+returns-in-None-clause-told g c =
+    let m = g.O.Logged.meaning in
+    let l = c.args.location in
+    let size = c.args.db.now.state.size in
+    let tells = g.V.Volume.tells in
+    let items = items_of g.O.Spelled.spelling g.O.Read.admits c.args.db.now.journal.items (g.V.Volume.state c.args.vol.now) in
+    if_more c.value_before.result (λ v. (l < size) × (tells → IsReadAt m items l v)) (λ v. IsReadBelow m tells items size (pending_item c.args.pool.now c.args.self.now l) l v) c.value_before.ensures.told (λ v told none. told)

@@ -6,7 +6,7 @@ use Rattle.auth_journal.specs.Joined.{Joined, log_view}
 use Rattle.chain_core.specs.declared.error.Error.{Error}
 use Rattle.chain_core.specs.declared.error.Error.TheVariants.{Volume}
 use Rattle.keyless_db.specs.DbView.{DbView}
-use Rattle.keyless_db.specs.Reading.{AnswersAs, IsReadFault, from_start}
+use Rattle.keyless_db.specs.Reading.{AnswersAs, IsReadAt, IsReadFault, from_start}
 use Rattle.keyless_db.proofs.LiftLemmas.{joined_back, reads_like, volume_of_log, ok_never}
 use Rattle.keyless_db.proofs.ReadLemmas.{item_read, item_refused, read_fault}
 use Rattle.keyless_db.proofs.database.Keyless.value.Goals as goal
@@ -82,3 +82,12 @@ returns-in-Ok-clause-reads g c =
 pub returns-in-Err-clause-reads : goal.returns-in-Err-clause-reads
 returns-in-Err-clause-reads g c =
     reads_like g.V.Volume.tells journal_error.Volume Volume (g.V.Volume.state c.args.vol.now) (g.V.Volume.state c.read.new.vol) (Err c.in-Err.error) _ tt (volume_of_log c.in-Err.error c.from.result c.from.ensures) (c.in-Err.ensures {u = tt}).answers
+
+pub returns-in-Ok-clause-told : goal.returns-in-Ok-clause-told
+returns-in-Ok-clause-told g c tells =
+    let m = g.O.Logged.meaning in
+    let a = g.V.Volume.state c.args.vol.now in
+    let same : c.self.inside.journal ≡ c.args.self.now.journal = ap (λ (d : DbView g.row.F.Denot g.row.H-Digest.Denot g.row.O.Denot g.row.O-Cfg.Denot). d.journal) c.self.view_is in
+    let there = (c.in-Ok.ensures {u = tt}).item tells in
+    let may = (c.in-Ok.ensures {u = tt}).admitted in
+    subst (λ (x : Joined g.row.H-Digest.Denot g.row.O-Cfg.Denot). IsReadAt m (items_of g.O.Spelled.spelling g.O.Read.admits x.items a) c.args.location c.into_value.result) same (c.in-Ok.op, there, may, c.into_value.ensures)

@@ -3,8 +3,9 @@ use Rattle.std.specs.Prelude.{slice_get}
 use Rattle.journal_base.specs.Items.{items_of}
 use Rattle.merkle_full.proofs.ListLemmas.{there_is, taken}
 use Rattle.keyless_db.specs.DbView.{DbView}
-use Rattle.keyless_db.specs.Reading.{IsChainFault, IsReadFault, kept_over}
+use Rattle.keyless_db.specs.Reading.{IsChainFault, IsReadAt, IsReadFault, kept_over}
 use Rattle.keyless_db.proofs.KeptLemmas.{from_database}
+use Rattle.keyless_db.proofs.ApplyLemmas.{if_more}
 use Rattle.keyless_db.proofs.FaultLemmas.{err_more}
 use Rattle.keyless_db.proofs.SeveralLemmas.{answers_by}
 use Rattle.keyless_db.proofs.StillLemmas.{held_size}
@@ -33,3 +34,13 @@ returns-clause-fault g c =
     let db = c.args.self.now in
     let items = items_of g.O.Spelled.spelling g.O.Read.admits db.journal.items (g.V.Volume.state c.args.vol.now) in
     err_more c.value.result (IsReadFault g.V.Volume.tells items c.args.location) (IsChainFault g.V.Volume.tells items db.state.size None c.args.location) c.value.ensures.fault (λ e fault. inr fault)
+
+pub returns-clause-told : goal.returns-clause-told
+returns-clause-told g c =
+    let db = c.args.self.now in
+    let m = g.O.Logged.meaning in
+    let l = c.args.location in
+    let items = items_of g.O.Spelled.spelling g.O.Read.admits db.journal.items (g.V.Volume.state c.args.vol.now) in
+    let size : c.as_u64.result ≡ db.state.size = c.as_u64.ensures ∙ ap (λ (d : DbView g.row.F.Denot g.row.H-Digest.Denot g.row.O.Denot g.row.O-Cfg.Denot). d.state.size) c.self.view_is in
+    let within : l < db.state.size = omega (arith, c.if-location-as_u64.false, size) in
+    if_more c.value.result (λ v. g.V.Volume.tells → IsReadAt m items l v) (λ v. (l < db.state.size) × (g.V.Volume.tells → IsReadAt m items l v)) c.value.ensures.told (λ v told. (within, told))
