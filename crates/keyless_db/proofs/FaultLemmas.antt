@@ -5,13 +5,14 @@ use Rattle.std.specs.Option.{option_map_or}
 use Rattle.std.specs.Result.{IsErrAnd}
 use Rattle.std.proofs.lemmas.List.Elements.{Contains-get_or}
 use Rattle.std.proofs.lemmas.Option.{slice_get_within, get_or_from_slice_get}
-use Rattle.volume_base.specs.Log.{Log, end_of}
+use Rattle.volume_base.specs.Log.{Log, IsItemAt, end_of}
 use Rattle.volume_base.specs.Volume.{State, SameContents}
 use Rattle.volume_base.specs.declared.error.JournalError.{JournalError}
 use Rattle.volume_base.specs.declared.error.JournalError.TheVariants as journal
 use Rattle.journal_base.specs.Items.{Items, IsCorrupt, items_of}
 use Rattle.journal_base.specs.View.{View, log_of}
 use Rattle.auth_journal.specs.Kept.{kept_item}
+use Rattle.log_model.specs.Meaning.{Meaning}
 use Rattle.log_model.specs.Reads.{or_else, refuse_if, unordered, first_below}
 use Rattle.log_model.specs.declared.refusal.Refusal.{Refusal}
 use Rattle.log_model.specs.declared.refusal.Refusal.TheVariants as refusal
@@ -22,7 +23,7 @@ use Rattle.chain_core.specs.declared.error.Error.{Error}
 use Rattle.chain_core.specs.declared.error.Error.TheVariants as db_error
 use Rattle.chain_core.specs.declared.pool.HeldBatch.{HeldBatch}
 use Rattle.keyless_db.specs.Batches.{MerkleizedView, UnmerkleizedView}
-use Rattle.keyless_db.specs.Reading.{IsChainFault, IsReadFault, last_past, locations_refusal, location_refusal, floored_refusal, pending_item}
+use Rattle.keyless_db.specs.Reading.{IsChainFault, IsReadBelow, IsReadFault, last_past, locations_refusal, location_refusal, floored_refusal, pending_item}
 use Rattle.keyless_db.proofs.LocationLemmas.{le_true, le_false}
 use Rattle.keyless_db.proofs.SeveralLemmas.{unfit_err}
 
@@ -169,6 +170,12 @@ module _ {Op Cfg : Type 0} (F : Type 0) (tells : Type 0) (spelling : Op → List
   pub fault_still : (size : ℕ) (kept : Option Op) (l : ℕ) (e : Error F) → IsChainFault tells (items_of spelling admits view b) size kept l e → IsChainFault tells (items_of spelling admits view a) size kept l e
   fault_still size kept l e (inl lost) = inl lost
   fault_still size kept l e (inr fault) = inr (read_still l e fault)
+
+pub told_still : {Op V Cfg : Type 0} (m : Meaning Op V) (tells : Type 0) (spelling : Op → List ℕ) (admits : Cfg → Op → Type 0) (view : View Cfg) (a b : State) → (tells → SameContents a b) → (size : ℕ) (kept : Option Op) (l : ℕ)
+    (v : Option V) → IsReadBelow m tells (items_of spelling admits view b) size kept l v → IsReadBelow m tells (items_of spelling admits view a) size kept l v
+told_still m tells spelling admits view a b same size kept l v told none =
+    let was = told none in
+    (was.0, λ t. let at = was.1 t in (at.0, subst (λ (log : Log). IsItemAt log l (spelling at.0)) ((same t).logs view.name) at.1, at.2, at.3))
 
 -- ---- what a batch that collects has
 

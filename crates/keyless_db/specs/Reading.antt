@@ -170,6 +170,12 @@ module _ {Op V : Type 0} (m : Meaning Op V) where
   abbrev pub IsReadBelow : Type 0 → Items Op → ℕ → Option Op → ℕ → Option V → Type 0
   IsReadBelow tells items size kept l value = kept ≡ None → (l < size) × (tells → IsReadAt items l value)
 
+  -- So is each of several values, at its location.
+  abbrev pub AreReadBelow : Type 0 → Items Op → ℕ → (ℕ → Option Op) → List ℕ → List (Option V) → Type 0
+  AreReadBelow tells items size kept ls values =
+      (i l : ℕ) (value : Option V) → slice_get ls i ≡ Some l → slice_get values i ≡ Some value →
+      IsReadBelow tells items size (kept l) l value
+
   -- At each of these locations whose operation a chain keeps, the value is that of the operation.
   abbrev pub AreKeptValues : (ℕ → Option Op) → List ℕ → List (Option V) → Type 0
   AreKeptValues kept ls values =

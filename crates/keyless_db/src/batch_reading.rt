@@ -24,7 +24,7 @@ impl<F: Family, H: Hasher, O: KeylessOperation> UnmerkleizedBatch<F, H, O> {
     ghost use Rattle.chain_core.specs.declared.error.Error.{Error};
     ghost use Rattle.keyless_db.specs.Batches.{MerkleizedView, IsUnmerkleizedOf};
     ghost use Rattle.keyless_db.specs.DbView.{IsHeldFor, floor_in};
-    ghost use Rattle.keyless_db.specs.Reading.{AnswersAs, AreKeptValues, IsReadable, IsReadBelow, IsChainFault, pending_item};
+    ghost use Rattle.keyless_db.specs.Reading.{AnswersAs, AreKeptValues, AreReadBelow, IsReadable, IsReadBelow, IsChainFault, pending_item};
     ghost use Rattle.keyless_db.specs.Reading.{batch_answer, batch_many_answer, chain_start, first_refused, floored_refusal, kept_over, kept_value, location_refusal, locations_refusal, lost, read_floor, read_states};
 
     /// The floor below which the batch isn't read, where the database stands at a state at which it is: its parent
@@ -199,6 +199,10 @@ impl<F: Family, H: Hasher, O: KeylessOperation> UnmerkleizedBatch<F, H, O> {
             (map (value_at O.meaning (list ++ self.now.tree.items)) locs.now)) result }
         ensures kept { IfOk result (λ values. AreKeptValues O.meaning (pending_item pool.now self.now) locs.now values.items) }
         ensures unread { AllByRecursion (λ l. IsSome (pending_item pool.now self.now l)) locs.now → vol.new ≡ vol.old }
+        ensures told { let items = items_of O.spelling O.admits db.now.journal.items (V.state vol.old) in
+            IfOk result (λ values. AreReadBelow O.meaning V.tells items db.now.state.size (pending_item pool.now self.now)
+            locs.now values.items) }
+        ensures count { IfOk result (λ values. length values.items ≡ length locs.now) }
         ensures fault { let items = items_of O.spelling O.admits db.now.journal.items (V.state vol.old) in
             IfErr result (λ e. (l : ℕ) × Contains locs.now l
             × IsChainFault V.tells items db.now.state.size (pending_item pool.now self.now l) l e) }
@@ -254,6 +258,11 @@ impl<F: Family, H: Hasher, O: KeylessOperation> UnmerkleizedBatch<F, H, O> {
         ensures kept { IfOk result (λ values.
             AreKeptValues O.meaning (pending_item pool.now self.now) locs.now values.items) }
         ensures unread { AllByRecursion (λ l. IsSome (pending_item pool.now self.now l)) locs.now → vol.new ≡ vol.old }
+        // Of any contents, any other is that of an operation that the database has there.
+        ensures told { let items = items_of O.spelling O.admits db.now.journal.items (V.state vol.old) in
+            IfOk result (λ values. AreReadBelow O.meaning V.tells items db.now.state.size (pending_item pool.now self.now)
+            locs.now values.items) }
+        ensures count { IfOk result (λ values. length values.items ≡ length locs.now) }
         ensures stale_only { IsErrOf result Error.StaleRead →
             Contains (read_states pool.now self.now) db.now.state → ⊥ }
         ensures fault { let items = items_of O.spelling O.admits db.now.journal.items (V.state vol.old) in

@@ -14,7 +14,7 @@ ghost use Rattle.chain_core.specs.Answers.{IsRefusedFor};
 ghost use Rattle.chain_core.specs.declared.error.Error.{Error};
 ghost use Rattle.keyless_db.specs.Batches.{IsMerkleizedOf};
 ghost use Rattle.keyless_db.specs.DbView.{IsHeldFor};
-ghost use Rattle.keyless_db.specs.Reading.{AnswersAs, AreKeptValues, IsInChain, IsReadable, IsReadBelow, IsChainFault};
+ghost use Rattle.keyless_db.specs.Reading.{AnswersAs, AreKeptValues, AreReadBelow, IsInChain, IsReadable, IsReadBelow, IsChainFault};
 ghost use Rattle.keyless_db.specs.Reading.{batch_answer, batch_many_answer, first_refused, floored_refusal, kept_over, kept_value, location_refusal, locations_refusal, lost};
 
 use crate::locations::{check_location, check_locations_from};
@@ -145,6 +145,10 @@ impl<F: Family, D: Digest, O: KeylessOperation> MerkleizedBatch<F, D, O> {
             (unless_refused (first_refused (lost kept) locs.now) (map (value_at O.meaning list) locs.now)) result }
         ensures kept { IfOk result (λ values. AreKeptValues O.meaning (kept_item self.now.tree) locs.now values.items) }
         ensures unread { AllByRecursion (λ l. IsSome (kept_item self.now.tree l)) locs.now → vol.new ≡ vol.old }
+        ensures told { let items = items_of O.spelling O.admits db.now.journal.items (V.state vol.old) in
+            IfOk result (λ values. AreReadBelow O.meaning V.tells items db.now.state.size (kept_item self.now.tree)
+            locs.now values.items) }
+        ensures count { IfOk result (λ values. length values.items ≡ length locs.now) }
         ensures fault { let items = items_of O.spelling O.admits db.now.journal.items (V.state vol.old) in
             IfErr result (λ e. (l : ℕ) × Contains locs.now l
             × IsChainFault V.tells items db.now.state.size (kept_item self.now.tree l) l e) }
@@ -186,6 +190,11 @@ impl<F: Family, D: Digest, O: KeylessOperation> MerkleizedBatch<F, D, O> {
         // What the chain keeps is told by it, and where it keeps all the volume isn't called.
         ensures kept { IfOk result (λ values. AreKeptValues O.meaning (kept_item self.now.tree) locs.now values.items) }
         ensures unread { AllByRecursion (λ l. IsSome (kept_item self.now.tree l)) locs.now → vol.new ≡ vol.old }
+        // Of any contents, any other is that of an operation that the database has there.
+        ensures told { let items = items_of O.spelling O.admits db.now.journal.items (V.state vol.old) in
+            IfOk result (λ values. AreReadBelow O.meaning V.tells items db.now.state.size (kept_item self.now.tree)
+            locs.now values.items) }
+        ensures count { IfOk result (λ values. length values.items ≡ length locs.now) }
         ensures stale_only { IsErrOf result Error.StaleRead → IsInChain self.now db.now → ⊥ }
         ensures fault { let items = items_of O.spelling O.admits db.now.journal.items (V.state vol.old) in
             IsInChain self.now db.now →

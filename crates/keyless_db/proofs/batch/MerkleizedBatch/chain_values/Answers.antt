@@ -1,4 +1,4 @@
-use Rattle.std.proofs.Common.{◌≡◌, ℕ, inr, length, Some, Option, refl, sym, ◌∙◌, ap}
+use Rattle.std.proofs.Common.{◌≡◌, ℕ, inr, length, Some, Option, refl, sym, ◌∙◌, ap, arith}
 use Rattle.std.specs.Prelude.{slice_get, Contains, IsSome}
 use Rattle.std.proofs.lemmas.Option.{slice_get_read}
 use Rattle.volume_base.proofs.ReadLemmas.{only_read_joins}
@@ -6,9 +6,9 @@ use Rattle.journal_base.specs.Items.{items_of}
 use Rattle.auth_journal.specs.Kept.{kept_item}
 use Rattle.log_model.specs.Reads.{value_at}
 use Rattle.chain_core.specs.declared.error.Error.TheVariants.{Volume, Memory}
-use Rattle.keyless_db.specs.Reading.{IsChainFault, IsReadable, kept_over, lost}
-use Rattle.keyless_db.proofs.FaultLemmas.{contains_at, err_handed, fault_still, memory_fault}
-use Rattle.keyless_db.proofs.KeptReadLemmas.{some_of, kept_more, kept_all}
+use Rattle.keyless_db.specs.Reading.{IsChainFault, IsReadable, IsReadBelow, kept_over, lost}
+use Rattle.keyless_db.proofs.FaultLemmas.{contains_at, err_handed, fault_still, memory_fault, told_still}
+use Rattle.keyless_db.proofs.KeptReadLemmas.{each_more, each_all, some_of, kept_more, kept_all}
 use Rattle.keyless_db.proofs.ReadLemmas.{all_at}
 use Rattle.keyless_db.proofs.SeveralLemmas.{fit_within, so_far_more, so_far_all, so_far_refused}
 use Rattle.keyless_db.proofs.StillLemmas.{held_still, reads_err, reads_memory}
@@ -25,6 +25,9 @@ loop-i-preserved g c =
     slice_get_read locs (length locs) c.loop-i.i c.index-locs-i.result refl c.loop-i-test.true c.index-locs-i.is ∙ ap Some (sym c.as_u64-location.ensures) in
     record {
       so_far = only_read_joins _ _ _ _ _ _ c.loop-i.invariant.so_far read.reads;
+      within = omega (arith, c.loop-i-test.true);
+      valued = each_more (λ n v. IsReadBelow g.O.Logged.meaning g.V.Volume.tells (items_of g.O.Spelled.spelling g.O.Read.admits c.args.db.now.journal.items (g.V.Volume.state c.args.vol.now)) c.args.db.now.state.size (kept_item c.args.self.now.tree n) n v) locs c.loop-i.i l c.loop-i.values.items _ c.in_ok-value.value at c.loop-i.invariant.valued
+          (told_still m g.V.Volume.tells g.O.Spelled.spelling g.O.Read.admits db.journal.items (g.V.Volume.state c.args.vol.now) (g.V.Volume.state c.loop-i.vol) c.loop-i.invariant.so_far.contents db.state.size (kept_item c.args.self.now.tree l) l c.in_ok-value.value read.told) c.in_ok-push.ensures.items;
       kept = kept_more m (kept_item c.args.self.now.tree) locs c.loop-i.i l c.loop-i.values.items _ c.in_ok-value.value at c.loop-i.invariant.kept (λ op there. let same = (read.chain op there).0 in cc) c.in_ok-push.ensures.items;
       unread = λ all.
           let there = some_of (kept_item c.args.self.now.tree l) (all_at (λ n. IsSome (kept_item c.args.self.now.tree n)) locs c.loop-i.i l all at) in
@@ -108,3 +111,9 @@ returns-in_err-push-clause-unread g c all =
 
 pub returns-clause-kept : goal.returns-clause-kept
 returns-clause-kept g c = kept_all g.O.Logged.meaning (kept_item c.args.self.now.tree) c.args.locs.now c.loop-i.i c.loop-i.values.items c.loop-i-test.false c.loop-i.invariant.kept
+
+pub returns-clause-told : goal.returns-clause-told
+returns-clause-told g c = each_all (λ n v. IsReadBelow g.O.Logged.meaning g.V.Volume.tells (items_of g.O.Spelled.spelling g.O.Read.admits c.args.db.now.journal.items (g.V.Volume.state c.args.vol.now)) c.args.db.now.state.size (kept_item c.args.self.now.tree n) n v) c.args.locs.now c.loop-i.i c.loop-i.values.items c.loop-i-test.false c.loop-i.invariant.valued
+
+pub returns-clause-count : goal.returns-clause-count
+returns-clause-count g c = omega (arith, c.loop-i.invariant.valued.count, c.loop-i.invariant.within, c.loop-i-test.false)
