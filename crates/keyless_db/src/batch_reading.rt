@@ -8,7 +8,8 @@ use tree_core::{Family, Hasher, Location};
 use volume_base::Volume;
 
 impl<F: Family, H: Hasher, O: KeylessOperation> UnmerkleizedBatch<F, H, O> {
-    ghost use Rattle.std.specs.Prelude.{◌≡◌, ◌↔◌, ◌+◌, ◌<◌, ◌++◌, ℕ, List, length, map, take, slice_get, Some, None, Ok, Err, IsOk};
+    ghost use Rattle.std.specs.Prelude.{◌≡◌, ◌↔◌, ◌+◌, ◌<◌, ◌++◌, ℕ, List, length, map, take, slice_get, Some, None};
+    ghost use Rattle.std.specs.Prelude.{Ok, Err, IsOk};
     ghost use Rattle.std.specs.Prelude.{IfOk, IfErr, IsErrOf, IsOkUnless, IsSome, Contains};
     ghost use Rattle.std.specs.List.{AllByRecursion};
     ghost use Rattle.std.specs.Option.{ForSome};
@@ -24,8 +25,11 @@ impl<F: Family, H: Hasher, O: KeylessOperation> UnmerkleizedBatch<F, H, O> {
     ghost use Rattle.chain_core.specs.declared.error.Error.{Error};
     ghost use Rattle.keyless_db.specs.Batches.{MerkleizedView, IsUnmerkleizedOf};
     ghost use Rattle.keyless_db.specs.DbView.{IsHeldFor, floor_in};
-    ghost use Rattle.keyless_db.specs.Reading.{AnswersAs, AreKeptValues, AreReadBelow, IsReadable, IsReadBelow, IsChainFault, pending_item};
-    ghost use Rattle.keyless_db.specs.Reading.{batch_answer, batch_many_answer, chain_start, first_refused, floored_refusal, kept_over, kept_value, location_refusal, locations_refusal, lost, read_floor, read_states};
+    ghost use Rattle.keyless_db.specs.Reading.{AnswersAs, AreKeptValues, AreReadBelow, IsReadable, IsReadBelow};
+    ghost use Rattle.keyless_db.specs.Reading.{IsChainFault, pending_item};
+    ghost use Rattle.keyless_db.specs.Reading.{batch_answer, batch_many_answer, chain_start, first_refused};
+    ghost use Rattle.keyless_db.specs.Reading.{floored_refusal, kept_over, kept_value, location_refusal};
+    ghost use Rattle.keyless_db.specs.Reading.{locations_refusal, lost, read_floor, read_states};
 
     /// The floor below which the batch isn't read, where the database stands at a state at which it is: its parent
     /// decides, or else its base. It refuses with `StaleRead`.
@@ -197,11 +201,12 @@ impl<F: Family, H: Hasher, O: KeylessOperation> UnmerkleizedBatch<F, H, O> {
             let kept = kept_over (chain_start pool.now self.now) db.now in AnswersAs (λ values. values.items)
             (unless_refused (first_refused (lost kept) locs.now)
             (map (value_at O.meaning (list ++ self.now.tree.items)) locs.now)) result }
-        ensures kept { IfOk result (λ values. AreKeptValues O.meaning (pending_item pool.now self.now) locs.now values.items) }
+        ensures kept { IfOk result (λ values.
+            AreKeptValues O.meaning (pending_item pool.now self.now) locs.now values.items) }
         ensures unread { AllByRecursion (λ l. IsSome (pending_item pool.now self.now l)) locs.now → vol.new ≡ vol.old }
         ensures told { let items = items_of O.spelling O.admits db.now.journal.items (V.state vol.old) in
-            IfOk result (λ values. AreReadBelow O.meaning V.tells items db.now.state.size (pending_item pool.now self.now)
-            locs.now values.items) }
+            IfOk result (λ values. AreReadBelow O.meaning V.tells items db.now.state.size
+            (pending_item pool.now self.now) locs.now values.items) }
         ensures count { IfOk result (λ values. length values.items ≡ length locs.now) }
         ensures fault { let items = items_of O.spelling O.admits db.now.journal.items (V.state vol.old) in
             IfErr result (λ e. (l : ℕ) × Contains locs.now l
@@ -260,8 +265,8 @@ impl<F: Family, H: Hasher, O: KeylessOperation> UnmerkleizedBatch<F, H, O> {
         ensures unread { AllByRecursion (λ l. IsSome (pending_item pool.now self.now l)) locs.now → vol.new ≡ vol.old }
         // Of any contents, any other is that of an operation that the database has there.
         ensures told { let items = items_of O.spelling O.admits db.now.journal.items (V.state vol.old) in
-            IfOk result (λ values. AreReadBelow O.meaning V.tells items db.now.state.size (pending_item pool.now self.now)
-            locs.now values.items) }
+            IfOk result (λ values. AreReadBelow O.meaning V.tells items db.now.state.size
+            (pending_item pool.now self.now) locs.now values.items) }
         ensures count { IfOk result (λ values. length values.items ≡ length locs.now) }
         ensures stale_only { IsErrOf result Error.StaleRead →
             Contains (read_states pool.now self.now) db.now.state → ⊥ }

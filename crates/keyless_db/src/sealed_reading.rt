@@ -1,5 +1,6 @@
 //! Reads of sealed batches: of the chain, and of the database below.
-ghost use Rattle.std.specs.Prelude.{◌≡◌, ◌↔◌, ◌∷◌, ◌<◌, ◌≤◌, ℕ, List, length, map, take, Some, None, Ok, Err, IsOk, IfOk, IfErr};
+ghost use Rattle.std.specs.Prelude.{◌≡◌, ◌↔◌, ◌∷◌, ◌<◌, ◌≤◌, ℕ, List, length, map, take, Some, None, Ok, Err, IsOk};
+ghost use Rattle.std.specs.Prelude.{IfOk, IfErr};
 ghost use Rattle.std.specs.Prelude.{IsErrOf, IsOkUnless, IsSome, Contains};
 ghost use Rattle.std.specs.List.{AllByRecursion};
 ghost use Rattle.volume_base.specs.Moments.{present};
@@ -14,8 +15,10 @@ ghost use Rattle.chain_core.specs.Answers.{IsRefusedFor};
 ghost use Rattle.chain_core.specs.declared.error.Error.{Error};
 ghost use Rattle.keyless_db.specs.Batches.{IsMerkleizedOf};
 ghost use Rattle.keyless_db.specs.DbView.{IsHeldFor};
-ghost use Rattle.keyless_db.specs.Reading.{AnswersAs, AreKeptValues, AreReadBelow, IsInChain, IsReadable, IsReadBelow, IsChainFault};
-ghost use Rattle.keyless_db.specs.Reading.{batch_answer, batch_many_answer, first_refused, floored_refusal, kept_over, kept_value, location_refusal, locations_refusal, lost};
+ghost use Rattle.keyless_db.specs.Reading.{AnswersAs, AreKeptValues, AreReadBelow, IsInChain, IsReadable};
+ghost use Rattle.keyless_db.specs.Reading.{IsReadBelow, IsChainFault};
+ghost use Rattle.keyless_db.specs.Reading.{batch_answer, batch_many_answer, first_refused, floored_refusal};
+ghost use Rattle.keyless_db.specs.Reading.{kept_over, kept_value, location_refusal, locations_refusal, lost};
 
 use crate::locations::{check_location, check_locations_from};
 use crate::{Keyless, KeylessOperation, MerkleizedBatch};
