@@ -1,6 +1,6 @@
 -- How a database is opened of a list.
-use Rattle.std.proofs.Common.{◌≡◌, inl, inr, ℕ, zero, suc, ◌-◌, ◌^◌, ◌<◌, ◌≤◌, Bool, true, false, List, [], ◌∷◌, length, take, Some, None, Option, Ok, Err, refl, sym, ◌∙◌, ap, subst, arith}
-use Rattle.std.specs.Prelude.{Result, IfOk, IsSome, slice_get, unwrap_or}
+use Rattle.std.proofs.Common.{◌≡◌, ◌⊎◌, inl, inr, ℕ, zero, suc, ◌-◌, ◌^◌, ◌<◌, ◌≤◌, Bool, true, false, List, [], ◌∷◌, length, take, Some, None, Option, Ok, Err, refl, sym, ◌∙◌, ap, subst, arith}
+use Rattle.std.specs.Prelude.{◌≢◌, Result, IfOk, IfErr, IsErrOf, IsSome, slice_get, is_some, unwrap_or}
 use Rattle.tree_shape.specs.Hashing.{Hashing}
 use Rattle.tree_shape.specs.Root.{root}
 use Rattle.tree_shape.specs.Shape.{Shape, inactive}
@@ -8,28 +8,43 @@ use Rattle.tree_shape.specs.declared.bagging.Bagging.{Bagging}
 use Rattle.tree_shape.specs.declared.bagging.Bagging.TheVariants.{ForwardFold}
 use Rattle.tree_core.specs.Tree.{IsOf}
 use Rattle.tree_store.specs.Stored.{TreeStands, size}
-use Rattle.volume_base.specs.Log.{Log, end_of}
+use Rattle.tree_store.specs.declared.error.Error as tree_error
+use Rattle.tree_store.specs.declared.error.Error.TheVariants.{LocationOverflow}
+use Rattle.tree_store.proofs.StoreLemmas.{get-take}
+use Rattle.volume_base.specs.Log.{Log, end_of, cut_to}
+use Rattle.volume_base.specs.declared.error.JournalError.{JournalError}
+use Rattle.volume_base.specs.declared.error.JournalError.TheVariants as journal
 use Rattle.volume_base.specs.Moments.{Image}
 use Rattle.volume_base.specs.Names.{Names, NamesCall, two_logs_and_map}
 use Rattle.volume_base.specs.Volume.{Map, State, PastStays, SameContents}
 use Rattle.journal_base.specs.View.{View, IsDurable, SameButBounds, capped}
 use Rattle.volume_base.proofs.CallLemmas.{names_call_idle}
 use Rattle.volume_base.proofs.MomentLemmas.{past_same}
-use Rattle.journal_base.specs.Items.{Items}
+use Rattle.journal_base.specs.Items.{Items, Holds}
 use Rattle.journal_base.specs.Matches.{IsAnswered}
+use Rattle.journal_base.proofs.ItemLemmas.{same_item}
 use Rattle.merkle_full.specs.Preparing.{log_kept}
 use Rattle.merkle_full.proofs.PrepareLemmas.{kept_standing}
+use Rattle.merkle_full.proofs.ReadLemmas.{ReadRefused}
 use Rattle.merkle_full.proofs.SettleLemmas.{stored_read, pruned_stored}
 use Rattle.auth_journal.specs.Joined.{Joined, IsJoinedOf, leaves_of}
-use Rattle.auth_journal.specs.Opening.{OpensAt}
-use Rattle.auth_journal.specs.Searching.{EndsAt}
+use Rattle.auth_journal.specs.Opening.{OpensAt, NotOpened}
+use Rattle.auth_journal.specs.Searching.{EndsAt, NotFound}
+use Rattle.auth_journal.specs.declared.error.Error as joined_error
+use Rattle.auth_journal.specs.declared.error.Error.TheVariants as joined
 use Rattle.auth_journal.proofs.LeafLemmas.{length-leaves_of}
 use Rattle.log_model.specs.Good.{EndsWithCommit}
 use Rattle.log_model.specs.Meaning.{Meaning}
 use Rattle.log_model.specs.Operations.{floor_of, root_of}
 use Rattle.log_model.proofs.OperationLemmas.{root_of-parts}
+use Rattle.chain_core.specs.Answers.{IsOutside}
+use Rattle.chain_core.specs.Errors.{from_journal}
+use Rattle.chain_core.specs.declared.error.Error.{Error}
+use Rattle.chain_core.specs.declared.error.Error.TheVariants.{Merkle, Journal, DataCorrupted}
+use Rattle.chain_core.specs.declared.error.DataFault.TheVariants.{NotACommit}
 use Rattle.keyless_db.specs.DbView.{DbView, IsHeldFor}
-use Rattle.keyless_db.specs.Opening.{IsHeldFrom, IsInitOf, IsSaidCommit}
+use Rattle.keyless_db.specs.Errors.{from_joined}
+use Rattle.keyless_db.specs.Opening.{EndsHere, IsHeldFrom, IsInitOf, IsSaidCommit, IsUnbegun, NotBuilt, NotInit}
 use Rattle.keyless_db.proofs.ProofLemmas.{floor_at}
 use Rattle.keyless_db.proofs.SealLemmas.{leaves_are}
 use Rattle.keyless_db.proofs.SeveralLemmas.{taken_all}
@@ -182,3 +197,132 @@ empty_at items says most end (inr (inr there)) empty some =
     by : (n : ℕ) → n ≡ end_of items.log → (0 < n → items.log.start < n) → items.log.start ≡ 0
     by zero is some = omega (arith, is, empty)
     by (suc n) is some = let lt = some (omega arith) in absurd (omega (arith, lt, is, empty))
+
+-- ---- refusals
+
+pub if_err : {T E : Type 0} (P Q : E → Type 0) (r : Result T E) → ((e : E) → P e → Q e) → IfErr r P → IfErr r Q
+if_err P Q (Ok x) then is = tt
+if_err P Q (Err e) then is = then e is
+
+-- an error that never comes
+pub never_err : {T E : Type 0} (x : E) (P : Type 0) (r : Result T E) → IfErr r (λ e. e ≢ x) → IsErrOf r x → P
+never_err x P (Ok y) other is = absurd cc
+never_err x P (Err e) other is = let same : e ≡ x = cc in absurd (other same)
+
+-- why no end is found, in other words of what a predicate says
+pub not_found_as : {A : Type 0} (items : Items A) (says tells : A → Bool → Type 0) (cap : Option ℕ) (e : JournalError) → ((x : A) (b : Bool) → says x b → tells x b) → NotFound items says cap e → NotFound items tells cap e
+not_found_as items says tells cap e then (inl out) = inl out
+not_found_as items says tells cap e then (inr (inl low)) = inr (inl low)
+not_found_as items says tells cap e then (inr (inr (inl none))) =
+    let why = none.0 in
+    inr (inr (inl (record { past = why.past; reached = why.reached; some = why.some; none = λ p low high. answered_as items says tells then p false (why.none p low high) }, none.1)))
+not_found_as items says tells cap e then (inr (inr (inr there))) =
+    let why = there.1 in
+    inr (inr (inr (there.0, record { low = why.low; high = why.high; corrupt = why.corrupt; none = λ p low high. answered_as items says tells then p false (why.none p low high) }, there.2)))
+
+-- why no journal is opened, likewise
+pub not_opened_as : {F D A : Type 0} (known : Type 0) (spelling : D → List ℕ) (admits : D → Type 0) (s : Shape) (m : Map) (log : Log) (items : Items A) (says tells : A → Bool → Type 0) (cap : Option ℕ) (e : joined_error.Error F)
+    → ((x : A) (b : Bool) → says x b → tells x b) → NotOpened known spelling admits s m log items says cap e → NotOpened known spelling admits s m log items tells cap e
+not_opened_as known spelling admits s m log items says tells cap e then (inl (inl none)) = inl (inl (none.0, not_found_as items says tells cap none.0 then none.1, none.2))
+not_opened_as known spelling admits s m log items says tells cap e then (inl (inr found)) = inl (inr (found.0, ends_as items says tells cap found.0 then found.1, found.2))
+not_opened_as known spelling admits s m log items says tells cap e then (inr found) = inr (found.0, found.1, found.2, ends_as items says tells cap found.0 then found.3, found.4, found.5, found.6, found.7)
+
+-- an append that neither the tree nor the log refuses fails by the outside
+pub append_outside : {F : Type 0} (e : joined_error.Error F) (d : Error F) → d ≡ from_joined e → ((x : tree_error.Error F) → e ≡ joined.Merkle x → ⊥) → ((x : JournalError) → e ≡ joined.Journal x → ⊥) → IsOutside d
+append_outside (joined.Merkle x) d is tree log = absurd (tree x refl)
+append_outside (joined.Journal x) d is tree log = absurd (log x refl)
+append_outside joined.Volume d is tree log = subst IsOutside (sym is) tt
+append_outside joined.Memory d is tree log = subst IsOutside (sym is) tt
+
+pub begun_refused : {F : Type 0} (D : Type 0) (s : Shape) (start end : ℕ) (e : Error F) → end ≡ 0 → IsOutside e ⊎ IsUnbegun D s e → NotBuilt D s start end e
+begun_refused D s start end e none (inl out) = inl out
+begun_refused D s start end e none (inr why) = inr (inl (none, why))
+
+-- a first commit is one, and it isn't too many
+pub first_refused : {F : Type 0} (D : Type 0) (s : Shape) (start end : ℕ) (floor : Option ℕ) (at : ℕ) (e : Error F) → floor ≡ Some at
+    → ((2 ^ 62 < 1) × (e ≡ Merkle (LocationOverflow 1))) ⊎ ((floor ≡ None) × (e ≡ DataCorrupted NotACommit)) → NotBuilt D s start end e
+first_refused D s start end floor at e is (inl high) = let lt = high.0 in absurd (omega (arith, lt))
+first_refused D s start end floor at e is (inr none) = let not = none.0 in absurd cc
+
+pub built_refused : {F : Type 0} (D : Type 0) (s : Shape) (start size end : ℕ) (floor : Option ℕ) (e : Error F) → size ≡ end → (floor ≡ None → ⊥)
+    → ((2 ^ 62 < size) × (e ≡ Merkle (LocationOverflow size))) ⊎ ((floor ≡ None) × (e ≡ DataCorrupted NotACommit)) → NotBuilt D s start end e
+built_refused D s start size end floor e same some (inl high) =
+    let lt = high.0 in
+    inr (inr (inl (omega (arith, lt, same), high.1 ∙ ap (λ n. Merkle (LocationOverflow n)) same)))
+built_refused D s start size end floor e same some (inr none) = absurd (some none.0)
+
+-- the item that is read before an end is a commit
+pub commit_there : {Op V : Type 0} (m : Meaning Op V) (items : Items Op) (end : ℕ) (op : Op) → ((x y : Op) → items.admits x → items.admits y → items.spelling x ≡ items.spelling y → x ≡ y)
+    → Holds items (end - 1) op → items.admits op → 0 < end → EndsHere m items end → m.floor op ≡ None → ⊥
+commit_there {Op = Op} m items end op one here may some (inl at) none =
+    let spelled = same_item items.log (end - 1) (items.spelling at.item) (items.spelling op) at.here here in
+    let same : at.item ≡ op = one at.item op at.allowed may spelled in
+    let is : true ≡ is_some (m.floor op) = at.answered ∙ ap (λ (x : Op). is_some (m.floor x)) same in
+    let not : is_some (m.floor op) ≡ false = ap (λ (o : Option ℕ). is_some o) none in
+    let no : true ≡ false = is ∙ not in
+    cc
+commit_there m items end op one here may some (inr empty) none = let low = here.low in omega (arith, low, empty, some)
+
+-- a read before an end that fails
+pub read_refused : {F Op V : Type 0} (D : Type 0) (s : Shape) (m : Meaning Op V) (tells : Type 0) (told : tells) (items : Items Op) (end : ℕ) (e : JournalError) (d : Error F) → d ≡ from_journal e → end ≡ end_of items.log
+    → 0 < end → EndsHere m items end → ReadRefused tells items (end - 1) e → NotBuilt D s items.log.start end d
+read_refused D s m tells told items end journal.Volume d is reached some ends why = inl (subst IsOutside (sym is) tt)
+read_refused D s m tells told items end journal.Memory d is reached some ends why = inl (subst IsOutside (sym is) tt)
+read_refused D s m tells told items end (journal.ItemPruned q) d is reached some (inl at) why =
+    let y = (why.pruned q refl).1 told in
+    let low = at.here.low in
+    absurd (omega (arith, y, low))
+read_refused D s m tells told items end (journal.ItemPruned q) d is reached some (inr empty) why =
+    inr (inr (inr (empty, some, is ∙ ap (λ n. Journal (journal.ItemPruned n)) (why.pruned q refl).0)))
+read_refused D s m tells told items end (journal.ItemOutOfRange q) d is reached some ends why = let y = (why.past q refl).1 told in absurd (omega (arith, y, reached, some))
+read_refused D s m tells told items end (journal.Corruption q) d is reached some (inl at) why =
+    let y = (why.corrupt q refl).1 told in
+    absurd (y.unspelled at.item at.allowed (same_item items.log (end - 1) y.bytes (items.spelling at.item) y.here at.here))
+read_refused D s m tells told items end (journal.Corruption q) d is reached some (inr empty) why =
+    let low = ((why.corrupt q refl).1 told).here.low in
+    absurd (omega (arith, low, empty, some))
+read_refused D s m tells told items end journal.SizeOverflow d is reached some ends why = absurd (let bad = why.errors in cc)
+read_refused D s m tells told items end journal.EmptyAppend d is reached some ends why = absurd (let bad = why.errors in cc)
+read_refused D s m tells told items end (journal.Tree cause) d is reached some ends why = absurd (let bad = why.errors in cc)
+
+-- what stands before an end stands there still in the log that is cut to it
+pub ends_here : {Op V : Type 0} (m : Meaning Op V) (items : Items Op) (later : Log) (cap : Option ℕ) (end : ℕ) → later ≡ cut_to items.log end → EndsAt items (IsSaidCommit m) cap end → 0 < end
+    → EndsHere m (record { log = later; spelling = items.spelling; admits = items.admits }) end
+ends_here m items later cap end is found some =
+    subst (λ (l : Log). EndsHere m (record { log = l; spelling = items.spelling; admits = items.admits }) end) (sym is) (by found)
+  where
+    by : EndsAt items (IsSaidCommit m) cap end → EndsHere m (record { log = cut_to items.log end; spelling = items.spelling; admits = items.admits }) end
+    by (inl last) =
+        let at = last.2 in
+        let lt = last.0 in
+        let low = at.here.low in
+        inl (record {
+          item = at.item;
+          here = record { low = low; here = get-take items.log.items (end - items.log.start) (end - 1 - items.log.start) (omega (arith, lt, low, some)) ∙ at.here.here };
+          allowed = at.allowed;
+          answered = at.answered;
+        })
+    by (inr (inl none)) = let zero = none.0 in absurd (omega (arith, zero, some))
+    by (inr (inr empty)) = inr (empty.1 ∙ sym empty.2)
+
+-- why there is no database of a journal that was opened of these items
+pub init_refused : {F D Op V : Type 0} (known : Type 0) (spelling : D → List ℕ) (admits : D → Type 0) (s : Shape) (map : Map) (log : Log) (items : Items Op) (m : Meaning Op V) (cap : Option ℕ) (start end : ℕ) (e : Error F)
+    → start ≡ items.log.start → EndsAt items (IsSaidCommit m) cap end → NotBuilt D s start end e → NotInit known spelling admits s map log items m cap e
+init_refused known spelling admits s map log items m cap start end e begins found (inl out) = inl out
+init_refused known spelling admits s map log items m cap start end e begins found (inr (inl why)) = inr (inr (inr (subst (λ n. EndsAt items (IsSaidCommit m) cap n) why.0 found, why.1)))
+init_refused known spelling admits s map log items m cap start end e begins found (inr (inr (inl high))) = inr (inl (joined.Merkle (LocationOverflow end), high.1, inl (inr (end, found, inl (high.0, refl)))))
+init_refused known spelling admits s map log items m cap start end e begins found (inr (inr (inr empty))) = by found
+  where
+    by : EndsAt items (IsSaidCommit m) cap end → NotInit known spelling admits s map log items m cap e
+    by (inl last) =
+        let lt = last.0 in
+        let is = empty.0 in
+        absurd (omega (arith, lt, is, begins))
+    by (inr (inl none)) =
+        let zero = none.0 in
+        let some = empty.1 in
+        absurd (omega (arith, zero, some))
+    by (inr (inr at)) =
+        let some = empty.1 in
+        let is = at.2 in
+        inr (inr (inl (at.0, at.1, omega (arith, some, is), empty.2 ∙ ap (λ n. Journal (journal.ItemPruned (n - 1))) is)))

@@ -1,17 +1,57 @@
 -- At which state a database is opened.
-use Rattle.std.specs.Prelude.{◌≡◌, ◌⊎◌, ℕ, ◌<◌, ◌≤◌, Bool, List, [], ◌∷◌, take, Option, Some, None, is_some}
+use Rattle.std.specs.Prelude.{◌≡◌, ◌⊎◌, ℕ, ◌-◌, ◌^◌, ◌<◌, ◌≤◌, Bool, true, List, [], ◌∷◌, take, Option, Some, None, is_some}
+use Rattle.volume_base.specs.Log.{Log, end_of}
 use Rattle.volume_base.specs.Moments.{Image}
+use Rattle.volume_base.specs.Volume.{Map}
+use Rattle.volume_base.specs.declared.error.JournalError.TheVariants.{ItemPruned}
 use Rattle.journal_base.specs.Items.{Items}
+use Rattle.journal_base.specs.Matches.{IsAnswered}
 use Rattle.tree_shape.specs.Hashing.{Hashing}
 use Rattle.tree_shape.specs.Shape.{Shape}
+use Rattle.tree_store.specs.declared.error.Error.TheVariants.{LocationOverflow}
+use Rattle.merkle_full.specs.Flushing.{IsOfFlush}
+use Rattle.merkle_full.specs.Full.{Full}
+use Rattle.auth_journal.specs.Durable.{IsFromTree}
 use Rattle.auth_journal.specs.Joined.{Joined, IsJoinedOf}
+use Rattle.auth_journal.specs.Opening.{NotOpened}
 use Rattle.auth_journal.specs.Searching.{EndsAt}
 use Rattle.log_model.specs.Meaning.{Meaning}
+use Rattle.chain_core.specs.Answers.{IsOutside}
+use Rattle.chain_core.specs.declared.error.Error.{Error}
+use Rattle.chain_core.specs.declared.error.Error.TheVariants.{Journal, Merkle}
+use Rattle.keyless_db.specs.Errors.{IsFromJoined}
 use Rattle.keyless_db.specs.DbView.{DbView, IsHeldFor}
 
 -- Whether an operation is said to be a commit, as it is.
 abbrev pub IsSaidCommit : {Op V : Type 0} → Meaning Op V → Op → Bool → Type 0
 IsSaidCommit m op is = is ≡ is_some (m.floor op)
+
+-- The item before this end is a commit, or no item stands before it.
+abbrev pub EndsHere : {Op V : Type 0} → Meaning Op V → Items Op → ℕ → Type 0
+EndsHere m items end = IsAnswered items (IsSaidCommit m) (end - 1) true ⊎ (items.log.start ≡ end)
+
+-- A first commit's node isn't put into the node log: the flush of a tree of one leaf says why.
+abbrev pub IsUnbegun : {F : Type 0} → Type 0 → Shape → Error F → Type 0
+IsUnbegun {F} D s e = (t : Full D) × (t.tree.leaves ≡ 1) × IsFromJoined (IsFromTree (IsOfFlush s t)) e
+
+-- Why there is no database of a journal that was opened between these bounds: by the outside; or it has no operation, and
+-- the first commit's node isn't put into the node log; or it has too many; or the log is empty past 0.
+abbrev pub NotBuilt : {F : Type 0} → Type 0 → Shape → ℕ → ℕ → Error F → Type 0
+NotBuilt D s start end e =
+    IsOutside e
+    ⊎ (((end ≡ 0) × IsUnbegun D s e)
+    ⊎ (((2 ^ 62 < end) × (e ≡ Merkle (LocationOverflow end)))
+    ⊎ ((start ≡ end) × (0 < end) × (e ≡ Journal (ItemPruned (end - 1))))))
+
+-- Why no database is opened of these contents under a cap, or none: by the outside; or as the journal; or, without a cap,
+-- an empty log stands past 0; or the log begins at 0 without a commit, and the first commit's node isn't put into the node
+-- log.
+abbrev pub NotInit : {F D Op V : Type 0} → Type 0 → (D → List ℕ) → (D → Type 0) → Shape → Map → Log → Items Op → Meaning Op V → Option ℕ → Error F → Type 0
+NotInit {D = D} tells spelling admits s m log items meaning cap e =
+    IsOutside e
+    ⊎ (IsFromJoined (NotOpened tells spelling admits s m log items (IsSaidCommit meaning) cap) e
+    ⊎ (((cap ≡ None) × (items.log.start ≡ end_of items.log) × (0 < end_of items.log) × (e ≡ Journal (ItemPruned (end_of items.log - 1))))
+    ⊎ (EndsAt items (IsSaidCommit meaning) cap 0 × IsUnbegun D s e)))
 
 -- The first commit of a log: its floor is 0, and it has no metadata.
 pub record IsFirstCommit {Op V : Type 0} (m : Meaning Op V) (op : Op) : Type 0 where

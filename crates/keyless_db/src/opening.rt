@@ -36,23 +36,29 @@ fn check_bound<F: Family>(bound: &Option<Location<F>>) -> Result<(), Error<F>>
 }
 
 impl<F: Family, O: KeylessOperation, C: Backing<Item = O>, H: Hasher> Keyless<F, O, C, H> {
-    ghost use Rattle.std.specs.Prelude.{◌≢◌, ◌<◌, ◌≤◌, ◌^◌, ◌+◌, ◌-◌, ◌∷◌, [], ℕ, List, length, Err, false, string_bytes, slice_get, IfOk, IfErr};
+    ghost use Rattle.std.specs.Prelude.{◌≢◌, ◌⊎◌, ◌<◌, ◌≤◌, ◌^◌, ◌+◌, ◌-◌, ◌∷◌, [], ℕ, List, length, None, Err, false, string_bytes, slice_get, IfOk, IfErr};
     ghost use Rattle.std.specs.List.{AllByRecursion};
+    ghost use Rattle.std.specs.NonZero.{non_zero_u64_get};
     ghost use Rattle.journal_base.specs.Items.{items_of, Spells};
     ghost use Rattle.journal_base.specs.View.{log_of, IsDurable, IsHeld, SameButBounds};
     ghost use Rattle.tree_shape.specs.declared.bagging.Bagging.TheVariants.{ForwardFold};
     ghost use Rattle.tree_store.specs.Stored.{TreeStands};
-    ghost use Rattle.volume_base.specs.Log.{end_of};
+    ghost use Rattle.tree_store.specs.declared.error.Error.TheVariants.{LocationOverflow};
+    ghost use Rattle.volume_base.specs.Log.{end_of, cut_to};
     ghost use Rattle.volume_base.specs.Moments.{Image, present};
     ghost use Rattle.volume_base.specs.Names.{two_logs_and_map, NamesCall};
     ghost use Rattle.volume_base.specs.Volume.{Changes};
-    ghost use Rattle.merkle_full.specs.Full.{Rests};
+    ghost use Rattle.merkle_full.specs.Full.{Full, Rests};
     ghost use Rattle.auth_journal.specs.Joined.{IsJoinedOf, leaves_of};
     ghost use Rattle.auth_journal.specs.Searching.{EndsAt};
     ghost use Rattle.auth_journal.specs.Standing.{names_of};
+    ghost use Rattle.auth_journal.specs.Opening.{NotOpened};
+    ghost use Rattle.chain_core.specs.Answers.{IsOutside};
     ghost use Rattle.chain_core.specs.declared.error.Error.{Error};
+    ghost use Rattle.chain_core.specs.declared.error.DataFault.TheVariants.{NotACommit};
     ghost use Rattle.keyless_db.specs.DbView.{IsHeldFor};
-    ghost use Rattle.keyless_db.specs.Opening.{IsBuiltAt, IsHeldFrom, IsInitOf, IsOpenedOf, IsSaidCommit};
+    ghost use Rattle.keyless_db.specs.Errors.{IsFromJoined};
+    ghost use Rattle.keyless_db.specs.Opening.{EndsHere, IsBuiltAt, IsHeldFrom, IsInitOf, IsOpenedOf, IsSaidCommit, IsUnbegun, NotBuilt, NotInit};
 
     /// The log and the tree up to the last commit at or below a size, or up to the last of all.
     fn open_journal<V: Volume>(
@@ -69,6 +75,7 @@ impl<F: Family, O: KeylessOperation, C: Backing<Item = O>, H: Hasher> Keyless<F,
             IfOk result (λ t. V.tells → EndsAt items (IsSaidCommit O.meaning) max_size t.items.end) }
         ensures joined { IfOk result (λ t. names_of t ≡ two_logs_and_map (C.config cfg.log).name
             (string_bytes cfg.merkle.nodes) (string_bytes cfg.merkle.metadata)) }
+        ensures blob { IfOk result (λ t. t.tree.log.blob ≡ non_zero_u64_get cfg.merkle.items_per_blob) }
         // For each list that the contents stood for, it is the journal of its first operations.
         ensures listed { let old = V.state vol.old in let log = log_of (C.config cfg.log) old in
             let nodes = old.log (string_bytes cfg.merkle.nodes) in let map = old.map
@@ -85,6 +92,13 @@ impl<F: Family, O: KeylessOperation, C: Backing<Item = O>, H: Hasher> Keyless<F,
         ensures rests { IfOk result (λ t. Rests F.shape t.tree) }
         ensures start { let log = log_of (C.config cfg.log) (V.state vol.old) in IfOk result (λ t. V.tells →
             (t.items.start ≡ log.start) × IsHeld t.items (V.state vol.new)) }
+        ensures cut { let view = C.config cfg.log in IfOk result (λ t. V.tells →
+            log_of view (V.state vol.new) ≡ cut_to (log_of view (V.state vol.old)) t.items.end) }
+        ensures refused { let old = V.state vol.old in let map = old.map (string_bytes cfg.merkle.metadata) in
+            let items = items_of O.spelling O.admits (C.config cfg.log) old in V.tells → IfErr result
+            (IsFromJoined (NotOpened V.tells H.Digest.spelling (H.Digest.Read.admits tt) F.shape map
+            (old.log (string_bytes cfg.merkle.nodes)) items (IsSaidCommit O.meaning) max_size)) }
+        ensures other { IfErr result (λ e. e ≢ Error.InvalidInitializationBound) }
         ensures changes { Changes V.tells Error.Volume (V.state vol.old) (V.state vol.new) result }
     {
         let Config {
@@ -137,9 +151,14 @@ impl<F: Family, O: KeylessOperation, C: Backing<Item = O>, H: Hasher> Keyless<F,
         ensures durable { IfOk result (λ t. V.tells →
             IsDurable t.items (V.state vol.new) × IsDurable t.tree.log (V.state vol.new)) }
         ensures joined { IfOk result (λ t. names_of t ≡ names_of journal) }
+        ensures blob { IfOk result (λ t. t.tree.log.blob ≡ journal.tree.log.blob) }
         ensures rests { IfOk result (λ t. Rests F.shape t.tree) }
         ensures start { IfOk result (λ t. V.tells → IsHeld journal.items (V.state vol.old) →
             (t.items.start ≡ journal.items.start) × IsHeld t.items (V.state vol.new)) }
+        ensures refused { V.tells → IsHeld journal.items (V.state vol.old) → journal.items.end ≡ 0 →
+            journal.tree.tree.leaves ≡ 0 →
+            IfErr result (λ e. IsOutside e ⊎ IsUnbegun H.Digest F.shape e) }
+        ensures other { IfErr result (λ e. e ≢ Error.InvalidInitializationBound) }
         ensures changes { Changes V.tells Error.Volume (V.state vol.old) (V.state vol.new) result }
     {
         let made = match journal.append(vol, commit) {
@@ -170,7 +189,8 @@ impl<F: Family, O: KeylessOperation, C: Backing<Item = O>, H: Hasher> Keyless<F,
             IsJoinedOf F.shape H.hash H.Digest.spelling admits O.spelling list journal image →
             journal.tree.boundary ≤ journal.items.start → slice_get list (size - 1) ≡ Some last_commit →
             IsHeldFor F.shape H.hash O.meaning H.Digest.spelling admits O.spelling list d image) }
-        ensures outside { IfErr result (λ e. e ≢ Error.Volume) }
+        ensures refused { IfErr result (λ e. ((2 ^ 62 < size) × (e ≡ Error.Merkle (LocationOverflow size)))
+            ⊎ ((O.meaning.floor last_commit ≡ None) × (e ≡ Error.DataCorrupted NotACommit))) }
     {
         if size > MAX_LEAVES {
             let overflow = tree_core::Error::LocationOverflow(Location::new(size));
@@ -215,11 +235,19 @@ impl<F: Family, O: KeylessOperation, C: Backing<Item = O>, H: Hasher> Keyless<F,
             IsDurable journal.tree.log (V.state vol.old) →
             IsDurable d.journal.items (V.state vol.new) × IsDurable d.journal.tree.log (V.state vol.new)) }
         ensures joined { IfOk result (λ d. names_of d.journal ≡ names_of journal) }
+        ensures blob { IfOk result (λ d. d.journal.tree.log.blob ≡ journal.tree.log.blob) }
         ensures rests { IfOk result (λ d. Rests F.shape journal.tree → Rests F.shape d.journal.tree) }
         ensures start { IfOk result (λ d. V.tells → IsHeld journal.items (V.state vol.old) →
             (d.journal.items.start ≡ journal.items.start) × IsHeld d.journal.items (V.state vol.new)) }
         ensures past { IfOk result (λ d. V.tells → IsHeld journal.items (V.state vol.old) → 0 < journal.items.end →
             journal.items.start < journal.items.end) }
+        ensures refused { let items = items_of O.spelling O.admits journal.items (V.state vol.old) in V.tells →
+            IsHeld journal.items (V.state vol.old) → (0 < journal.items.end →
+            EndsHere O.meaning items journal.items.end) →
+            IfErr result (NotBuilt H.Digest F.shape items.log.start journal.items.end) }
+        ensures kept { IfOk result (λ d. V.tells → 0 < journal.items.end →
+            log_of journal.items (V.state vol.new) ≡ log_of journal.items (V.state vol.old)) }
+        ensures other { IfErr result (λ e. e ≢ Error.InvalidInitializationBound) }
         ensures changes { Changes V.tells Error.Volume (V.state vol.old) (V.state vol.new) result }
     {
         let size = journal.size().as_u64();
@@ -249,6 +277,14 @@ impl<F: Family, O: KeylessOperation, C: Backing<Item = O>, H: Hasher> Keyless<F,
     ) -> Result<Self, Error<F>>
         requires { (C.config cfg.log).name ≢ string_bytes cfg.merkle.nodes }
         ensures bound { max_size ≡ Some 0 → (result ≡ Err Error.InvalidInitializationBound) × (vol.new ≡ vol.old) }
+        // So it is refused only then.
+        ensures bound_only { IsErrOf result Error.InvalidInitializationBound → max_size ≡ Some 0 }
+        // Else it is refused by the outside, as the journal's opening, or as an empty log past 0; or, where it begins,
+        // since the first commit's node isn't put into the node log.
+        ensures refused { let old = V.state vol.old in let map = old.map (string_bytes cfg.merkle.metadata) in
+            let items = items_of O.spelling O.admits (C.config cfg.log) old in V.tells → max_size ≢ Some 0 →
+            IfErr result (NotInit V.tells H.Digest.spelling (H.Digest.Read.admits tt) F.shape map
+            (old.log (string_bytes cfg.merkle.nodes)) items O.meaning max_size) }
         ensures named { IfOk result
             (λ d. SameButBounds (C.config cfg.log) d.journal.items × (d.journal.failed ≡ false)) }
         // It is at an end of the log's operations; and where that is 0, it has the first commit alone.
@@ -274,6 +310,7 @@ impl<F: Family, O: KeylessOperation, C: Backing<Item = O>, H: Hasher> Keyless<F,
         // Its logs and its map are those of the configuration, and its tree's memory is at rest.
         ensures joined { IfOk result (λ d. names_of d.journal ≡ two_logs_and_map (C.config cfg.log).name
             (string_bytes cfg.merkle.nodes) (string_bytes cfg.merkle.metadata)) }
+        ensures blob { IfOk result (λ d. d.journal.tree.log.blob ≡ non_zero_u64_get cfg.merkle.items_per_blob) }
         ensures rests { IfOk result (λ d. Rests F.shape d.journal.tree) }
         // Nothing is cut off at the front, and the volume has the log with the database's bounds.
         ensures start { let log = log_of (C.config cfg.log) (V.state vol.old) in IfOk result (λ d. V.tells →

@@ -1,4 +1,4 @@
-use Rattle.std.proofs.Common.{◌≡◌, [], Ok, Err, ◌∙◌, ap, sym, subst, arith, inl, refl, ◌∷◌}
+use Rattle.std.proofs.Common.{◌≡◌, [], Ok, Err, ◌∙◌, ap, sym, subst, arith, inl, inr, refl, ◌∷◌}
 use Rattle.volume_base.specs.Log.{Log, end_of}
 use Rattle.volume_base.specs.Names.{two_logs_and_map}
 use Rattle.volume_base.proofs.CallLemmas.{names_call_joins, names_call_log}
@@ -8,7 +8,7 @@ use Rattle.auth_journal.specs.Standing.{logs_of, names_of}
 use Rattle.auth_journal.specs.declared.error.Error.TheVariants as joined
 use Rattle.chain_core.specs.declared.error.Error.TheVariants.{Volume}
 use Rattle.keyless_db.proofs.LiftLemmas.{ok_never, volume_below}
-use Rattle.keyless_db.proofs.OpenLemmas.{durable_same, logs_call}
+use Rattle.keyless_db.proofs.OpenLemmas.{append_outside, durable_same, logs_call}
 use Rattle.keyless_db.proofs.database.Keyless.begun.Goals as goal
 
 pub returns-in-Ok-sync-clause-listed : goal.returns-in-Ok-sync-clause-listed
@@ -100,3 +100,18 @@ returns-in-Ok-sync-clause-start g c tells here =
       end_is = held.end_is ∙ ap end_of (sym log_is);
     } in
     (ap (λ (v : View g.row.O-Cfg.Denot). v.start) same ∙ held.start_is ∙ name ∙ log ∙ sym here.start_is, subst (λ (v : View g.row.O-Cfg.Denot). IsHeld v new) (sym same) later)
+
+pub returns-in-Ok-sync-clause-blob : goal.returns-in-Ok-sync-clause-blob
+returns-in-Ok-sync-clause-blob g c =
+    ap (λ (v : View (Unit {0})). v.blob) c.in-Ok-sync.ensures.same.tree.log ∙ ap (λ (v : View (Unit {0})). v.blob) c.in-Ok.ensures.same.1.log
+
+pub returns-in-Err-clause-refused : goal.returns-in-Err-clause-refused
+returns-in-Err-clause-refused g c tells here none leaves =
+    inl (append_outside c.in-Err.error c.from_joined.result c.from_joined.ensures
+    (λ x is. let full = c.in-Err.ensures.refused x (ap Err is) in omega (arith, full, leaves))
+    (λ x is. let full = (c.in-Err.ensures.overflow x (ap Err is)).1 tells in let end = here.end_is in omega (arith, full, none, end)))
+
+pub returns-in-Err-sync-clause-refused : goal.returns-in-Err-sync-clause-refused
+returns-in-Err-sync-clause-refused g c tells here none leaves =
+    let longer = c.in-Ok.ensures.longer.leaves in
+    inr (c.in-Ok.made.0.tree, omega (arith, longer, leaves), (c.in-Err-sync.error, c.from_joined-in-Err-sync.ensures, c.in-Err-sync.ensures.errors))

@@ -1,13 +1,15 @@
-use Rattle.std.proofs.Common.{◌<◌, ◌∙◌, sym, ap, subst}
+use Rattle.std.proofs.Common.{◌≡◌, ◌<◌, ◌∙◌, inl, inr, sym, ap, subst}
+use Rattle.std.specs.Prelude.{string_bytes}
 use Rattle.std.specs.List.{AllByRecursion}
 use Rattle.volume_base.specs.Names.{Names, NamesCall}
 use Rattle.volume_base.proofs.CallLemmas.{names_call_joins}
 use Rattle.volume_base.proofs.JoinLemmas.{changes_joins, went_of}
 use Rattle.journal_base.specs.Items.{Items, items_of}
 use Rattle.journal_base.specs.View.{View}
-use Rattle.chain_core.specs.declared.error.Error.TheVariants.{Volume}
-use Rattle.keyless_db.specs.Opening.{IsSaidCommit}
-use Rattle.keyless_db.proofs.OpenLemmas.{empty_at, if_ok, init_of}
+use Rattle.volume_base.specs.Log.{Log, cut_to}
+use Rattle.chain_core.specs.declared.error.Error.TheVariants.{InvalidInitializationBound, Volume}
+use Rattle.keyless_db.specs.Opening.{EndsHere, IsSaidCommit}
+use Rattle.keyless_db.proofs.OpenLemmas.{empty_at, ends_here, if_err, if_ok, init_of, init_refused, never_err}
 use Rattle.keyless_db.proofs.database.Keyless.init.Goals as goal
 
 pub returns-in-Ok-open_journal-clause-held : goal.returns-in-Ok-open_journal-clause-held
@@ -64,3 +66,41 @@ returns-in-Ok-open_journal-clause-past g c =
     let at = opened.start tells in
     empty_at items (IsSaidCommit g.O.Logged.meaning) c.args.max_size j.items.end (opened.found tells) empty (λ some. subst (λ n. n < j.items.end) at.0 (past tells at.1 some)))
     c.opened_from.ensures.past
+
+pub returns-in-Ok-open_journal-clause-blob : goal.returns-in-Ok-open_journal-clause-blob
+returns-in-Ok-open_journal-clause-blob g c =
+    if_ok _ _ c.opened_from.result (λ d same. same ∙ c.in-Ok-open_journal.ensures.blob) c.opened_from.ensures.blob
+
+pub returns-in-Err-open_journal-clause-bound_only : goal.returns-in-Err-open_journal-clause-bound_only
+returns-in-Err-open_journal-clause-bound_only g c is = absurd (let same : c.in-Err-open_journal.error ≡ InvalidInitializationBound = cc in c.in-Err-open_journal.ensures.other same)
+
+pub returns-in-Ok-open_journal-clause-bound_only : goal.returns-in-Ok-open_journal-clause-bound_only
+returns-in-Ok-open_journal-clause-bound_only g c is = never_err InvalidInitializationBound _ c.opened_from.result c.opened_from.ensures.other is
+
+pub returns-in-Err-open_journal-clause-refused : goal.returns-in-Err-open_journal-clause-refused
+returns-in-Err-open_journal-clause-refused g c tells some = inr (inl (c.in-Err-open_journal.ensures.refused tells))
+
+pub returns-in-Ok-open_journal-clause-refused : goal.returns-in-Ok-open_journal-clause-refused
+returns-in-Ok-open_journal-clause-refused g c tells some =
+    let m = g.O.Logged.meaning in
+    let spelling = g.O.Spelled.spelling in
+    let digest = g.H.Digest.Spelled.spelling in
+    let admits = g.H.Digest.Read.admits tt in
+    let view = g.C.Backing.config c.args.cfg.log in
+    let old = g.V.Volume.state c.args.vol.now in
+    let mid = g.V.Volume.state c.open_journal.new.vol in
+    let items : Items g.row.O.Denot = items_of spelling g.O.Read.admits view old in
+    let opened = c.in-Ok-open_journal.ensures in
+    let j = c.in-Ok-open_journal.journal in
+    let at = opened.start tells in
+    let found = opened.found tells in
+    let name = ap (λ (v : View g.row.O-Cfg.Denot). mid.log v.name) opened.named.0 in
+    let codec = ap (λ (v : View g.row.O-Cfg.Denot). v.codec) opened.named.0 in
+    let cut : mid.log j.items.name ≡ cut_to (old.log view.name) j.items.end = name ∙ opened.cut tells in
+    let ends : 0 < j.items.end → EndsHere m (items_of spelling g.O.Read.admits j.items mid) j.items.end = λ past.
+    subst (λ (x : g.row.O-Cfg.Denot). EndsHere m (record { log = mid.log j.items.name; spelling = spelling; admits = g.O.Read.admits x }) j.items.end) (sym codec)
+    (ends_here m items (mid.log j.items.name) c.args.max_size j.items.end cut found past) in
+    if_err _ _ c.opened_from.result
+    (λ e why. init_refused g.V.Volume.tells digest admits g.F.Family.shape (old.map (string_bytes c.args.cfg.merkle.metadata)) (old.log (string_bytes c.args.cfg.merkle.nodes)) items m c.args.max_size _ j.items.end e
+    (ap (λ (l : Log). l.start) cut) found why)
+    (c.opened_from.ensures.refused tells at.1 ends)

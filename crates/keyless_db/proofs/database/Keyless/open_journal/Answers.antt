@@ -7,7 +7,8 @@ use Rattle.auth_journal.specs.Joined.{leaves_of}
 use Rattle.auth_journal.specs.Searching.{EndsAt}
 use Rattle.auth_journal.proofs.LeafLemmas.{length-leaves_of}
 use Rattle.keyless_db.specs.Opening.{IsSaidCommit}
-use Rattle.keyless_db.proofs.OpenLemmas.{ends_as, opened_low}
+use Rattle.auth_journal.specs.Opening.{NotOpened}
+use Rattle.keyless_db.proofs.OpenLemmas.{ends_as, not_opened_as, opened_low}
 use Rattle.keyless_db.proofs.database.Keyless.open_journal.Goals as goal
 
 pub returns-in-Ok-clause-found : goal.returns-in-Ok-clause-found
@@ -71,3 +72,33 @@ returns-in-Ok-new-clause-start g c tells =
     let cut = c.in-Ok-new.ensures.cut tells in
     let name = ap (λ (v : View g.row.O-Cfg.Denot). (new.log v.name).start) c.in-Ok-new.ensures.named.0 in
     (cut.1.start_is ∙ name ∙ ap (λ (l : Log). l.start) cut.0, cut.1)
+
+pub returns-in-Err-clause-refused : goal.returns-in-Err-clause-refused
+returns-in-Err-clause-refused g c tells =
+    let digest = g.H.Digest.Spelled.spelling in
+    let admits = g.H.Digest.Read.admits tt in
+    let old = g.V.Volume.state c.args.vol.now in
+    let items : Items g.row.O.Denot = items_of g.O.Spelled.spelling g.O.Read.admits (g.C.Backing.config c.args.cfg.log) old in
+    let log = old.log (string_bytes c.args.cfg.merkle.nodes) in
+    let map = old.map (string_bytes c.args.cfg.merkle.metadata) in
+    let cap : Some c.as_u64.result ≡ c.args.max_size = ap Some c.as_u64.ensures ∙ sym c.in-Some.is in (
+      c.in-Err.error,
+      c.from_joined.ensures,
+      subst (λ (o : Option ℕ). NotOpened g.V.Volume.tells digest admits g.F.Family.shape map log items (IsSaidCommit g.O.Logged.meaning) o c.in-Err.error) cap
+          (not_opened_as g.V.Volume.tells digest admits g.F.Family.shape map log items _ (IsSaidCommit g.O.Logged.meaning) (Some c.as_u64.result) c.in-Err.error (λ x b k. search rules) (c.in-Err.ensures.refused tells)),
+    )
+
+pub returns-in-Err-new-clause-refused : goal.returns-in-Err-new-clause-refused
+returns-in-Err-new-clause-refused g c tells =
+    let digest = g.H.Digest.Spelled.spelling in
+    let admits = g.H.Digest.Read.admits tt in
+    let old = g.V.Volume.state c.args.vol.now in
+    let items : Items g.row.O.Denot = items_of g.O.Spelled.spelling g.O.Read.admits (g.C.Backing.config c.args.cfg.log) old in
+    let log = old.log (string_bytes c.args.cfg.merkle.nodes) in
+    let map = old.map (string_bytes c.args.cfg.merkle.metadata) in
+    let cap : None ≡ c.args.max_size = sym c.in-None.is in (
+      c.in-Err-new.error,
+      c.from_joined-in-Err-new.ensures,
+      subst (λ (o : Option ℕ). NotOpened g.V.Volume.tells digest admits g.F.Family.shape map log items (IsSaidCommit g.O.Logged.meaning) o c.in-Err-new.error) cap
+          (not_opened_as g.V.Volume.tells digest admits g.F.Family.shape map log items _ (IsSaidCommit g.O.Logged.meaning) None c.in-Err-new.error (λ x b k. search rules) (c.in-Err-new.ensures.refused tells)),
+    )

@@ -1,8 +1,11 @@
-use Rattle.std.proofs.Common.{◌≡◌, ◌∷◌, [], ◌-◌, ◌<◌, List, length, take, None, Some, inl, inr, refl, sym, ◌∙◌, ap, subst, arith}
+use Rattle.std.proofs.Common.{◌≡◌, ◌∷◌, [], ◌-◌, ◌<◌, List, length, take, None, Some, Err, inl, inr, refl, sym, ◌∙◌, ap, subst, arith}
 use Rattle.volume_base.specs.Log.{Log, end_of}
 use Rattle.volume_base.specs.Moments.{Image, present}
 use Rattle.volume_base.proofs.CallLemmas.{names_call_idle}
+use Rattle.codec_base.specs.Reads.{one_value}
+use Rattle.journal_base.specs.Items.{Items, Holds, items_of}
 use Rattle.journal_base.specs.View.{IsDurable, IsHeld}
+use Rattle.merkle_full.proofs.ReadLemmas.{ReadRefused}
 use Rattle.merkle_full.specs.Full.{Rests}
 use Rattle.merkle_full.proofs.ListLemmas.{there_is, taken}
 use Rattle.auth_journal.specs.Joined.{Joined, IsJoinedOf}
@@ -10,7 +13,7 @@ use Rattle.auth_journal.specs.Standing.{names_of}
 use Rattle.auth_journal.proofs.ReadingLemmas.{run_end}
 use Rattle.keyless_db.specs.DbView.{IsHeldFor}
 use Rattle.keyless_db.proofs.LocationLemmas.{nothing_taken}
-use Rattle.keyless_db.proofs.OpenLemmas.{durable_still, if_ok, if_ok_both}
+use Rattle.keyless_db.proofs.OpenLemmas.{begun_refused, built_refused, commit_there, durable_still, first_refused, if_err, if_ok, if_ok_both, read_refused}
 use Rattle.keyless_db.proofs.ReadLemmas.{all_at}
 use Rattle.keyless_db.proofs.StillLemmas.{present_same}
 use Rattle.keyless_db.proofs.database.Keyless.opened_from.Goals as goal
@@ -152,3 +155,72 @@ returns-in-Ok-read-clause-past g c =
     let end : c.as_u64-size.result ≡ c.args.journal.items.end = c.as_u64-size.ensures ∙ c.size.ensures in
     if_ok _ _ c.built-in-Ok-read.result
     (λ d same. λ tells here some. let there = read.item tells in omega (arith, there.low, here.start_is, end, some)) c.built-in-Ok-read.ensures.journal
+
+pub returns-then-size-eq0-clause-blob : goal.returns-then-size-eq0-clause-blob
+returns-then-size-eq0-clause-blob g c =
+    if_ok _ _ c.built.result (λ d same. ap (λ (j : Joined g.row.H-Digest.Denot g.row.O-Cfg.Denot). j.tree.log.blob) same ∙ c.in-Ok.ensures.blob) c.built.ensures.journal
+
+pub returns-in-Ok-read-clause-blob : goal.returns-in-Ok-read-clause-blob
+returns-in-Ok-read-clause-blob g c =
+    if_ok _ _ c.built-in-Ok-read.result (λ d same. ap (λ (j : Joined g.row.H-Digest.Denot g.row.O-Cfg.Denot). j.tree.log.blob) same) c.built-in-Ok-read.ensures.journal
+
+pub returns-then-size-eq0-clause-kept : goal.returns-then-size-eq0-clause-kept
+returns-then-size-eq0-clause-kept g c =
+    let none : c.args.journal.items.end ≡ 0 = sym (c.as_u64-size.ensures ∙ c.size.ensures) ∙ c.if-size-eq0.true in
+    if_ok _ _ c.built.result (λ d same. λ tells some. absurd (omega (arith, none, some))) c.built.ensures.journal
+
+pub returns-in-Ok-read-clause-kept : goal.returns-in-Ok-read-clause-kept
+returns-in-Ok-read-clause-kept g c =
+    let read = (c.in-Ok-read.ensures {u = tt}).answers in
+    if_ok _ _ c.built-in-Ok-read.result (λ d same. λ tells some. (read.contents tells).logs c.args.journal.items.name) c.built-in-Ok-read.ensures.journal
+
+pub returns-in-Err-clause-refused : goal.returns-in-Err-clause-refused
+returns-in-Err-clause-refused g c tells here ends =
+    let j = c.args.journal in
+    let none : j.items.end ≡ 0 = sym (c.as_u64-size.ensures ∙ c.size.ensures) ∙ c.if-size-eq0.true in
+    begun_refused g.row.H-Digest.Denot g.F.Family.shape _ j.items.end c.in-Err.error none (c.in-Err.ensures.refused tells here none (c.requires.whole ∙ none))
+
+pub returns-then-size-eq0-clause-refused : goal.returns-then-size-eq0-clause-refused
+returns-then-size-eq0-clause-refused g c tells here ends =
+    let m = g.O.Logged.meaning in
+    let is = ap m.floor c.commit-commit.ensures ∙ g.met.O.KeylessOperation.floored None 0 in
+    if_err _ _ c.built.result
+    (λ e why. first_refused g.row.H-Digest.Denot g.F.Family.shape _ c.args.journal.items.end (m.floor c.commit-commit.result) 0 e is why) c.built.ensures.refused
+
+pub returns-in-Ok-read-clause-refused : goal.returns-in-Ok-read-clause-refused
+returns-in-Ok-read-clause-refused g c tells here ends =
+    let m = g.O.Logged.meaning in
+    let j = c.args.journal in
+    let old = g.V.Volume.state c.args.vol.now in
+    let n = c.as_u64-size.result in
+    let end : n ≡ j.items.end = c.as_u64-size.ensures ∙ c.size.ensures in
+    let some : 0 < n = omega (arith, c.if-size-eq0.false) in
+    let past : 0 < j.items.end = omega (arith, some, end) in
+    let items : Items g.row.O.Denot = items_of g.O.Spelled.spelling g.O.Read.admits j.items old in
+    let read = c.in-Ok-read.ensures {u = tt} in
+    let op = c.in-Ok-read.last_commit in
+    let there = subst (λ k. Holds items (k - 1) op) end (read.item tells) in
+    let one = λ (x y : g.row.O.Denot). one_value _ _ _ (g.met.O.Read.lawful j.items.codec) x y in
+    let commit = commit_there m items j.items.end op one there read.admitted past (ends past) in
+    if_err _ _ c.built-in-Ok-read.result
+    (λ e why. built_refused g.row.H-Digest.Denot g.F.Family.shape _ n j.items.end (m.floor op) e end commit why) c.built-in-Ok-read.ensures.refused
+
+pub returns-in-Err-read-clause-refused : goal.returns-in-Err-read-clause-refused
+returns-in-Err-read-clause-refused g c tells here ends =
+    let m = g.O.Logged.meaning in
+    let j = c.args.journal in
+    let old = g.V.Volume.state c.args.vol.now in
+    let n = c.as_u64-size.result in
+    let end : n ≡ j.items.end = c.as_u64-size.ensures ∙ c.size.ensures in
+    let some : 0 < n = omega (arith, c.if-size-eq0.false) in
+    let past : 0 < j.items.end = omega (arith, some, end) in
+    let items : Items g.row.O.Denot = items_of g.O.Spelled.spelling g.O.Read.admits j.items old in
+    let read = c.in-Err-read.ensures {u = tt} in
+    let refused : ReadRefused g.V.Volume.tells items (n - 1) c.in-Err-read.error = record {
+      pruned = λ q is. read.pruned q (ap Err is);
+      past = λ q is. read.out_of_range q (ap Err is);
+      corrupt = λ q is. read.corrupt q (ap Err is);
+      errors = read.errors;
+    } in
+    let why = subst (λ k. ReadRefused g.V.Volume.tells items (k - 1) c.in-Err-read.error) end refused in
+    read_refused g.row.H-Digest.Denot g.F.Family.shape m g.V.Volume.tells tells items j.items.end c.in-Err-read.error _ c.from.ensures here.end_is past (ends past) why
