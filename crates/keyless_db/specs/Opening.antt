@@ -1,6 +1,6 @@
 -- At which state a database is opened.
 use Rattle.std.specs.Prelude.{◌≡◌, ◌⊎◌, ℕ, ◌-◌, ◌^◌, ◌<◌, ◌≤◌, Bool, true, List, [], ◌∷◌, take, Option, Some, None, is_some}
-use Rattle.volume_base.specs.Log.{Log, end_of}
+use Rattle.volume_base.specs.Log.{Log, end_of, appended}
 use Rattle.volume_base.specs.Moments.{Image}
 use Rattle.volume_base.specs.Volume.{Map}
 use Rattle.volume_base.specs.declared.error.JournalError.TheVariants.{ItemPruned}
@@ -59,8 +59,12 @@ pub record IsFirstCommit {Op V : Type 0} (m : Meaning Op V) (op : Op) : Type 0 w
   pub valued : m.value op ≡ None
 
 -- Of a journal that ends here the database is at that size; at 0 it has the first commit alone.
-abbrev pub IsBuiltAt : {F D Op V Cfg : Type 0} → Meaning Op V → ℕ → DbView F D Op Cfg → Type 0
-IsBuiltAt m end db = ((0 < end) × (db.state.size ≡ end)) ⊎ ((end ≡ 0) × (db.state.size ≡ 1) × IsFirstCommit m db.commit)
+abbrev pub IsBuiltAt : {F D Op Cfg : Type 0} → Op → ℕ → DbView F D Op Cfg → Type 0
+IsBuiltAt first end db = ((0 < end) × (db.state.size ≡ end)) ⊎ ((end ≡ 0) × (db.state.size ≡ 1) × (db.commit ≡ first))
+
+-- A log that ends here stays; at 0 it gets this item.
+abbrev pub GoesOn : List ℕ → ℕ → Log → Log → Type 0
+GoesOn first end old new = ((0 < end) × (new ≡ old)) ⊎ ((end ≡ 0) × (new ≡ appended old (first ∷ [])))
 
 module _ {D Op Cfg : Type 0} (s : Shape) (h : Hashing D) (digest : D → List ℕ) (admits : D → Type 0) (spelling : Op → List ℕ) where
   -- The journal is that of a list's operations up to its end, and its tree isn't pruned past its log.

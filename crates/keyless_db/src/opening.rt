@@ -44,7 +44,7 @@ impl<F: Family, O: KeylessOperation, C: Backing<Item = O>, H: Hasher> Keyless<F,
     ghost use Rattle.tree_shape.specs.declared.bagging.Bagging.TheVariants.{ForwardFold};
     ghost use Rattle.tree_store.specs.Stored.{TreeStands};
     ghost use Rattle.tree_store.specs.declared.error.Error.TheVariants.{LocationOverflow};
-    ghost use Rattle.volume_base.specs.Log.{end_of, cut_to};
+    ghost use Rattle.volume_base.specs.Log.{end_of, appended, cut_to};
     ghost use Rattle.volume_base.specs.Moments.{Image, present};
     ghost use Rattle.volume_base.specs.Names.{two_logs_and_map, NamesCall};
     ghost use Rattle.volume_base.specs.Volume.{Changes};
@@ -58,7 +58,7 @@ impl<F: Family, O: KeylessOperation, C: Backing<Item = O>, H: Hasher> Keyless<F,
     ghost use Rattle.chain_core.specs.declared.error.DataFault.TheVariants.{NotACommit};
     ghost use Rattle.keyless_db.specs.DbView.{IsHeldFor};
     ghost use Rattle.keyless_db.specs.Errors.{IsFromJoined};
-    ghost use Rattle.keyless_db.specs.Opening.{EndsHere, IsBuiltAt, IsHeldFrom, IsInitOf, IsOpenedOf, IsSaidCommit, IsUnbegun, NotBuilt, NotInit};
+    ghost use Rattle.keyless_db.specs.Opening.{EndsHere, GoesOn, IsBuiltAt, IsHeldFrom, IsInitOf, IsOpenedOf, IsSaidCommit, IsUnbegun, NotBuilt, NotInit};
 
     /// The log and the tree up to the last commit at or below a size, or up to the last of all.
     fn open_journal<V: Volume>(
@@ -151,6 +151,8 @@ impl<F: Family, O: KeylessOperation, C: Backing<Item = O>, H: Hasher> Keyless<F,
         ensures durable { IfOk result (λ t. V.tells →
             IsDurable t.items (V.state vol.new) × IsDurable t.tree.log (V.state vol.new)) }
         ensures joined { IfOk result (λ t. names_of t ≡ names_of journal) }
+        ensures log { IfOk result (λ t. V.tells → log_of journal.items (V.state vol.new) ≡
+            appended (log_of journal.items (V.state vol.old)) (O.spelling commit.now ∷ [])) }
         ensures blob { IfOk result (λ t. t.tree.log.blob ≡ journal.tree.log.blob) }
         ensures rests { IfOk result (λ t. Rests F.shape t.tree) }
         ensures start { IfOk result (λ t. V.tells → IsHeld journal.items (V.state vol.old) →
@@ -229,7 +231,7 @@ impl<F: Family, O: KeylessOperation, C: Backing<Item = O>, H: Hasher> Keyless<F,
             AllByRecursion (O.admits journal.items.codec) list →
             IsHeldFrom F.shape H.hash O.meaning H.Digest.spelling admits O.spelling list journal.items.end d
             (present (V.state vol.new))) }
-        ensures at { IfOk result (λ d. IsBuiltAt O.meaning journal.items.end d) }
+        ensures at { IfOk result (λ d. IsBuiltAt (O.committed None 0) journal.items.end d) }
         ensures names { V.tells → NamesCall (names_of journal) (V.state vol.old) (V.state vol.new) }
         ensures durable { IfOk result (λ d. V.tells → IsDurable journal.items (V.state vol.old) →
             IsDurable journal.tree.log (V.state vol.old) →
@@ -245,8 +247,8 @@ impl<F: Family, O: KeylessOperation, C: Backing<Item = O>, H: Hasher> Keyless<F,
             IsHeld journal.items (V.state vol.old) → (0 < journal.items.end →
             EndsHere O.meaning items journal.items.end) →
             IfErr result (NotBuilt H.Digest F.shape items.log.start journal.items.end) }
-        ensures kept { IfOk result (λ d. V.tells → 0 < journal.items.end →
-            log_of journal.items (V.state vol.new) ≡ log_of journal.items (V.state vol.old)) }
+        ensures log { IfOk result (λ d. V.tells → GoesOn (O.spelling (O.committed None 0)) journal.items.end
+            (log_of journal.items (V.state vol.old)) (log_of journal.items (V.state vol.new))) }
         ensures other { IfErr result (λ e. e ≢ Error.InvalidInitializationBound) }
         ensures changes { Changes V.tells Error.Volume (V.state vol.old) (V.state vol.new) result }
     {
@@ -287,10 +289,13 @@ impl<F: Family, O: KeylessOperation, C: Backing<Item = O>, H: Hasher> Keyless<F,
             (old.log (string_bytes cfg.merkle.nodes)) items O.meaning max_size) }
         ensures named { IfOk result
             (λ d. SameButBounds (C.config cfg.log) d.journal.items × (d.journal.failed ≡ false)) }
-        // It is at an end of the log's operations; and where that is 0, it has the first commit alone.
-        ensures opens { let items = items_of O.spelling O.admits (C.config cfg.log) (V.state vol.old) in
+        // It is at an end of the log's operations; and where that is 0, it has the first commit alone. The log is cut
+        // there, and at 0 it gets that commit.
+        ensures opens { let view = C.config cfg.log in let first = O.committed None 0 in
+            let items = items_of O.spelling O.admits view (V.state vol.old) in
             IfOk result (λ d. V.tells → (end : ℕ) × EndsAt items (IsSaidCommit O.meaning) max_size end
-            × IsBuiltAt O.meaning end d) }
+            × IsBuiltAt first end d
+            × GoesOn (O.spelling first) end (cut_to items.log end) (log_of view (V.state vol.new))) }
         // For each list that the contents stood for, whose operations may be such, it is held for the list up to a
         // commit.
         ensures held { let old = V.state vol.old in let view = C.config cfg.log in

@@ -115,3 +115,12 @@ pub returns-in-Err-sync-clause-refused : goal.returns-in-Err-sync-clause-refused
 returns-in-Err-sync-clause-refused g c tells here none leaves =
     let longer = c.in-Ok.ensures.longer.leaves in
     inr (c.in-Ok.made.0.tree, omega (arith, longer, leaves), (c.in-Err-sync.error, c.from_joined-in-Err-sync.ensures, c.in-Err-sync.ensures.errors))
+
+pub returns-in-Ok-sync-clause-log : goal.returns-in-Ok-sync-clause-log
+returns-in-Ok-sync-clause-log g c tells =
+    let mid = g.V.Volume.state c.append.new.vol in
+    let new = g.V.Volume.state c.sync.new.vol in
+    let same = c.in-Ok.ensures.same.1.items in
+    let here = ap (λ (v : View g.row.O-Cfg.Denot). new.log v.name) same in
+    let there = ap (λ (v : View g.row.O-Cfg.Denot). mid.log v.name) same in
+    sym here ∙ c.in-Ok-sync.ensures.contents tells ∙ there ∙ c.in-Ok.ensures.appends.appended tells

@@ -1,4 +1,4 @@
-use Rattle.std.proofs.Common.{◌≡◌, ◌<◌, ◌∙◌, inl, inr, sym, ap, subst}
+use Rattle.std.proofs.Common.{◌≡◌, ◌<◌, ◌∙◌, None, inl, inr, sym, ap, subst}
 use Rattle.std.specs.Prelude.{string_bytes}
 use Rattle.std.specs.List.{AllByRecursion}
 use Rattle.volume_base.specs.Names.{Names, NamesCall}
@@ -8,8 +8,8 @@ use Rattle.journal_base.specs.Items.{Items, items_of}
 use Rattle.journal_base.specs.View.{View}
 use Rattle.volume_base.specs.Log.{Log, cut_to}
 use Rattle.chain_core.specs.declared.error.Error.TheVariants.{InvalidInitializationBound, Volume}
-use Rattle.keyless_db.specs.Opening.{EndsHere, IsSaidCommit}
-use Rattle.keyless_db.proofs.OpenLemmas.{empty_at, ends_here, if_err, if_ok, init_of, init_refused, never_err}
+use Rattle.keyless_db.specs.Opening.{EndsHere, GoesOn, IsSaidCommit}
+use Rattle.keyless_db.proofs.OpenLemmas.{empty_at, ends_here, if_err, if_ok, if_ok_both, init_of, init_refused, never_err}
 use Rattle.keyless_db.proofs.database.Keyless.init.Goals as goal
 
 pub returns-in-Ok-open_journal-clause-held : goal.returns-in-Ok-open_journal-clause-held
@@ -104,3 +104,20 @@ returns-in-Ok-open_journal-clause-refused g c tells some =
     (λ e why. init_refused g.V.Volume.tells digest admits g.F.Family.shape (old.map (string_bytes c.args.cfg.merkle.metadata)) (old.log (string_bytes c.args.cfg.merkle.nodes)) items m c.args.max_size _ j.items.end e
     (ap (λ (l : Log). l.start) cut) found why)
     (c.opened_from.ensures.refused tells at.1 ends)
+
+pub returns-in-Ok-open_journal-clause-opens : goal.returns-in-Ok-open_journal-clause-opens
+returns-in-Ok-open_journal-clause-opens g c =
+    let view = g.C.Backing.config c.args.cfg.log in
+    let old = g.V.Volume.state c.args.vol.now in
+    let mid = g.V.Volume.state c.open_journal.new.vol in
+    let new = g.V.Volume.state c.opened_from.new.vol in
+    let opened = c.in-Ok-open_journal.ensures in
+    let j = c.in-Ok-open_journal.journal in
+    let first = g.O.Spelled.spelling (g.O.KeylessOperation.committed None 0) in
+    let name = ap (λ (v : View g.row.O-Cfg.Denot). mid.log v.name) opened.named.0 in
+    if_ok_both _ _ _ c.opened_from.result
+    (λ d at log. λ tells.
+    let cut : mid.log j.items.name ≡ cut_to (old.log view.name) j.items.end = name ∙ opened.cut tells in
+    let moved = subst (λ (v : View g.row.O-Cfg.Denot). GoesOn first j.items.end (mid.log j.items.name) (new.log v.name)) opened.named.0 (log tells) in
+    (j.items.end, opened.found tells, at, subst (λ (l : Log). GoesOn first j.items.end l (new.log view.name)) cut moved))
+    c.opened_from.ensures.at c.opened_from.ensures.log

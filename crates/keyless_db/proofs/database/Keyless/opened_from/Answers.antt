@@ -1,5 +1,5 @@
 use Rattle.std.proofs.Common.{◌≡◌, ◌∷◌, [], ◌-◌, ◌<◌, List, length, take, None, Some, Err, inl, inr, refl, sym, ◌∙◌, ap, subst, arith}
-use Rattle.volume_base.specs.Log.{Log, end_of}
+use Rattle.volume_base.specs.Log.{Log, appended, end_of}
 use Rattle.volume_base.specs.Moments.{Image, present}
 use Rattle.volume_base.proofs.CallLemmas.{names_call_idle}
 use Rattle.codec_base.specs.Reads.{one_value}
@@ -68,13 +68,8 @@ returns-in-Ok-read-clause-held g c =
 
 pub returns-then-size-eq0-clause-at : goal.returns-then-size-eq0-clause-at
 returns-then-size-eq0-clause-at g c =
-    let m = g.O.Logged.meaning in
     let none : c.args.journal.items.end ≡ 0 = sym (c.as_u64-size.ensures ∙ c.size.ensures) ∙ c.if-size-eq0.true in
-    if_ok_both _ _ _ c.built.result
-    (λ d sized is.
-    let commit = is ∙ c.commit-commit.ensures in
-    inr (none, sized, record { floored = ap m.floor commit ∙ g.met.O.KeylessOperation.floored None 0; valued = ap m.value commit ∙ g.met.O.KeylessOperation.valued None 0 }))
-    c.built.ensures.size c.built.ensures.commit
+    if_ok_both _ _ _ c.built.result (λ d sized is. inr (none, sized, is ∙ c.commit-commit.ensures)) c.built.ensures.size c.built.ensures.commit
 
 pub returns-in-Ok-read-clause-names : goal.returns-in-Ok-read-clause-names
 returns-in-Ok-read-clause-names g c tells =
@@ -164,15 +159,22 @@ pub returns-in-Ok-read-clause-blob : goal.returns-in-Ok-read-clause-blob
 returns-in-Ok-read-clause-blob g c =
     if_ok _ _ c.built-in-Ok-read.result (λ d same. ap (λ (j : Joined g.row.H-Digest.Denot g.row.O-Cfg.Denot). j.tree.log.blob) same) c.built-in-Ok-read.ensures.journal
 
-pub returns-then-size-eq0-clause-kept : goal.returns-then-size-eq0-clause-kept
-returns-then-size-eq0-clause-kept g c =
-    let none : c.args.journal.items.end ≡ 0 = sym (c.as_u64-size.ensures ∙ c.size.ensures) ∙ c.if-size-eq0.true in
-    if_ok _ _ c.built.result (λ d same. λ tells some. absurd (omega (arith, none, some))) c.built.ensures.journal
+pub returns-then-size-eq0-clause-log : goal.returns-then-size-eq0-clause-log
+returns-then-size-eq0-clause-log g c =
+    let j = c.args.journal in
+    let old = g.V.Volume.state c.args.vol.now in
+    let none : j.items.end ≡ 0 = sym (c.as_u64-size.ensures ∙ c.size.ensures) ∙ c.if-size-eq0.true in
+    if_ok _ _ c.built.result
+    (λ d same. λ tells.
+    inr (none, c.in-Ok.ensures.log tells ∙ ap (λ (op : g.row.O.Denot). appended (old.log j.items.name) (g.O.Spelled.spelling op ∷ [])) c.commit-commit.ensures))
+    c.built.ensures.journal
 
-pub returns-in-Ok-read-clause-kept : goal.returns-in-Ok-read-clause-kept
-returns-in-Ok-read-clause-kept g c =
+pub returns-in-Ok-read-clause-log : goal.returns-in-Ok-read-clause-log
+returns-in-Ok-read-clause-log g c =
     let read = (c.in-Ok-read.ensures {u = tt}).answers in
-    if_ok _ _ c.built-in-Ok-read.result (λ d same. λ tells some. (read.contents tells).logs c.args.journal.items.name) c.built-in-Ok-read.ensures.journal
+    let end : c.as_u64-size.result ≡ c.args.journal.items.end = c.as_u64-size.ensures ∙ c.size.ensures in
+    let some : 0 < c.args.journal.items.end = omega (arith, c.if-size-eq0.false, end) in
+    if_ok _ _ c.built-in-Ok-read.result (λ d same. λ tells. inl (some, (read.contents tells).logs c.args.journal.items.name)) c.built-in-Ok-read.ensures.journal
 
 pub returns-in-Err-clause-refused : goal.returns-in-Err-clause-refused
 returns-in-Err-clause-refused g c tells here ends =
