@@ -23,7 +23,7 @@ use Rattle.chain_core.specs.declared.error.Error.{Error}
 use Rattle.chain_core.specs.declared.error.Error.TheVariants as db_error
 use Rattle.chain_core.specs.declared.pool.HeldBatch.{HeldBatch}
 use Rattle.keyless_db.specs.Batches.{MerkleizedView, UnmerkleizedView}
-use Rattle.keyless_db.specs.Reading.{IsChainFault, IsReadBelow, IsReadFault, last_past, locations_refusal, location_refusal, floored_refusal, pending_item}
+use Rattle.keyless_db.specs.Reading.{IsChainFault, IsReadAt, IsReadBelow, IsReadFault, last_past, locations_refusal, location_refusal, floored_refusal, pending_item}
 use Rattle.keyless_db.proofs.LocationLemmas.{le_true, le_false}
 use Rattle.keyless_db.proofs.SeveralLemmas.{unfit_err}
 
@@ -157,7 +157,7 @@ module _ {Op Cfg : Type 0} (F : Type 0) (tells : Type 0) (spelling : Op → List
   still : tells → log_of view b ≡ log_of view a
   still told = (same told).logs view.name
 
-  read_still : (l : ℕ) (e : Error F) → IsReadFault tells (items_of spelling admits view b) l e → IsReadFault tells (items_of spelling admits view a) l e
+  pub read_still : (l : ℕ) (e : Error F) → IsReadFault tells (items_of spelling admits view b) l e → IsReadFault tells (items_of spelling admits view a) l e
   read_still l e fault = record {
     cause = fault.cause;
     is = fault.is;
@@ -170,6 +170,11 @@ module _ {Op Cfg : Type 0} (F : Type 0) (tells : Type 0) (spelling : Op → List
   pub fault_still : (size : ℕ) (kept : Option Op) (l : ℕ) (e : Error F) → IsChainFault tells (items_of spelling admits view b) size kept l e → IsChainFault tells (items_of spelling admits view a) size kept l e
   fault_still size kept l e (inl lost) = inl lost
   fault_still size kept l e (inr fault) = inr (read_still l e fault)
+
+pub read_at_still : {Op V Cfg : Type 0} (m : Meaning Op V) (tells : Type 0) (spelling : Op → List ℕ) (admits : Cfg → Op → Type 0) (view : View Cfg) (a b : State) → (tells → SameContents a b) → (l : ℕ) (v : Option V)
+    → (tells → IsReadAt m (items_of spelling admits view b) l v) → tells → IsReadAt m (items_of spelling admits view a) l v
+read_at_still m tells spelling admits view a b same l v was t =
+    let at = was t in (at.0, subst (λ (log : Log). IsItemAt log l (spelling at.0)) ((same t).logs view.name) at.1, at.2, at.3)
 
 pub told_still : {Op V Cfg : Type 0} (m : Meaning Op V) (tells : Type 0) (spelling : Op → List ℕ) (admits : Cfg → Op → Type 0) (view : View Cfg) (a b : State) → (tells → SameContents a b) → (size : ℕ) (kept : Option Op) (l : ℕ)
     (v : Option V) → IsReadBelow m tells (items_of spelling admits view b) size kept l v → IsReadBelow m tells (items_of spelling admits view a) size kept l v

@@ -166,6 +166,11 @@ module _ {Op V : Type 0} (m : Meaning Op V) where
   abbrev pub IsReadAt : Items Op → ℕ → Option V → Type 0
   IsReadAt items l value = (op : Op) × Holds items l op × items.admits op × (value ≡ m.value op)
 
+  -- So is each of several values, at its location.
+  abbrev pub AreReadAt : Items Op → List ℕ → List (Option V) → Type 0
+  AreReadAt items ls values =
+      (i l : ℕ) (value : Option V) → slice_get ls i ≡ Some l → slice_get values i ≡ Some value → IsReadAt items l value
+
   -- Where the chain keeps no operation at a location, the value is that of one that a database of so many has there.
   abbrev pub IsReadBelow : Type 0 → Items Op → ℕ → Option Op → ℕ → Option V → Type 0
   IsReadBelow tells items size kept l value = kept ≡ None → (l < size) × (tells → IsReadAt items l value)

@@ -7,7 +7,9 @@ use tree_core::{Family, Hasher, Location};
 use volume_base::{JournalError, Volume};
 
 impl<F: Family, O: KeylessOperation, C: Backing<Item = O>, H: Hasher> Keyless<F, O, C, H> {
-    ghost use Rattle.std.specs.Prelude.{◌≡◌, ◌⊎◌, ℕ, ◌<◌, ◌≤◌, List, length, map, take, Some, None, slice_get, Err, IfOk, IfErr};
+    ghost use Rattle.std.specs.Prelude.{◌≡◌, ◌⊎◌, ℕ, ◌<◌, ◌≤◌, List, length, map, take};
+    ghost use Rattle.std.specs.Prelude.{Some, None, slice_get, Err, IfOk};
+    ghost use Rattle.std.specs.Prelude.{IfErr, Contains};
     ghost use Rattle.std.specs.List.{AllByRecursion};
     ghost use Rattle.journal_base.specs.Items.{items_of};
     ghost use Rattle.volume_base.specs.Moments.{present};
@@ -19,7 +21,9 @@ impl<F: Family, O: KeylessOperation, C: Backing<Item = O>, H: Hasher> Keyless<F,
     ghost use Rattle.chain_core.specs.Answers.{IsRefusedFor};
     ghost use Rattle.chain_core.specs.declared.error.Error.{Error};
     ghost use Rattle.keyless_db.specs.DbView.{IsHeldFor};
-    ghost use Rattle.keyless_db.specs.Reading.{AnswersAs, IsChainFault, IsReadAt, IsReadFault, below_start, first_refused, from_start, kept_over, kept_value, locations_refusal};
+    ghost use Rattle.keyless_db.specs.Reading.{AnswersAs, AreReadAt, IsChainFault, IsReadAt, IsReadFault};
+    ghost use Rattle.keyless_db.specs.Reading.{below_start};
+    ghost use Rattle.keyless_db.specs.Reading.{first_refused, from_start, kept_over, kept_value, locations_refusal};
 
     /// The value of the operation that the log has at a location; of a commit, its metadata.
     pub(crate) fn value<V: Volume>(
@@ -82,12 +86,15 @@ impl<F: Family, O: KeylessOperation, C: Backing<Item = O>, H: Hasher> Keyless<F,
         vol: &mut V,
         loc: Location<F>,
     ) -> Result<Option<O::Value>, Error<F>>
-        // Of a held database, whose operations may be such, it is the list's answer.
+        // Of a held database, whose operation there may be such, it is the list's answer.
         ensures answer { let admits = H.Digest.Read.admits tt in V.tells → (ops : List O) →
             IsHeldFor F.shape H.hash O.meaning H.Digest.spelling admits O.spelling ops self.now
             (present (V.state vol.old)) →
-            AllByRecursion (O.admits self.now.journal.items.codec) ops →
+            ((op : O) → slice_get ops loc ≡ Some op → O.admits self.now.journal.items.codec op) →
             AnswersAs (λ value. value) (read_answer O.meaning ops self.now.journal.items.start ItemPruned loc) result }
+        // Of any contents it is that of an operation that stands there.
+        ensures told { let items = items_of O.spelling O.admits self.now.journal.items (V.state vol.old) in
+            IfOk result (λ value. V.tells → IsReadAt O.meaning items loc value) }
         ensures outside { self.now.state.size ≤ loc →
             (result ≡ Err (Error.LocationOutOfBounds loc self.now.state.size)) × (vol.new ≡ vol.old) }
         ensures fault { let items = items_of O.spelling O.admits self.now.journal.items (V.state vol.old) in
@@ -115,11 +122,16 @@ impl<F: Family, O: KeylessOperation, C: Backing<Item = O>, H: Hasher> Keyless<F,
         ensures listed { let admits = H.Digest.Read.admits tt in V.tells → (ops : List O) →
             IsHeldFor F.shape H.hash O.meaning H.Digest.spelling admits O.spelling ops self.now
             (present (V.state vol.old)) →
-            AllByRecursion (O.admits self.now.journal.items.codec) ops → locations_refusal (length ops) locs.now ≡
-            None →
+            AllByRecursion (λ l. (op : O) → slice_get ops l ≡ Some op → O.admits self.now.journal.items.codec op)
+            locs.now → locations_refusal (length ops) locs.now ≡ None →
             AnswersAs (λ values. values.items)
             (unless_refused (first_refused (below_start self.now.journal.items.start) locs.now)
             (map (value_at O.meaning ops) locs.now)) result }
+        ensures told { let items = items_of O.spelling O.admits self.now.journal.items (V.state vol.old) in
+            IfOk result (λ values. V.tells → AreReadAt O.meaning items locs.now values.items) }
+        ensures count { IfOk result (λ values. length values.items ≡ length locs.now) }
+        ensures fault { let items = items_of O.spelling O.admits self.now.journal.items (V.state vol.old) in
+            IfErr result (λ e. (l : ℕ) × Contains locs.now l × IsReadFault V.tells items l e) }
         ensures reads { Reads V.tells Error.Volume (V.state vol.old) (V.state vol.new) result }
     {
         let mut values = Vec::new(self.alloc);
@@ -141,15 +153,23 @@ impl<F: Family, O: KeylessOperation, C: Backing<Item = O>, H: Hasher> Keyless<F,
     ) -> Result<Vec<Option<O::Value>>, Error<F>>
     where
         O::Value: Drop,
-        // Of a held database, whose operations may be such, it is the list's answer.
+        // Of a held database, whose operations there may be such, it is the list's answer.
         ensures answer { let admits = H.Digest.Read.admits tt in V.tells → (ops : List O) →
             IsHeldFor F.shape H.hash O.meaning H.Digest.spelling admits O.spelling ops self.now
             (present (V.state vol.old)) →
-            AllByRecursion (O.admits self.now.journal.items.codec) ops →
+            AllByRecursion (λ l. (op : O) → slice_get ops l ≡ Some op → O.admits self.now.journal.items.codec op)
+            locs.now →
             AnswersAs (λ values. values.items)
             (many_answer O.meaning ops self.now.journal.items.start ItemPruned locs.now) result }
         ensures unfit { (why : Refusal) → locations_refusal self.now.state.size locs.now ≡ Some why →
             IsRefusedFor why result × (vol.new ≡ vol.old) }
+        // Of any contents each is that of an operation that stands there.
+        ensures told { let items = items_of O.spelling O.admits self.now.journal.items (V.state vol.old) in
+            IfOk result (λ values. V.tells → AreReadAt O.meaning items locs.now values.items) }
+        ensures count { IfOk result (λ values. length values.items ≡ length locs.now) }
+        ensures fault { let items = items_of O.spelling O.admits self.now.journal.items (V.state vol.old) in
+            locations_refusal self.now.state.size locs.now ≡ None →
+            IfErr result (λ e. (l : ℕ) × Contains locs.now l × IsReadFault V.tells items l e) }
         ensures reads { Reads V.tells Error.Volume (V.state vol.old) (V.state vol.new) result }
     {
         let size = self.state.size.as_u64();

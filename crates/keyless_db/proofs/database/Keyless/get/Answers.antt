@@ -1,9 +1,10 @@
 use Rattle.std.proofs.Common.{◌≡◌, ◌≤◌, ◌<◌, length, Some, Option, inr, ◌∙◌, ap, subst, arith}
-use Rattle.std.specs.Prelude.{slice_get}
+use Rattle.std.specs.Prelude.{slice_get, IfOk}
+use Rattle.journal_base.specs.Items.{items_of}
 use Rattle.log_model.specs.declared.refusal.Refusal.TheVariants.{LocationOutOfBounds}
 use Rattle.keyless_db.specs.DbView.{DbView}
-use Rattle.keyless_db.specs.Reading.{AnswersAs, from_start}
-use Rattle.keyless_db.proofs.ReadLemmas.{all_at, get_there, outside_answer}
+use Rattle.keyless_db.specs.Reading.{AnswersAs, IsReadAt, from_start}
+use Rattle.keyless_db.proofs.ReadLemmas.{get_there, outside_answer}
 use Rattle.keyless_db.proofs.StillLemmas.{held_size}
 use Rattle.keyless_db.proofs.database.Keyless.get.Goals as goal
 
@@ -31,4 +32,9 @@ returns-clause-answer g c tells ops held all =
     let within : l < length ops = omega (arith, c.if-location-size.false, size, count, same) in
     get_there g.O.Logged.meaning ops db.journal.items.start l _ within
     (λ op at. subst (λ n. AnswersAs (λ (v : Option g.row.O-Value.Denot). v) (from_start db.journal.items.start n (g.O.Logged.meaning.value op)) c.value.result) same
-    (c.value.ensures.listed tells ops op held (ap (slice_get ops) same ∙ at) (all_at (g.O.Read.admits db.journal.items.codec) ops l op all at)))
+    (c.value.ensures.listed tells ops op held (ap (slice_get ops) same ∙ at) (all op at)))
+
+pub returns-clause-told : goal.returns-clause-told
+returns-clause-told g c =
+    let items = items_of g.O.Spelled.spelling g.O.Read.admits c.args.self.now.journal.items (g.V.Volume.state c.args.vol.now) in
+    subst (λ n. IfOk c.value.result (λ v. g.V.Volume.tells → IsReadAt g.O.Logged.meaning items n v)) c.as_u64-location.ensures c.value.ensures.told
