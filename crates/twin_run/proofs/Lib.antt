@@ -20,3 +20,4 @@ pub mod CompactStanding
 pub mod FullLemmas
 pub mod FoundLemmas
 pub mod FullOpening
+pub mod CompactRefusing

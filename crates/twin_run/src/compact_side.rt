@@ -1,5 +1,6 @@
 //! The compact database, which keeps a witness of each applied state on a volume, as a database of the run.
-ghost use Rattle.std.specs.Prelude.{◌≡◌, ◌≢◌, ◌-◌, ◌≤◌, ℕ, List, Some, IfOk, IsErrOf, slice_get, string_bytes};
+ghost use Rattle.std.specs.Prelude.{◌≡◌, ◌≢◌, ◌-◌, ◌≤◌, ℕ, List, Some, IfOk, IfErr, IsErrOf, slice_get, string_bytes};
+ghost use Rattle.codec_base.specs.Parts.{whole};
 ghost use Rattle.volume_base.specs.Log.{no_log};
 ghost use Rattle.volume_base.specs.Moments.{present};
 ghost use Rattle.volume_base.specs.Names.{log_alone, NamesCall};
@@ -7,11 +8,14 @@ ghost use Rattle.volume_base.specs.Volume.{Changes};
 ghost use Rattle.tree_shape.specs.Mmr.{mmr};
 ghost use Rattle.tree_shape.specs.Sha256Codec.{bytes_of, IsDigest};
 ghost use Rattle.tree_shape.specs.declared.mmr.Mmr.{Mmr};
+ghost use Rattle.log_model.specs.Good.{FloorsRise};
 ghost use Rattle.log_model.specs.Machine.{State};
 ghost use Rattle.log_model.specs.Opening.{last_kept, opened_at};
 ghost use Rattle.log_model.specs.Stored.{DatabaseNames, CompactStands};
+ghost use Rattle.tree_shape.specs.declared.sha256.Sha256Digest.{Sha256Digest};
+ghost use Rattle.chain_core.specs.Answers.{IsOutside};
 ghost use Rattle.compact_db.specs.Held.{HasStates};
-ghost use Rattle.compact_db.specs.Opening.{IsLatest, witnesses_in};
+ghost use Rattle.compact_db.specs.Opening.{IsLatest, IsOpeningFault, witnesses_in};
 ghost use Rattle.twin_run.specs.CompactKind.{IsCompactOf, IsOpenable, compact_kind, kept_to};
 ghost use Rattle.twin_run.specs.Kind.{kept_of};
 ghost use Rattle.twin_run.specs.Operation.{Operation, meaning, sha};
@@ -145,6 +149,17 @@ pub fn open_compact<V: Volume>(
         let before = present (V.state volume.old) in
         IsCompactOf (kept_of (opened_at names s before (last_kept most log 1 0 s.sizes)))
         (present (V.state volume.new)) db) }
+    // Over an empty log it is refused by the volume or for want of memory alone.
+    ensures fresh_refused { cap ≢ Some 0 → V.tells → (V.state volume.old).log (string_bytes cfg.witness) ≡ no_log →
+        IfErr result (λ e. IsOutside e) }
+    // So it is over a log that stands for a state whose floors rise, under such a cap.
+    ensures refused { V.tells → let log = (V.state volume.old).log (string_bytes cfg.witness) in
+        IfErr result (λ e. (s : State Operation) (most : ℕ) → cap ≡ Some most → 1 ≤ most → s.durable ≤ most →
+        IsOpenable (⟦<Operation as Read>⟧.admits cfg.commit_codec) s → FloorsRise meaning 0 0 s.ops →
+        CompactStands mmr sha bytes_of meaning s.ops s.sizes s.prune s.durable log → IsOutside e) }
+    // Over whatever volume it fails by one of these alone.
+    ensures errors { cap ≢ Some 0 → IfErr result (IsOpeningFault Sha256Digest mmr meaning
+        (λ bytes. whole (⟦<Operation as Read>⟧.reads cfg.commit_codec bytes)) cap) }
     ensures names { V.tells → NamesCall (log_alone (string_bytes cfg.witness)) (V.state volume.old)
         (V.state volume.new) }
     ensures same_names { IfOk result (λ db. compact_kind.names db ≡ log_alone (string_bytes cfg.witness)) }

@@ -3,6 +3,7 @@ use Rattle.std.specs.Prelude.{string_bytes}
 use Rattle.volume_base.specs.Names.{log_alone, NamesCall}
 use Rattle.volume_base.proofs.CallLemmas.{names_call_none}
 use Rattle.twin_run.proofs.CompactOpening.{either_cap, opened_fresh, opened_held}
+use Rattle.twin_run.proofs.CompactRefusing.{read_again, fresh_not, state_not}
 use Rattle.twin_run.proofs.CompactStanding.{opened_state}
 use Rattle.twin_run.proofs.compact_side.open_compact.Goals as goal
 
@@ -22,3 +23,12 @@ returns-clause-names g c = λ told.
     either_cap c.args.cap (NamesCall names (state c.args.volume.now) (state c.init.new.vol))
     (λ none. subst (λ v. NamesCall names (state c.args.volume.now) (state v)) (sym (c.init.ensures.bound none).1) (names_call_none _ _))
     (λ capped. (c.init.ensures.opens capped).names told)
+
+pub returns-clause-fresh_refused : goal.returns-clause-fresh_refused
+returns-clause-fresh_refused g c = λ capped told none. fresh_not _ _ (read_again c.args.cfg.commit_codec) _ _ _ _ _ c.init.result (c.init.ensures.opens capped) told none
+
+pub returns-clause-refused : goal.returns-clause-refused
+returns-clause-refused g c = λ told. state_not _ _ (read_again c.args.cfg.commit_codec) _ _ _ _ _ c.init.result c.init.ensures.opens told
+
+pub returns-clause-errors : goal.returns-clause-errors
+returns-clause-errors g c = λ capped. (c.init.ensures.opens capped).errors
