@@ -55,7 +55,7 @@ retold kept other image db ops sizes start is = record {
 abbrev pub witnesses_at : List Operation → List ℕ → List (Witness Mmr Sha256Digest)
 witnesses_at ops ns = map (witness_of {F = Mmr} mmr sha meaning ops) ns
 
-texts_are : (ops : List Operation) (ns : List ℕ) → map (text_of bytes_of) (witnesses_at ops ns) ≡ map (witness_text mmr sha meaning bytes_of ops) ns
+pub texts_are : (ops : List Operation) (ns : List ℕ) → map (text_of bytes_of) (witnesses_at ops ns) ≡ map (witness_text mmr sha meaning bytes_of ops) ns
 texts_are ops [] = refl
 texts_are ops (n ∷ ns) = ap (λ ts. witness_text mmr sha meaning bytes_of ops n ∷ ts) (texts_are ops ns)
 

@@ -21,3 +21,4 @@ pub mod FullLemmas
 pub mod FoundLemmas
 pub mod FullOpening
 pub mod CompactRefusing
+pub mod CompactImages

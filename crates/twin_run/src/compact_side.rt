@@ -2,9 +2,9 @@
 ghost use Rattle.std.specs.Prelude.{◌≡◌, ◌≢◌, ◌-◌, ◌≤◌, ℕ, List, Some, IfOk, IfErr, IsErrOf, slice_get, string_bytes};
 ghost use Rattle.codec_base.specs.Parts.{whole};
 ghost use Rattle.volume_base.specs.Log.{no_log};
-ghost use Rattle.volume_base.specs.Moments.{present};
+ghost use Rattle.volume_base.specs.Moments.{present, LogHas, LogKeeps};
 ghost use Rattle.volume_base.specs.Names.{log_alone, NamesCall};
-ghost use Rattle.volume_base.specs.Volume.{Changes};
+ghost use Rattle.volume_base.specs.Volume.{Changes, OnlyLeft};
 ghost use Rattle.tree_shape.specs.Mmr.{mmr};
 ghost use Rattle.tree_shape.specs.Sha256Codec.{bytes_of, IsDigest};
 ghost use Rattle.tree_shape.specs.declared.mmr.Mmr.{Mmr};
@@ -160,6 +160,17 @@ pub fn open_compact<V: Volume>(
     // Over whatever volume it fails by one of these alone.
     ensures errors { cap ≢ Some 0 → IfErr result (IsOpeningFault Sha256Digest mmr meaning
         (λ bytes. whole (⟦<Operation as Read>⟧.reads cfg.commit_codec bytes)) cap) }
+    // Under such a cap, where each log that a crash leaves stands for the state, so it does at each moment of the call.
+    ensures images { V.tells → let name = string_bytes cfg.witness in (s : State Operation) (most : ℕ) →
+        cap ≡ Some most → 1 ≤ most → s.durable ≤ most →
+        IsOpenable (⟦<Operation as Read>⟧.admits cfg.commit_codec) s →
+        let stands = CompactStands mmr sha bytes_of meaning s.ops s.sizes s.prune s.durable in
+        stands ((V.state volume.old).log name) → LogHas (V.state volume.old) name stands →
+        LogKeeps name stands (V.state volume.old) (V.state volume.new) }
+    // After it a crash leaves the log as it is.
+    ensures durable { cap ≢ Some 0 → V.tells → let name = string_bytes cfg.witness in
+        let state = V.state volume.new in
+        IfOk result (λ db. OnlyLeft (state.log_left state.clock name) (state.log name)) }
     ensures names { V.tells → NamesCall (log_alone (string_bytes cfg.witness)) (V.state volume.old)
         (V.state volume.new) }
     ensures same_names { IfOk result (λ db. compact_kind.names db ≡ log_alone (string_bytes cfg.witness)) }

@@ -3,6 +3,7 @@ use Rattle.std.specs.Prelude.{string_bytes}
 use Rattle.volume_base.specs.Names.{log_alone, NamesCall}
 use Rattle.volume_base.proofs.CallLemmas.{names_call_none}
 use Rattle.twin_run.proofs.CompactOpening.{either_cap, opened_fresh, opened_held}
+use Rattle.twin_run.proofs.CompactImages.{state_left, left_alone}
 use Rattle.twin_run.proofs.CompactRefusing.{read_again, fresh_not, state_not}
 use Rattle.twin_run.proofs.CompactStanding.{opened_state}
 use Rattle.twin_run.proofs.compact_side.open_compact.Goals as goal
@@ -32,3 +33,9 @@ returns-clause-refused g c = λ told. state_not _ _ (read_again c.args.cfg.commi
 
 pub returns-clause-errors : goal.returns-clause-errors
 returns-clause-errors g c = λ capped. (c.init.ensures.opens capped).errors
+
+pub returns-clause-images : goal.returns-clause-images
+returns-clause-images g c = λ told. state_left _ _ _ _ _ _ _ c.init.result c.init.ensures.opens told
+
+pub returns-clause-durable : goal.returns-clause-durable
+returns-clause-durable g c = λ capped told. left_alone _ _ _ _ _ _ _ c.init.result (c.init.ensures.opens capped) told
