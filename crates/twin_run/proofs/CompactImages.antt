@@ -32,6 +32,7 @@ use Rattle.twin_run.specs.Operation.{Operation, meaning, sha}
 use Rattle.twin_run.specs.Step.{plain_commit}
 use Rattle.twin_run.specs.CompactKind.{CompactView, IsOpenable}
 use Rattle.twin_run.proofs.CompactLemmas.{commit_by}
+use Rattle.twin_run.proofs.CompactOpening.{under_cap}
 use Rattle.twin_run.proofs.CompactSizes.{first_here, IsLastAt, IsFound, found_last, has_at, at_has}
 use Rattle.twin_run.proofs.CompactStanding.{texts_are, has_states, is_latest, some_kept, none_kept, log_fresh}
 
@@ -165,16 +166,13 @@ module _ (tells : Type 0) (decoded : List ℕ → Result Operation CodecError) (
         by [] same = keeps_none (let count = ap length same in omega (arith, count))
         by (x ∷ xs) same = keeps_some (let count = ap length same in omega (arith, count))
 
-  under_cap : (most : ℕ) → 1 ≤ most → cap ≡ Some most → cap ≢ Some 0
-  under_cap most one is = λ none. (let zero_cap : most ≡ 0 = (let e = sym is ∙ none in cc) in omega (arith, zero_cap, one))
-
   -- each log that a crash leaves stands for the state
   pub state_left : (cap ≢ Some 0 → Opens mmr sha meaning bytes_of IsDigest decoded allowed view cap tells old new r) → tells
       → (s : State Operation) (most : ℕ) → cap ≡ Some most → 1 ≤ most → s.durable ≤ most → IsOpenable allowed s
       → CompactStands mmr sha bytes_of meaning s.ops s.sizes s.prune s.durable (old.log view.name)
       → LogHas old view.name (CompactStands mmr sha bytes_of meaning s.ops s.sizes s.prune s.durable)
       → LogKeeps view.name (CompactStands mmr sha bytes_of meaning s.ops s.sizes s.prune s.durable) old new
-  state_left opens told s most cap_is one high is stands left = keeps_one (opens (under_cap most one cap_is)) told s most cap_is one high is stands left
+  state_left opens told s most cap_is one high is stands left = keeps_one (opens (under_cap cap most one cap_is)) told s most cap_is one high is stands left
 
 -- after an opening it leaves the log as it is
 pub left_alone : (tells : Type 0) (decoded : List ℕ → Result Operation CodecError) (allowed : Operation → Type 0) (view : View (Unit {0})) (cap : Option ℕ) (old new : volume.State)

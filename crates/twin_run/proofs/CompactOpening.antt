@@ -1,5 +1,5 @@
 -- What an opening of the compact database gives the run.
-use Rattle.std.proofs.Common.{◌≡◌, ◌≢◌, ℕ, zero, suc, ◌+◌, ◌-◌, ◌<◌, ◌≤◌, List, [], ◌∷◌, length, map, take, drop, Option, Some, None, refl, ◌∙◌, ap, subst, arith}
+use Rattle.std.proofs.Common.{◌≡◌, ◌≢◌, ℕ, zero, suc, ◌+◌, ◌-◌, ◌<◌, ◌≤◌, List, [], ◌∷◌, length, map, take, drop, Option, Some, None, refl, sym, ◌∙◌, ap, subst, arith}
 use Rattle.std.specs.Prelude.{slice_get, Result, Ok, Err, IfOk}
 use Rattle.std.proofs.lemmas.List.{length-map, length-take, length-drop}
 use Rattle.std.proofs.lemmas.Option.{slice_get_within}
@@ -30,6 +30,10 @@ pub either_cap : (cap : Option ℕ) (P : Type 0) → (cap ≡ Some 0 → P) → 
 either_cap None P zero_cap other = other (λ e. cc)
 either_cap (Some zero) P zero_cap other = zero_cap refl
 either_cap (Some (suc n)) P zero_cap other = other (λ e. cc)
+
+-- a cap of at least 1 isn't 0
+pub under_cap : (cap : Option ℕ) (most : ℕ) → 1 ≤ most → cap ≡ Some most → cap ≢ Some 0
+under_cap cap most one is = λ none. (let zero_cap : most ≡ 0 = (let e = sym is ∙ none in cc) in omega (arith, zero_cap, one))
 
 -- a log with the witnesses of a list has one where it has a latest size
 some_witness : (log : Log) (ops : List Operation) (sizes : List ℕ) (cap : Option ℕ) (count size : ℕ)

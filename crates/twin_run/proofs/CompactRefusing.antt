@@ -36,6 +36,7 @@ use Rattle.compact_db.proofs.StateLemmas.{last_taken, kept_size}
 use Rattle.compact_db.proofs.SizeLemmas.{size_some}
 use Rattle.twin_run.specs.Operation.{Operation, meaning, sha}
 use Rattle.twin_run.specs.CompactKind.{CompactView, IsOpenable}
+use Rattle.twin_run.proofs.CompactOpening.{under_cap}
 use Rattle.twin_run.proofs.CompactSizes.{IsFound, found_last}
 use Rattle.twin_run.proofs.CompactStanding.{has_states, is_latest, some_kept, log_fresh}
 
@@ -140,12 +141,9 @@ module _ (decoded : List ℕ → Result Operation CodecError) (allowed : Operati
           by [] same = out_of_none (let count = ap length same in omega (arith, count))
           by (x ∷ xs) same = out_of_some (let count = ap length same in omega (arith, count))
 
-    under_cap : (most : ℕ) → 1 ≤ most → cap ≡ Some most → cap ≢ Some 0
-    under_cap most one is = λ none. (let zero_cap : most ≡ 0 = (let e = sym is ∙ none in cc) in omega (arith, zero_cap, one))
-
     -- and so is a log that stands for a state
     pub state_not : (r : Result CompactView (Error Mmr)) → (cap ≢ Some 0 → Opens mmr sha meaning bytes_of IsDigest decoded allowed view cap tells old new r) → tells
         → IfErr r (λ e. (s : State Operation) (most : ℕ) → cap ≡ Some most → 1 ≤ most → s.durable ≤ most → IsOpenable allowed s → FloorsRise meaning 0 0 s.ops
         → CompactStands mmr sha bytes_of meaning s.ops s.sizes s.prune s.durable (old.log view.name) → IsOutside e)
     state_not (Ok db) opens told = tt
-    state_not (Err e) opens told = λ s most cap_is one high is floors stands. outside_one e (opens (under_cap most one cap_is)) told s most cap_is one high is floors stands
+    state_not (Err e) opens told = λ s most cap_is one high is floors stands. outside_one e (opens (under_cap cap most one cap_is)) told s most cap_is one high is floors stands

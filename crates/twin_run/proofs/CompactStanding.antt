@@ -38,7 +38,7 @@ use Rattle.twin_run.specs.Operation.{Operation, meaning, sha}
 use Rattle.twin_run.specs.Kind.{Kept, kept_of}
 use Rattle.twin_run.specs.Trace.{fresh_state}
 use Rattle.twin_run.specs.CompactKind.{CompactView, IsHeldAt, IsCompactOf, IsOpenable, at_rest, kept_to}
-use Rattle.twin_run.proofs.CompactOpening.{opened_fresh, opened_held}
+use Rattle.twin_run.proofs.CompactOpening.{opened_fresh, opened_held, under_cap}
 use Rattle.twin_run.proofs.CompactSizes.{rise_get, rises_of, rises_behind, rises_before, first_here, sizes_upto, each_size, IsLastAt, NoneKept, IsFound, found_last, has_at, at_has}
 
 -- what is kept, in other words
@@ -240,12 +240,9 @@ module _ (tells : Type 0) (decoded : List ℕ → Result Operation CodecError) (
         by [] same = of_none (let count = ap length same in omega (arith, count))
         by (x ∷ xs) same = of_some (let count = ap length same in omega (arith, count))
 
-  capped : (most : ℕ) → 1 ≤ most → cap ≡ Some most → cap ≢ Some 0
-  capped most one is = λ none. (let zero_cap : most ≡ 0 = (let e = sym is ∙ none in cc) in omega (arith, zero_cap, one))
-
   pub opened_state : (r : Result CompactView (Error Mmr)) → (cap ≢ Some 0 → Opens mmr sha meaning bytes_of IsDigest decoded allowed view cap tells old new r) → tells
       → IfOk r (λ db. (names : DatabaseNames) (s : State Operation) (most : ℕ) → names.witness ≡ view.name → cap ≡ Some most → 1 ≤ most → s.durable ≤ most
       → IsOpenable allowed s → CompactStands mmr sha bytes_of meaning s.ops s.sizes s.prune s.durable (old.log view.name)
       → IsCompactOf (kept_of (opened_at names s (present old) (last_kept most (old.log view.name) 1 0 s.sizes))) (present new) db)
-  opened_state (Ok db) opens told = λ names s most name cap_is one high is stands. opened_one db (opens (capped most one cap_is)) told names s most name cap_is one high is stands
+  opened_state (Ok db) opens told = λ names s most name cap_is one high is stands. opened_one db (opens (under_cap cap most one cap_is)) told names s most name cap_is one high is stands
   opened_state (Err e) opens told = tt
