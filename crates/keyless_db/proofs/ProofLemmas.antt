@@ -1,13 +1,23 @@
 -- Proofs of a list's operations, and why they are refused.
-use Rattle.std.proofs.Common.{◌≡◌, ◌⊎◌, inl, inr, ℕ, zero, suc, ◌+◌, ◌-◌, ◌<◌, ◌≤◌, min, Bool, true, false, List, [], ◌∷◌, length, take, drop, map, Some, None, Ok, Err, refl, sym, ◌∙◌, ap, arith}
-use Rattle.std.specs.Prelude.{slice_get, nat_lt, nat_le, is_none, unwrap_or, Option, ◌==◌, ◌||◌}
+use Rattle.std.proofs.Common.{◌≡◌, ◌⊎◌, inl, inr, ℕ, zero, suc, ◌+◌, ◌-◌, ◌<◌, ◌≤◌, min, Bool, true, false, List, [], ◌∷◌, length, take, drop, map, Some, None, Ok, Err, refl, sym, ◌∙◌, ap, subst, arith}
+use Rattle.std.specs.Prelude.{slice_get, nat_lt, nat_le, is_none, unwrap_or, IfErr, IsErrOf, Option, Result, ◌==◌, ◌||◌}
 use Rattle.std.specs.List.{enumerate_from}
 use Rattle.std.proofs.lemmas.Bool.Decides.{nat_tests}
 use Rattle.std.proofs.lemmas.List.{drop-take, take-map}
+use Rattle.volume_base.specs.declared.error.JournalError.{JournalError}
+use Rattle.volume_base.specs.declared.error.JournalError.TheVariants as journal
+use Rattle.volume_base.specs.Log.{Log}
+use Rattle.volume_base.specs.Volume.{State, SameContents}
+use Rattle.journal_base.specs.Items.{Items, Holds, IsCorrupt, items_of}
+use Rattle.journal_base.specs.View.{View}
 use Rattle.tree_shape.specs.Hashing.{Hashing}
 use Rattle.tree_shape.specs.Shape.{Shape, inactive}
 use Rattle.tree_shape.specs.Slow.{leaf}
+use Rattle.auth_journal.specs.Errors as journal_errors
 use Rattle.auth_journal.specs.Joined.{leaves_of}
+use Rattle.auth_journal.specs.Reading.{IsFirstUnread, IsUnreadAt}
+use Rattle.auth_journal.specs.declared.error.Error as joined_error
+use Rattle.auth_journal.specs.declared.error.Error.TheVariants as joined
 use Rattle.log_model.specs.Meaning.{Meaning}
 use Rattle.log_model.specs.Operations.{floor_of, leaves_from}
 use Rattle.log_model.specs.Proofs.{lacks_commit, proof_refusal, proof_answer, proof_end, size_refusal}
@@ -18,9 +28,12 @@ use Rattle.log_model.specs.Reads.{or_else, refuse_if, unless_refused}
 use Rattle.log_model.specs.declared.refusal.Refusal.{Refusal}
 use Rattle.log_model.specs.declared.refusal.Refusal.TheVariants as refusal
 use Rattle.chain_core.specs.Answers.{IsOutside, read_refusal_of}
+use Rattle.chain_core.specs.Errors.{from_journal}
 use Rattle.chain_core.specs.declared.error.Error.{Error}
-use Rattle.auth_journal.specs.Proving.{items_answer}
-use Rattle.keyless_db.specs.Reading.{AnswersAs, below_start, floor_refusal, from_start, late_refusal}
+use Rattle.chain_core.specs.declared.error.Error.TheVariants as db_error
+use Rattle.keyless_db.specs.Errors.{IsFromJoined, from_joined}
+use Rattle.auth_journal.specs.Proving.{WhyUnproved, items_answer}
+use Rattle.keyless_db.specs.Reading.{AnswersAs, IsCorruptFor, IsFloorFault, IsNoCommitAt, below_start, floor_refusal, from_start, late_refusal}
 use Rattle.keyless_db.proofs.SeveralLemmas.{refused_err, refused_by}
 use Rattle.keyless_db.proofs.LocationLemmas.{neither, not_refused, some_count, lt_fails, le_fails}
 use Rattle.keyless_db.proofs.SealLemmas.{leaves_are}
@@ -195,3 +208,112 @@ one_operation {X = X} xs n a x lt at =
     by (y ∷ []) zero is = let e : y ≡ x = cc in ap (λ z. z ∷ []) e
     by (y ∷ z ∷ ys) zero is = let e : y ≡ x = cc in ap (λ w. w ∷ []) e
     by (y ∷ ys) (suc k) is = by ys k is
+
+-- ---- why they aren't read
+
+-- the operation that ends the first was read, and is no commit
+pub no_commit_read : {Op V : Type 0} (m : Meaning Op V) (items : Items Op) (l : ℕ) (op : Op) → Holds items l op → items.admits op → m.floor op ≡ None → IsNoCommitAt m items l
+no_commit_read m items l op here allowed lacks = record { op = op; here = here; allowed = allowed; lacks = lacks }
+
+corrupt_below : {F : Type 0} (e : joined_error.Error F) (p : ℕ) → from_joined e ≡ db_error.Journal (journal.Corruption p) → e ≡ joined.Journal (journal.Corruption p)
+corrupt_below (joined.Merkle x) p is = absurd cc
+corrupt_below (joined.Journal x) p is = let same : x ≡ journal.Corruption p = cc in ap joined.Journal same
+corrupt_below joined.Volume p is = absurd cc
+corrupt_below joined.Memory p is = absurd cc
+
+unread_corrupt : {Item : Type 0} (items : Items Item) (a b p : ℕ) (d : JournalError) → d ≡ journal.Corruption p → IsFirstUnread (Unit {0}) items a b d → ((a ≤ p) × (p < b)) × IsCorrupt items p
+unread_corrupt items a b p d is u = by u.why
+  where
+    by : IsUnreadAt (Unit {0}) items u.position d → ((a ≤ p) × (p < b)) × IsCorrupt items p
+    by (inl (at, w)) = absurd cc
+    by (inr (inl (at, w))) = absurd cc
+    by (inr (inr (at, w))) = let same : u.position ≡ p = cc in subst (λ q. ((a ≤ q) × (q < b)) × IsCorrupt items q) same ((u.low, u.high), w tt)
+
+why_corrupt : {F D Item : Type 0} (told : ℕ → Option D) (positions : List ℕ) (items : Items Item) (a b p : ℕ) (e : joined_error.Error F) → WhyUnproved told positions items a b e → e ≡ joined.Journal (journal.Corruption p)
+    → ((a ≤ p) × (p < b)) × IsCorrupt items p
+why_corrupt told positions items a b p e (inl out) is = absurd (subst journal_errors.IsOutside is out)
+why_corrupt told positions items a b p e (inr (inl (q, at, absent))) is = absurd cc
+why_corrupt told positions items a b p e (inr (inr (d, at, there, unread))) is = let same : d ≡ journal.Corruption p = cc in unread_corrupt items a b p d same unread
+
+-- what a proof says of bytes that are no operation
+pub corrupt_of : {F D Item T : Type 0} (told : ℕ → Option D) (positions : List ℕ) (items : Items Item) (a b p : ℕ) (e : joined_error.Error F) (d : Error F) → d ≡ from_joined e → WhyUnproved told positions items a b e
+    → IsErrOf {T = T} (Err d) (db_error.Journal (journal.Corruption p)) → ((a ≤ p) × (p < b)) × IsCorrupt items p
+corrupt_of told positions items a b p e d is why at =
+    let same : d ≡ db_error.Journal (journal.Corruption p) = cc in
+    why_corrupt told positions items a b p e why (corrupt_below e p (sym is ∙ same))
+
+-- no error of a journal says that there is no commit
+pub never_floorless : {F T : Type 0} (e : joined_error.Error F) (d : Error F) (n : ℕ) → d ≡ from_joined e → IsErrOf {T = T} (Err d) (db_error.HistoricalFloorPruned n) → ⊥
+never_floorless (joined.Merkle x) d n is at = cc
+never_floorless (joined.Journal x) d n is at = cc
+never_floorless joined.Volume d n is at = cc
+never_floorless joined.Memory d n is at = cc
+
+log_corrupt : {F : Type 0} (e : JournalError) (p : ℕ) → from_journal {F = F} e ≡ db_error.Journal (journal.Corruption p) → e ≡ journal.Corruption p
+log_corrupt journal.Volume p is = absurd cc
+log_corrupt journal.Memory p is = absurd cc
+log_corrupt (journal.ItemPruned q) p is = absurd cc
+log_corrupt (journal.ItemOutOfRange q) p is = absurd cc
+log_corrupt (journal.Corruption q) p is = cc
+log_corrupt journal.SizeOverflow p is = absurd cc
+log_corrupt journal.EmptyAppend p is = absurd cc
+log_corrupt (journal.Tree cause) p is = absurd cc
+
+log_floorless : {F : Type 0} (e : JournalError) (n : ℕ) → from_journal {F = F} e ≡ db_error.HistoricalFloorPruned n → ⊥
+log_floorless journal.Volume n is = cc
+log_floorless journal.Memory n is = cc
+log_floorless (journal.ItemPruned q) n is = cc
+log_floorless (journal.ItemOutOfRange q) n is = cc
+log_floorless (journal.Corruption q) n is = cc
+log_floorless journal.SizeOverflow n is = cc
+log_floorless journal.EmptyAppend n is = cc
+log_floorless (journal.Tree cause) n is = cc
+
+module _ {F T Op V : Type 0} (tells : Type 0) (m : Meaning Op V) (items : Items Op) (count n : ℕ) (same : count ≡ n) (e : Error F) where
+  -- the commit's bytes are none
+  pub floor_corrupt : (a k p : ℕ) → tells → IsFloorFault tells m items count e → IsErrOf {T = T} (Err e) (db_error.Journal (journal.Corruption p)) → IsCorruptFor items n a k p
+  floor_corrupt a k p told (inl fault) at =
+      let is : e ≡ db_error.Journal (journal.Corruption p) = cc in
+      let y = fault.corrupt p (log_corrupt fault.cause p (sym fault.is ∙ is)) in
+      (inl (y.0 ∙ ap (λ c. c - 1) same), subst (λ q. IsCorrupt items q) (sym y.0) (y.1 told))
+  floor_corrupt a k p told (inr (is, lacks)) at = absurd cc
+
+  -- the operation is none
+  pub floor_lacks : (q : ℕ) → IsFloorFault tells m items count e → IsErrOf {T = T} (Err e) (db_error.HistoricalFloorPruned q) → (q ≡ n) × (tells → IsNoCommitAt m items (n - 1))
+  floor_lacks q (inl fault) at = let is : e ≡ db_error.HistoricalFloorPruned q = cc in absurd (log_floorless fault.cause q (sym fault.is ∙ is))
+  floor_lacks q (inr (is, lacks)) at =
+      let one : q ≡ count = cc in
+      (one ∙ same, λ told. subst (λ c. IsNoCommitAt m items (c - 1)) same (lacks told))
+
+-- bytes that are none stay so where the contents do
+pub corrupt_still : {Op Codec : Type 0} (spelling : Op → List ℕ) (admits : Codec → Op → Type 0) (view : View Codec) (a b : State) (l : ℕ) → SameContents a b → IsCorrupt (items_of spelling admits view b) l → IsCorrupt (items_of spelling admits view a) l
+corrupt_still spelling admits view a b l same bad = subst (λ (log : Log). IsCorrupt (record { log = log; spelling = spelling; admits = admits view.codec }) l) (same.logs view.name) bad
+
+-- bytes in the range
+pub range_corrupt : {Op : Type 0} (items : Items Op) (count n a k p : ℕ) → count ≡ n → (a ≤ p) × (p < proof_end count a k) → IsCorrupt items p → IsCorruptFor items n a k p
+range_corrupt items count n a k p same within bad = (inr (subst (λ c. (a ≤ p) × (p < proof_end c a k)) same within), bad)
+
+-- ---- errors of any contents
+
+log_above : {F : Type 0} (c : JournalError) → IsFromJoined {F = F} journal_errors.IsLifted (from_journal c)
+log_above journal.Volume = (joined.Volume, refl, tt)
+log_above journal.Memory = (joined.Memory, refl, tt)
+log_above (journal.ItemPruned p) = (joined.Journal (journal.ItemPruned p), refl, refl)
+log_above (journal.ItemOutOfRange p) = (joined.Journal (journal.ItemOutOfRange p), refl, refl)
+log_above (journal.Corruption p) = (joined.Journal (journal.Corruption p), refl, refl)
+log_above journal.SizeOverflow = (joined.Journal journal.SizeOverflow, refl, refl)
+log_above journal.EmptyAppend = (joined.Journal journal.EmptyAppend, refl, refl)
+log_above (journal.Tree cause) = (joined.Journal (journal.Tree cause), refl, refl)
+
+module _ {F : Type 0} (n : ℕ) where
+  -- an error of the journal, or that there is no commit
+  abbrev pub ProofError : Error F → Type 0
+  ProofError e = IsFromJoined journal_errors.IsLifted e ⊎ (e ≡ db_error.HistoricalFloorPruned n)
+
+  pub floor_error : {Op V : Type 0} (tells : Type 0) (m : Meaning Op V) (items : Items Op) (count : ℕ) (e : Error F) → count ≡ n → IsFloorFault tells m items count e → ProofError e
+  floor_error tells m items count e same (inl fault) = inl (subst (λ (d : Error F). IsFromJoined journal_errors.IsLifted d) (sym fault.is) (log_above fault.cause))
+  floor_error tells m items count e same (inr (is, lacks)) = inr (is ∙ ap (λ k. db_error.HistoricalFloorPruned k) same)
+
+  pub under_error : {T : Type 0} (r : Result T (Error F)) → IfErr r (IsFromJoined journal_errors.IsLifted) → IfErr r ProofError
+  under_error (Ok x) is = tt
+  under_error (Err e) is = inl is

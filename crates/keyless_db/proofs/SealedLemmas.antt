@@ -1,5 +1,5 @@
 -- Proofs of a sealed batch's own operations, handed on from its journal's.
-use Rattle.std.proofs.Common.{◌≡◌, inl, ℕ, ◌^◌, ◌≤◌, true, List, ◌++◌, length, take, drop, Option, None, Ok, Err, refl, sym, ◌∙◌, ap, subst}
+use Rattle.std.proofs.Common.{◌≡◌, ◌⊎◌, inl, inr, Some, ℕ, ◌^◌, ◌≤◌, true, List, ◌++◌, length, take, drop, Option, None, Ok, Err, refl, sym, ◌∙◌, ap, subst}
 use Rattle.std.specs.Prelude.{Result, IfOk, IfErr, IsErrOf, nat_le}
 use Rattle.std.proofs.lemmas.List.{take-append-drop}
 use Rattle.tree_shape.specs.Hashing.{Hashing}
@@ -13,10 +13,11 @@ use Rattle.auth_journal.specs.declared.error.Error as joined_error
 use Rattle.log_model.specs.Meaning.{Meaning}
 use Rattle.log_model.specs.declared.refusal.Refusal.{Refusal}
 use Rattle.log_model.specs.Operations.{leaves_from}
+use Rattle.log_model.specs.Reads.{unless_refused}
 use Rattle.volume_base.specs.declared.error.JournalError.{JournalError}
 use Rattle.tree_store.specs.Stores.{IsOutside as tree_outside}
 use Rattle.merkle_full.specs.Reading.{peaks_answer}
-use Rattle.chain_core.specs.Answers.{IsOutside}
+use Rattle.chain_core.specs.Answers.{IsOutside, read_refusal_of}
 use Rattle.chain_core.specs.Errors.{from_tree}
 use Rattle.chain_core.specs.declared.error.Error.TheVariants as db_error
 use Rattle.chain_core.specs.declared.error.Error.{Error}
@@ -25,6 +26,7 @@ use Rattle.keyless_db.specs.Reading.{LiftsTree, ServesAs, lifted_tree}
 use Rattle.keyless_db.proofs.LocationLemmas.{le_true}
 use Rattle.keyless_db.proofs.ProofLemmas.{first_leaves}
 use Rattle.keyless_db.proofs.SealLemmas.{leaves_are}
+use Rattle.keyless_db.proofs.SeveralLemmas.{refused_err}
 
 -- an error of the tree is the same through the journal
 pub twice : {F : Type 0} (e : tree_error.Error F) → from_joined (journal_errors.from_tree e) ≡ from_tree e
@@ -89,3 +91,37 @@ other_never cause (Err e) is at = let same : e ≡ db_error.Volume = cc in cc
 
 pub serves_made : {F T : Type 0} (refused : Option Refusal) (P : T → Type 0) (x : T) (r : Result T (Error F)) → refused ≡ None → r ≡ Ok x → P x → ServesAs refused P r
 serves_made {F = F} {T = T} refused P x r none is holds = subst (λ (y : Result T (Error F)). ServesAs refused P y) (sym is) (none, holds)
+
+-- an error of the tree is none of the log, and doesn't say that there is no commit
+pub tree_never : {F S T : Type 0} (e : Error F) (below : Result S (tree_error.Error F)) (cause : JournalError) → Err e ≡ lifted_tree below → IsErrOf {T = T} (Err e) (db_error.Journal cause) → ⊥
+tree_never e (Ok x) cause is at = cc
+tree_never e (Err d) cause is at = by d (let one : e ≡ from_tree d = cc in let two : e ≡ db_error.Journal cause = cc in sym one ∙ two)
+  where
+    by : {F : Type 0} (d : tree_error.Error F) → from_tree d ≡ db_error.Journal cause → ⊥
+    by tree.Volume same = cc
+    by tree.Memory same = cc
+    by d same = cc
+
+pub tree_floorless : {F S T : Type 0} (e : Error F) (below : Result S (tree_error.Error F)) (n : ℕ) → Err e ≡ lifted_tree below → IsErrOf {T = T} (Err e) (db_error.HistoricalFloorPruned n) → ⊥
+tree_floorless e (Ok x) n is at = cc
+tree_floorless e (Err d) n is at = by d (let one : e ≡ from_tree d = cc in let two : e ≡ db_error.HistoricalFloorPruned n = cc in sym one ∙ two)
+  where
+    by : {F : Type 0} (d : tree_error.Error F) → from_tree d ≡ db_error.HistoricalFloorPruned n → ⊥
+    by tree.Volume same = cc
+    by tree.Memory same = cc
+    by d same = cc
+
+-- one error isn't another
+pub one_error : {F T : Type 0} (x y : Error F) (r : Result T (Error F)) → IfErr r (λ e. e ≡ x) → IsErrOf r y → x ≡ y
+one_error x y (Ok z) is at = absurd cc
+one_error x y (Err e) is at = let same : e ≡ y = cc in sym is ∙ same
+
+-- the same error of another call
+pub same_error : {F T S : Type 0} (e d : Error F) → IsErrOf {T = S} (Err e) d → IsErrOf {T = T} (Err e) d
+same_error e d at = let same : e ≡ d = cc in ap Err same
+
+-- what isn't proved isn't served
+pub serves_refused : {F A : Type 0} (refused : Option Refusal) (x : A) (e : Error F) → IsOutside e ⊎ ((w : Refusal) × (unless_refused refused x ≡ Err w) × (read_refusal_of e ≡ Some w))
+    → IsOutside e ⊎ ((w : Refusal) × (refused ≡ Some w) × (read_refusal_of e ≡ Some w))
+serves_refused refused x e (inl out) = inl out
+serves_refused refused x e (inr (w, is, of)) = inr (w, refused_err refused x w is, of)

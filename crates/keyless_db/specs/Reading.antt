@@ -9,6 +9,7 @@ use Rattle.journal_base.specs.Items.{Items, Holds, IsCorrupt}
 use Rattle.tree_store.specs.declared.error.Error as tree_error
 use Rattle.auth_journal.specs.Kept.{kept_item}
 use Rattle.log_model.specs.Meaning.{Meaning}
+use Rattle.log_model.specs.Proofs.{proof_end}
 use Rattle.log_model.specs.Reads.{or_else, refuse_if, unless_refused, unordered, first_below, read_refusal, many_refusal, value_at}
 use Rattle.log_model.specs.declared.refusal.Refusal.{Refusal}
 use Rattle.log_model.specs.declared.refusal.Refusal.TheVariants as refusal
@@ -17,6 +18,7 @@ use Rattle.chain_core.specs.Errors.{from_journal, from_tree}
 use Rattle.chain_core.specs.Reached.{linked_item, parent_floor}
 use Rattle.chain_core.specs.declared.commitment.Commitment.{Commitment}
 use Rattle.chain_core.specs.declared.error.Error.{Error}
+use Rattle.chain_core.specs.declared.error.Error.TheVariants as db_error
 use Rattle.chain_core.specs.declared.error.Error.TheVariants.{Journal}
 use Rattle.chain_core.specs.declared.pool.HeldBatch.{HeldBatch}
 use Rattle.keyless_db.specs.Batches.{UnmerkleizedView, MerkleizedView, bounds_of}
@@ -89,6 +91,33 @@ pub record IsReadFault {F Item : Type 0} (tells : Type 0) (items : Items Item) (
   pub pruned : (p : ℕ) → cause ≡ ItemPruned p → (p ≡ position) × (tells → position < items.log.start)
   pub out_of_range : (p : ℕ) → cause ≡ ItemOutOfRange p → (p ≡ position) × (tells → end_of items.log ≤ position)
   pub corrupt : (p : ℕ) → cause ≡ Corruption p → (p ≡ position) × (tells → IsCorrupt items position)
+
+-- An operation stands at this position, which is allowed, and it is no commit.
+pub record IsNoCommitAt {Op V : Type 0} (m : Meaning Op V) (items : Items Op) (position : ℕ) : Type 0 where
+  pub op : Op
+  pub here : Holds items position op
+  pub allowed : items.admits op
+  pub lacks : m.floor op ≡ None
+
+-- It is an error of a read of the operation that ends the first so many; or this operation is no commit.
+abbrev pub IsFloorFault : {F Op V : Type 0} → Type 0 → Meaning Op V → Items Op → ℕ → Error F → Type 0
+IsFloorFault tells m items count e =
+    IsReadFault tells items (count - 1) e
+    ⊎ ((e ≡ db_error.HistoricalFloorPruned count) × (tells → IsNoCommitAt m items (count - 1)))
+
+-- A proof of at most so many operations from a on in the first n reads this position: that of the commit that ends
+-- these, or of one that it is of.
+abbrev pub IsReadFor : ℕ → ℕ → ℕ → ℕ → Type 0
+IsReadFor n a count p = (p ≡ n - 1) ⊎ ((a ≤ p) × (p < proof_end n a count))
+
+-- The operations of a list that it reads are allowed.
+abbrev pub AreAdmittedFor : {Op : Type 0} → (Op → Type 0) → List Op → ℕ → ℕ → ℕ → Type 0
+AreAdmittedFor {Op} admits ops n a count =
+    (p : ℕ) (op : Op) → IsReadFor n a count p → slice_get ops p ≡ Some op → admits op
+
+-- It reads this position, and bytes stand there that are none of an operation.
+abbrev pub IsCorruptFor : {Op : Type 0} → Items Op → ℕ → ℕ → ℕ → ℕ → Type 0
+IsCorruptFor items n a count p = IsReadFor n a count p × IsCorrupt items p
 
 -- ---- reads of a batch
 

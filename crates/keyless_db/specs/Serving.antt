@@ -12,6 +12,11 @@ use Rattle.log_model.specs.Meaning.{Meaning}
 use Rattle.log_model.specs.Operations.{leaves_from}
 use Rattle.log_model.specs.Proofs.{proof_answer, proof_end}
 
+-- How many operations a request is answered with at most: of a boundary the one there.
+abbrev pub most_of : {F : Type 0} → Request F → ℕ
+most_of (request.Operations n a most) = non_zero_u64_get most
+most_of (request.Boundary n a most) = 1
+
 module _ {F D Op V : Type 0} (s : Shape) (h : Hashing D) (m : Meaning Op V) (ops : List Op) where
   -- It has the list's proof of the one operation at a in the first n, this operation, and the list's nodes at the peaks
   -- of those before it.

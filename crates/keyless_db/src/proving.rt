@@ -8,18 +8,25 @@ use tree_core::{Family, Hasher, Location, Proof};
 use volume_base::{JournalError, Volume};
 
 impl<F: Family, O: KeylessOperation, C: Backing<Item = O>, H: Hasher> Keyless<F, O, C, H> {
-    ghost use Rattle.std.specs.Prelude.{◌≡◌, ◌⊎◌, ◌<◌, ◌≤◌, ◌-◌, List, Some, slice_get, Err};
-    ghost use Rattle.std.specs.List.{AllByRecursion};
+    ghost use Rattle.std.specs.Prelude.{◌≡◌, ◌⊎◌, ℕ, ◌<◌, ◌≤◌, ◌+◌, ◌-◌, List, Some, length, slice_get, Err, IsErrOf, IfErr};
     ghost use Rattle.std.specs.NonZero.{non_zero_u64_get};
+    ghost use Rattle.journal_base.specs.Items.{IsCorrupt, items_of};
     ghost use Rattle.volume_base.specs.Moments.{present};
     ghost use Rattle.volume_base.specs.Volume.{Reads};
+    ghost use Rattle.volume_base.specs.declared.error.JournalError.TheVariants.{Corruption};
+    ghost use Rattle.tree_shape.specs.Pins.{pins};
+    ghost use Rattle.tree_store.specs.declared.error.Error as tree_error;
     ghost use Rattle.tree_store.specs.declared.error.Error.TheVariants.{RangeOutOfBounds};
+    ghost use Rattle.merkle_full.specs.Reading.{peaks_answer};
+    ghost use Rattle.auth_journal.specs.Errors.{IsLifted};
     ghost use Rattle.auth_journal.specs.Proving.{ArePeaksAt};
+    ghost use Rattle.auth_journal.specs.Reading.{AreAdmitted};
     ghost use Rattle.log_model.specs.Proofs.{proof_refusal, proof_answer, proof_end};
     ghost use Rattle.log_model.specs.Reads.{unless_refused};
     ghost use Rattle.chain_core.specs.declared.error.Error.{Error};
     ghost use Rattle.keyless_db.specs.DbView.{IsHeldFor};
-    ghost use Rattle.keyless_db.specs.Reading.{AnswersAs, LiftsTree, floor_refusal, late_refusal};
+    ghost use Rattle.keyless_db.specs.Errors.{IsFromJoined};
+    ghost use Rattle.keyless_db.specs.Reading.{AnswersAs, AreAdmittedFor, IsCorruptFor, IsFloorFault, IsNoCommitAt, LiftsTree, floor_refusal, late_refusal};
 
     /// The floor of the commit that ends the first operations, so many. It refuses with `Journal(ItemPruned)` one that
     /// isn't kept, and with `HistoricalFloorPruned` what is no commit.
@@ -31,6 +38,8 @@ impl<F: Family, O: KeylessOperation, C: Backing<Item = O>, H: Hasher> Keyless<F,
             slice_get ops (count - 1) ≡ Some op → O.admits self.now.journal.items.codec op →
             AnswersAs Some (unless_refused (floor_refusal self.now.journal.items.start count (O.meaning.floor op))
             (O.meaning.floor op)) result }
+        ensures fault { let items = items_of O.spelling O.admits self.now.journal.items (V.state vol.old) in
+            IfErr result (IsFloorFault V.tells O.meaning items count) }
         ensures reads { Reads V.tells Error.Volume (V.state vol.old) (V.state vol.new) result }
     {
         match self.journal.read(vol, count - 1) {
@@ -58,12 +67,22 @@ impl<F: Family, O: KeylessOperation, C: Backing<Item = O>, H: Hasher> Keyless<F,
         ensures answer { let admits = H.Digest.Read.admits tt in V.tells → (ops : List O) (op : O) →
             IsHeldFor F.shape H.hash O.meaning H.Digest.spelling admits O.spelling ops self.now
             (present (V.state vol.old)) →
-            AllByRecursion (O.admits self.now.journal.items.codec) ops →
+            AreAdmitted (O.admits self.now.journal.items.codec) ops start
+            (proof_end count start (non_zero_u64_get max_ops)) →
             slice_get ops (count - 1) ≡ Some op → O.meaning.floor op ≡ Some floor →
             AnswersAs (λ made. (made.0, made.1.items))
             (unless_refused (late_refusal self.now.journal.items.start count start)
             (proof_answer F.shape H.hash O.meaning ops count start
             (proof_end count start (non_zero_u64_get max_ops)))) result }
+        ensures corrupt { let admits = H.Digest.Read.admits tt in
+            let items = items_of O.spelling O.admits self.now.journal.items (V.state vol.old) in V.tells →
+            (ops : List O) →
+            IsHeldFor F.shape H.hash O.meaning H.Digest.spelling admits O.spelling ops self.now
+            (present (V.state vol.old)) →
+            (p : ℕ) → IsErrOf result (Error.Journal (Corruption p)) →
+            ((start ≤ p) × (p < proof_end count start (non_zero_u64_get max_ops))) × IsCorrupt items p }
+        ensures no_commit { (n : ℕ) → IsErrOf result (Error.HistoricalFloorPruned n) → ⊥ }
+        ensures errors { IfErr result (IsFromJoined IsLifted) }
         ensures reads { Reads V.tells Error.Volume (V.state vol.old) (V.state vol.new) result }
     {
         let first = start.as_u64();
@@ -96,17 +115,32 @@ impl<F: Family, O: KeylessOperation, C: Backing<Item = O>, H: Hasher> Keyless<F,
         start: Location<F>,
         max_ops: NonZeroU64,
     ) -> Result<(Proof<F, H::Digest>, Vec<O>), Error<F>>
-        // Of a held database, whose operations may be such, it is the list's answer: no node that is wanted is missing.
+        // Of a held database, whose operations that are read may be such, it is the list's answer: no node that is
+        // wanted is missing.
         ensures answer { let admits = H.Digest.Read.admits tt in V.tells → (ops : List O) →
             IsHeldFor F.shape H.hash O.meaning H.Digest.spelling admits O.spelling ops self.now
             (present (V.state vol.old)) →
-            AllByRecursion (O.admits self.now.journal.items.codec) ops →
+            AreAdmittedFor (O.admits self.now.journal.items.codec) ops op_count start (non_zero_u64_get max_ops) →
             AnswersAs (λ made. (made.0, made.1.items))
             (unless_refused (proof_refusal O.meaning ops self.now.journal.items.start op_count start)
             (proof_answer F.shape H.hash O.meaning ops op_count start
             (proof_end op_count start (non_zero_u64_get max_ops)))) result }
         ensures size { (op_count ≡ 0) ⊎ (self.now.state.size < op_count) →
             (result ≡ Err (Error.Merkle (RangeOutOfBounds op_count))) × (vol.new ≡ vol.old) }
+        // Of a held database, that bytes are no operation is said only of some that are read and are none.
+        ensures corrupt { let admits = H.Digest.Read.admits tt in
+            let items = items_of O.spelling O.admits self.now.journal.items (V.state vol.old) in V.tells →
+            (ops : List O) →
+            IsHeldFor F.shape H.hash O.meaning H.Digest.spelling admits O.spelling ops self.now
+            (present (V.state vol.old)) →
+            (p : ℕ) → IsErrOf result (Error.Journal (Corruption p)) →
+            IsCorruptFor items op_count start (non_zero_u64_get max_ops) p }
+        // Of any contents, a size that no commit ends ends with an operation that is none.
+        ensures no_commit { let items = items_of O.spelling O.admits self.now.journal.items (V.state vol.old) in
+            (n : ℕ) → IsErrOf result (Error.HistoricalFloorPruned n) →
+            (n ≡ op_count) × (V.tells → IsNoCommitAt O.meaning items (op_count - 1)) }
+        // Of any database, whatever the volume holds.
+        ensures errors { IfErr result (λ e. IsFromJoined IsLifted e ⊎ (e ≡ Error.HistoricalFloorPruned op_count)) }
         ensures reads { Reads V.tells Error.Volume (V.state vol.old) (V.state vol.new) result }
     {
         let count = op_count.as_u64();
@@ -131,11 +165,26 @@ impl<F: Family, O: KeylessOperation, C: Backing<Item = O>, H: Hasher> Keyless<F,
             (ops : List O) →
             IsHeldFor F.shape H.hash O.meaning H.Digest.spelling admits O.spelling ops self.now
             (present (V.state vol.old)) →
-            AllByRecursion (O.admits self.now.journal.items.codec) ops →
+            AreAdmittedFor (O.admits self.now.journal.items.codec) ops size start (non_zero_u64_get max_ops) →
             AnswersAs (λ made. (made.0, made.1.items))
             (unless_refused (proof_refusal O.meaning ops self.now.journal.items.start size start)
             (proof_answer F.shape H.hash O.meaning ops size start
             (proof_end size start (non_zero_u64_get max_ops)))) result }
+        // Of a held database, that bytes are no operation is said only of some that are read and are none.
+        ensures corrupt { let admits = H.Digest.Read.admits tt in let size = self.now.state.size in
+            let items = items_of O.spelling O.admits self.now.journal.items (V.state vol.old) in V.tells →
+            (ops : List O) →
+            IsHeldFor F.shape H.hash O.meaning H.Digest.spelling admits O.spelling ops self.now
+            (present (V.state vol.old)) →
+            (p : ℕ) → IsErrOf result (Error.Journal (Corruption p)) →
+            IsCorruptFor items size start (non_zero_u64_get max_ops) p }
+        // Of any contents, a size that no commit ends ends with an operation that is none.
+        ensures no_commit { let size = self.now.state.size in
+            let items = items_of O.spelling O.admits self.now.journal.items (V.state vol.old) in (n : ℕ) →
+            IsErrOf result (Error.HistoricalFloorPruned n) →
+            (n ≡ size) × (V.tells → IsNoCommitAt O.meaning items (size - 1)) }
+        // Of any database, whatever the volume holds.
+        ensures errors { IfErr result (λ e. IsFromJoined IsLifted e ⊎ (e ≡ Error.HistoricalFloorPruned self.now.state.size)) }
         ensures reads { Reads V.tells Error.Volume (V.state vol.old) (V.state vol.new) result }
     {
         let size = Location::new(self.state.size.as_u64());
@@ -151,6 +200,10 @@ impl<F: Family, O: KeylessOperation, C: Backing<Item = O>, H: Hasher> Keyless<F,
         ensures peaks { LiftsTree
             (ArePeaksAt V.tells F.shape H.Digest.spelling H.Digest.Read.admits (H.Digest.Read.reads tt)
             self.now.journal.tree (V.state vol.old) loc) result }
+        // What is refused before any read doesn't call the volume.
+        ensures uncalled { (e : tree_error.Error F) → peaks_answer self.now.journal.tree.tree.leaves loc ≡ Err e →
+            vol.new ≡ vol.old }
+        ensures count { (V.state vol.new).reads ≤ (V.state vol.old).reads + length (pins F.shape loc) }
         ensures reads { Reads V.tells Error.Volume (V.state vol.old) (V.state vol.new) result }
     {
         match self.journal.pinned_nodes_at(vol, loc) {

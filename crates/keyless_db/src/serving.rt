@@ -1,6 +1,6 @@
 //! What a database serves a follower.
 ghost use Rattle.std.specs.Prelude.{◌≡◌, ◌∷◌, [], Ok, IfErr};
-ghost use Rattle.volume_base.specs.declared.error.JournalError.TheVariants.{ItemOutOfRange};
+ghost use Rattle.volume_base.specs.declared.error.JournalError.TheVariants.{Corruption, ItemOutOfRange};
 ghost use Rattle.target_codec.specs.declared.response.Response.TheVariants.{Boundary};
 ghost use Rattle.chain_core.specs.declared.error.Error.{Error};
 
@@ -34,16 +34,16 @@ fn boundary<F: Family, O: KeylessOperation, D: Digest>(
 }
 
 impl<F: Family, O: KeylessOperation, C: Backing<Item = O>, H: Hasher> Keyless<F, O, C, H> {
-    ghost use Rattle.std.specs.Prelude.{◌⊎◌, ◌<◌, List, Err};
-    ghost use Rattle.std.specs.List.{AllByRecursion};
+    ghost use Rattle.std.specs.Prelude.{◌⊎◌, ℕ, ◌<◌, ◌-◌, List, Err, IsErrOf};
+    ghost use Rattle.journal_base.specs.Items.{items_of};
     ghost use Rattle.volume_base.specs.Moments.{present};
     ghost use Rattle.volume_base.specs.Volume.{Reads};
     ghost use Rattle.tree_store.specs.declared.error.Error.TheVariants.{RangeOutOfBounds};
     ghost use Rattle.target_codec.specs.Request.{size_of, start_of};
     ghost use Rattle.log_model.specs.Proofs.{proof_refusal};
     ghost use Rattle.keyless_db.specs.DbView.{IsHeldFor};
-    ghost use Rattle.keyless_db.specs.Reading.{ServesAs};
-    ghost use Rattle.keyless_db.specs.Serving.{IsBoundaryAt, IsResponseTo};
+    ghost use Rattle.keyless_db.specs.Reading.{AreAdmittedFor, IsCorruptFor, IsNoCommitAt, ServesAs};
+    ghost use Rattle.keyless_db.specs.Serving.{IsBoundaryAt, IsResponseTo, most_of};
 
     /// The operation at `start` with its proof in the tree as it was at `size`, and the peaks of the operations before
     /// it. It refuses as `historical_proof`, and then as `pinned_nodes_at`.
@@ -56,9 +56,19 @@ impl<F: Family, O: KeylessOperation, C: Backing<Item = O>, H: Hasher> Keyless<F,
         ensures answer { let admits = H.Digest.Read.admits tt in V.tells → (ops : List O) →
             IsHeldFor F.shape H.hash O.meaning H.Digest.spelling admits O.spelling ops self.now
             (present (V.state vol.old)) →
-            AllByRecursion (O.admits self.now.journal.items.codec) ops →
+            AreAdmittedFor (O.admits self.now.journal.items.codec) ops size start 1 →
             ServesAs (proof_refusal O.meaning ops self.now.journal.items.start size start)
             (IsBoundaryAt F.shape H.hash O.meaning ops size start) result }
+        ensures corrupt { let admits = H.Digest.Read.admits tt in
+            let items = items_of O.spelling O.admits self.now.journal.items (V.state vol.old) in V.tells →
+            (ops : List O) →
+            IsHeldFor F.shape H.hash O.meaning H.Digest.spelling admits O.spelling ops self.now
+            (present (V.state vol.old)) →
+            (p : ℕ) → IsErrOf result (Error.Journal (Corruption p)) →
+            IsCorruptFor items size start 1 p }
+        ensures no_commit { let items = items_of O.spelling O.admits self.now.journal.items (V.state vol.old) in
+            (n : ℕ) → IsErrOf result (Error.HistoricalFloorPruned n) →
+            (n ≡ size) × (V.tells → IsNoCommitAt O.meaning items (size - 1)) }
         ensures size { (size ≡ 0) ⊎ (self.now.state.size < size) →
             (result ≡ Err (Error.Merkle (RangeOutOfBounds size))) × (vol.new ≡ vol.old) }
         ensures reads { Reads V.tells Error.Volume (V.state vol.old) (V.state vol.new) result }
@@ -82,13 +92,26 @@ impl<F: Family, O: KeylessOperation, C: Backing<Item = O>, H: Hasher> Keyless<F,
         vol: &mut V,
         request: Request<F>,
     ) -> Result<Response<F, O, H::Digest>, Error<F>>
-        // Of a held database, whose operations may be such, it is the list's answer.
+        // Of a held database, whose operations that are read may be such, it is the list's answer.
         ensures answer { let admits = H.Digest.Read.admits tt in V.tells → (ops : List O) →
             IsHeldFor F.shape H.hash O.meaning H.Digest.spelling admits O.spelling ops self.now
             (present (V.state vol.old)) →
-            AllByRecursion (O.admits self.now.journal.items.codec) ops →
+            AreAdmittedFor (O.admits self.now.journal.items.codec) ops (size_of request) (start_of request)
+            (most_of request) →
             ServesAs (proof_refusal O.meaning ops self.now.journal.items.start (size_of request) (start_of request))
             (IsResponseTo F.shape H.hash O.meaning ops request) result }
+        // Of a held database, that bytes are no operation is said only of some that are read and are none.
+        ensures corrupt { let admits = H.Digest.Read.admits tt in
+            let items = items_of O.spelling O.admits self.now.journal.items (V.state vol.old) in V.tells →
+            (ops : List O) →
+            IsHeldFor F.shape H.hash O.meaning H.Digest.spelling admits O.spelling ops self.now
+            (present (V.state vol.old)) →
+            (p : ℕ) → IsErrOf result (Error.Journal (Corruption p)) →
+            IsCorruptFor items (size_of request) (start_of request) (most_of request) p }
+        // Of any contents, a size that no commit ends ends with an operation that is none.
+        ensures no_commit { let items = items_of O.spelling O.admits self.now.journal.items (V.state vol.old) in
+            (n : ℕ) → IsErrOf result (Error.HistoricalFloorPruned n) →
+            (n ≡ size_of request) × (V.tells → IsNoCommitAt O.meaning items ((size_of request) - 1)) }
         ensures size { (size_of request ≡ 0) ⊎ (self.now.state.size < size_of request) →
             (result ≡ Err (Error.Merkle (RangeOutOfBounds (size_of request)))) × (vol.new ≡ vol.old) }
         ensures reads { Reads V.tells Error.Volume (V.state vol.old) (V.state vol.new) result }

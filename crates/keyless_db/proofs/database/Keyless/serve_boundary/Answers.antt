@@ -1,4 +1,5 @@
-use Rattle.std.proofs.Common.{◌≡◌, ◌∷◌, [], ◌≤◌, length, map, List, inl, sym, ◌∙◌, ap, arith}
+use Rattle.std.proofs.Common.{◌≡◌, ◌∷◌, [], ◌≤◌, length, map, List, inl, refl, sym, ◌∙◌, ap, arith}
+use Rattle.volume_base.specs.declared.error.JournalError.TheVariants.{Corruption}
 use Rattle.volume_base.proofs.ReadLemmas.{only_read_none, only_read_joins, reads_of}
 use Rattle.tree_shape.specs.Shape.{peaks}
 use Rattle.tree_shape.specs.Slow.{node_of}
@@ -7,12 +8,13 @@ use Rattle.merkle_full.proofs.ListLemmas.{there_is}
 use Rattle.auth_journal.proofs.LeafLemmas.{length-leaves_of}
 use Rattle.log_model.specs.Operations.{leaves_from}
 use Rattle.log_model.specs.Proofs.{proof_answer, proof_end, proof_refusal}
+use Rattle.chain_core.specs.declared.error.Error.TheVariants as db_error
 use Rattle.chain_core.specs.declared.error.Error.TheVariants.{Volume}
 use Rattle.keyless_db.proofs.ProofLemmas.{one_operation, provable_at}
 use Rattle.keyless_db.proofs.SealLemmas.{leaves_are}
-use Rattle.keyless_db.proofs.SealedLemmas.{other_never, peaks_made, peaks_outside, peaks_there, serves_made}
+use Rattle.keyless_db.proofs.SealedLemmas.{one_error, other_never, peaks_made, peaks_outside, peaks_there, same_error, serves_made, serves_refused, tree_floorless, tree_never}
 use Rattle.keyless_db.proofs.SeveralLemmas.{refused_ok}
-use Rattle.keyless_db.proofs.StillLemmas.{held_still}
+use Rattle.keyless_db.proofs.StillLemmas.{held_still, reads_err}
 use Rattle.keyless_db.proofs.database.Keyless.serve_boundary.Goals as goal
 
 pub returns-in-Err-pinned_nodes_at-clause-answer : goal.returns-in-Err-pinned_nodes_at-clause-answer
@@ -57,3 +59,38 @@ pub returns-clause-reads : goal.returns-clause-reads
 returns-clause-reads g c =
     reads_of g.V.Volume.tells Volume _ _ c.boundary.result
     (only_read_joins _ _ _ _ _ _ (only_read_joins _ _ _ _ _ _ (only_read_none g.V.Volume.tells _) c.in-Ok.ensures.reads) c.in-Ok-pinned_nodes_at.ensures.reads) (other_never _ c.boundary.result c.boundary.ensures.none)
+
+pub returns-in-Err-clause-corrupt : goal.returns-in-Err-clause-corrupt
+returns-in-Err-clause-corrupt g c tells ops held p at =
+    c.in-Err.ensures.corrupt tells ops held p (same_error c.in-Err.error (db_error.Journal (Corruption p)) at)
+
+pub returns-in-Err-clause-no_commit : goal.returns-in-Err-clause-no_commit
+returns-in-Err-clause-no_commit g c n at = c.in-Err.ensures.no_commit n (same_error c.in-Err.error (db_error.HistoricalFloorPruned n) at)
+
+pub returns-in-Err-pinned_nodes_at-clause-corrupt : goal.returns-in-Err-pinned_nodes_at-clause-corrupt
+returns-in-Err-pinned_nodes_at-clause-corrupt g c tells ops held p at =
+    let lifts = c.in-Err-pinned_nodes_at.ensures.peaks in
+    absurd (tree_never c.in-Err-pinned_nodes_at.error lifts.below (Corruption p) lifts.is at)
+
+pub returns-in-Err-pinned_nodes_at-clause-no_commit : goal.returns-in-Err-pinned_nodes_at-clause-no_commit
+returns-in-Err-pinned_nodes_at-clause-no_commit g c n at =
+    let lifts = c.in-Err-pinned_nodes_at.ensures.peaks in
+    absurd (tree_floorless c.in-Err-pinned_nodes_at.error lifts.below n lifts.is at)
+
+pub returns-clause-corrupt : goal.returns-clause-corrupt
+returns-clause-corrupt g c tells ops held p at =
+    let same = one_error _ (db_error.Journal (Corruption p)) c.boundary.result c.boundary.ensures.none at in
+    absurd cc
+
+pub returns-clause-no_commit : goal.returns-clause-no_commit
+returns-clause-no_commit g c n at =
+    let same = one_error _ (db_error.HistoricalFloorPruned n) c.boundary.result c.boundary.ensures.none at in
+    absurd cc
+
+pub returns-in-Err-pinned_nodes_at-clause-reads : goal.returns-in-Err-pinned_nodes_at-clause-reads
+returns-in-Err-pinned_nodes_at-clause-reads g c =
+    reads_err g.V.Volume.tells Volume _ _ _ c.in-Err-pinned_nodes_at.error _ (only_read_joins _ _ _ _ _ _ (only_read_none g.V.Volume.tells _) c.in-Ok.ensures.reads) c.in-Err-pinned_nodes_at.ensures.reads refl
+
+pub returns-in-Err-clause-answer : goal.returns-in-Err-clause-answer
+returns-in-Err-clause-answer g c tells ops held all =
+    serves_refused (proof_refusal g.O.Logged.meaning ops c.args.self.now.journal.items.start c.args.size c.args.start) _ c.in-Err.error (c.in-Err.ensures.answer tells ops held all)
