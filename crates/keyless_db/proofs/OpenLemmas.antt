@@ -44,7 +44,7 @@ use Rattle.chain_core.specs.declared.error.Error.TheVariants.{Merkle, Journal, D
 use Rattle.chain_core.specs.declared.error.DataFault.TheVariants.{NotACommit}
 use Rattle.keyless_db.specs.DbView.{DbView, IsHeldFor}
 use Rattle.keyless_db.specs.Errors.{from_joined}
-use Rattle.keyless_db.specs.Opening.{EndsHere, IsHeldFrom, IsInitOf, IsSaidCommit, IsUnbegun, NotBuilt, NotInit}
+use Rattle.keyless_db.specs.Opening.{EndsHere, IsHeldFrom, IsInitOf, IsSaidCommit, IsUnbegun, NotBuilt, NotInit, NotListed}
 use Rattle.keyless_db.proofs.ProofLemmas.{floor_at}
 use Rattle.keyless_db.proofs.SealLemmas.{leaves_are}
 use Rattle.keyless_db.proofs.SeveralLemmas.{taken_all}
@@ -305,24 +305,33 @@ ends_here m items later cap end is found some =
     by (inr (inl none)) = let zero = none.0 in absurd (omega (arith, zero, some))
     by (inr (inr empty)) = inr (empty.1 ∙ sym empty.2)
 
+-- a first commit's database is always built
+pub first_never : {F : Type 0} (floor : Option ℕ) (at : ℕ) (e : Error F) → floor ≡ Some at → ((2 ^ 62 < 1) × (e ≡ Merkle (LocationOverflow 1))) ⊎ ((floor ≡ None) × (e ≡ DataCorrupted NotACommit)) → IsOutside e
+first_never floor at e is (inl high) = let lt = high.0 in absurd (omega (arith, lt))
+first_never floor at e is (inr none) = let not = none.0 in absurd cc
+
 -- why there is no database of a journal that was opened of these items
-pub init_refused : {F D Op V : Type 0} (known : Type 0) (spelling : D → List ℕ) (admits : D → Type 0) (s : Shape) (map : Map) (log : Log) (items : Items Op) (m : Meaning Op V) (cap : Option ℕ) (start end : ℕ) (e : Error F)
-    → start ≡ items.log.start → EndsAt items (IsSaidCommit m) cap end → NotBuilt D s start end e → NotInit known spelling admits s map log items m cap e
-init_refused known spelling admits s map log items m cap start end e begins found (inl out) = inl out
-init_refused known spelling admits s map log items m cap start end e begins found (inr (inl why)) = inr (inr (inr (subst (λ n. EndsAt items (IsSaidCommit m) cap n) why.0 found, why.1)))
-init_refused known spelling admits s map log items m cap start end e begins found (inr (inr (inl high))) = inr (inl (joined.Merkle (LocationOverflow end), high.1, inl (inr (end, found, inl (high.0, refl)))))
-init_refused known spelling admits s map log items m cap start end e begins found (inr (inr (inr empty))) = by found
-  where
-    by : EndsAt items (IsSaidCommit m) cap end → NotInit known spelling admits s map log items m cap e
-    by (inl last) =
-        let lt = last.0 in
-        let is = empty.0 in
-        absurd (omega (arith, lt, is, begins))
-    by (inr (inl none)) =
-        let zero = none.0 in
-        let some = empty.1 in
-        absurd (omega (arith, zero, some))
-    by (inr (inr at)) =
-        let some = empty.1 in
-        let is = at.2 in
-        inr (inr (inl (at.0, at.1, omega (arith, some, is), empty.2 ∙ ap (λ n. Journal (journal.ItemPruned (n - 1))) is)))
+module _ {F D Op V : Type 0} (known : Type 0) (spelling : D → List ℕ) (admits : D → Type 0) (s : Shape) (map : Map) (log : Log) (items : Items Op) (m : Meaning Op V) (cap : Option ℕ) (start end : ℕ)
+    (begins : start ≡ items.log.start) (found : EndsAt items (IsSaidCommit m) cap end) where
+  empty_refused : (e : Error F) → start ≡ end → 0 < end → e ≡ Journal (journal.ItemPruned (end - 1)) → EndsAt items (IsSaidCommit m) cap end → NotListed known spelling admits s map log items m cap e
+  empty_refused e is some why (inl last) = let lt = last.0 in absurd (omega (arith, lt, is, begins))
+  empty_refused e is some why (inr (inl none)) = let zero = none.0 in absurd (omega (arith, zero, some))
+  empty_refused e is some why (inr (inr at)) =
+      let there = at.2 in
+      inr (inr (at.0, at.1, omega (arith, some, there), why ∙ ap (λ n. Journal (journal.ItemPruned (n - 1))) there))
+
+  pub init_refused : (e : Error F) → NotBuilt D s start end e → NotInit known spelling admits s map log items m cap e
+  init_refused e (inl out) = inl (inl out)
+  init_refused e (inr (inl why)) = inr (subst (λ n. EndsAt items (IsSaidCommit m) cap n) why.0 found, why.1)
+  init_refused e (inr (inr (inl high))) = inl (inr (inl (joined.Merkle (LocationOverflow end), high.1, inl (inr (end, found, inl (high.0, refl))))))
+  init_refused e (inr (inr (inr empty))) = inl (empty_refused e empty.0 empty.1 empty.2 found)
+
+  init_listed : (e : Error F) → (end ≡ 0 → IsOutside e) → NotBuilt D s start end e → NotListed known spelling admits s map log items m cap e
+  init_listed e begun (inl out) = inl out
+  init_listed e begun (inr (inl why)) = inl (begun why.0)
+  init_listed e begun (inr (inr (inl high))) = inr (inl (joined.Merkle (LocationOverflow end), high.1, inl (inr (end, found, inl (high.0, refl)))))
+  init_listed e begun (inr (inr (inr empty))) = empty_refused e empty.0 empty.1 empty.2 found
+
+  pub listed_refused : {T : Type 0} (r : Result T (Error F)) → (end ≡ 0 → IfErr r IsOutside) → IfErr r (NotBuilt D s start end) → IfErr r (NotListed known spelling admits s map log items m cap)
+  listed_refused (Ok x) begun why = tt
+  listed_refused (Err e) begun why = init_listed e begun why

@@ -43,15 +43,19 @@ NotBuilt D s start end e =
     ⊎ (((2 ^ 62 < end) × (e ≡ Merkle (LocationOverflow end)))
     ⊎ ((start ≡ end) × (0 < end) × (e ≡ Journal (ItemPruned (end - 1))))))
 
--- Why no database is opened of these contents under a cap, or none: by the outside; or as the journal; or, without a cap,
--- an empty log stands past 0; or the log begins at 0 without a commit, and the first commit's node isn't put into the node
--- log.
-abbrev pub NotInit : {F D Op V : Type 0} → Type 0 → (D → List ℕ) → (D → Type 0) → Shape → Map → Log → Items Op → Meaning Op V → Option ℕ → Error F → Type 0
-NotInit {D = D} tells spelling admits s m log items meaning cap e =
+-- Why no database is opened of these contents under a cap, or none, where the first commit can be put: by the outside; or
+-- as the journal; or, without a cap, an empty log stands past 0.
+abbrev pub NotListed : {F D Op V : Type 0} → Type 0 → (D → List ℕ) → (D → Type 0) → Shape → Map → Log → Items Op → Meaning Op V → Option ℕ → Error F → Type 0
+NotListed tells spelling admits s m log items meaning cap e =
     IsOutside e
     ⊎ (IsFromJoined (NotOpened tells spelling admits s m log items (IsSaidCommit meaning) cap) e
-    ⊎ (((cap ≡ None) × (items.log.start ≡ end_of items.log) × (0 < end_of items.log) × (e ≡ Journal (ItemPruned (end_of items.log - 1))))
-    ⊎ (EndsAt items (IsSaidCommit meaning) cap 0 × IsUnbegun D s e)))
+    ⊎ ((cap ≡ None) × (items.log.start ≡ end_of items.log) × (0 < end_of items.log) × (e ≡ Journal (ItemPruned (end_of items.log - 1)))))
+
+-- Why none is opened of any contents: likewise; or the log begins at 0 without a commit, and the first commit's node isn't
+-- put into the node log.
+abbrev pub NotInit : {F D Op V : Type 0} → Type 0 → (D → List ℕ) → (D → Type 0) → Shape → Map → Log → Items Op → Meaning Op V → Option ℕ → Error F → Type 0
+NotInit {D = D} tells spelling admits s m log items meaning cap e =
+    NotListed tells spelling admits s m log items meaning cap e ⊎ (EndsAt items (IsSaidCommit meaning) cap 0 × IsUnbegun D s e)
 
 -- The first commit of a log: its floor is 0, and it has no metadata.
 pub record IsFirstCommit {Op V : Type 0} (m : Meaning Op V) (op : Op) : Type 0 where

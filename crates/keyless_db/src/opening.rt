@@ -58,7 +58,7 @@ impl<F: Family, O: KeylessOperation, C: Backing<Item = O>, H: Hasher> Keyless<F,
     ghost use Rattle.chain_core.specs.declared.error.DataFault.TheVariants.{NotACommit};
     ghost use Rattle.keyless_db.specs.DbView.{IsHeldFor};
     ghost use Rattle.keyless_db.specs.Errors.{IsFromJoined};
-    ghost use Rattle.keyless_db.specs.Opening.{EndsHere, GoesOn, IsBuiltAt, IsHeldFrom, IsInitOf, IsOpenedOf, IsSaidCommit, IsUnbegun, NotBuilt, NotInit};
+    ghost use Rattle.keyless_db.specs.Opening.{EndsHere, GoesOn, IsBuiltAt, IsHeldFrom, IsInitOf, IsOpenedOf, IsSaidCommit, IsUnbegun, NotBuilt, NotInit, NotListed};
 
     /// The log and the tree up to the last commit at or below a size, or up to the last of all.
     fn open_journal<V: Volume>(
@@ -160,6 +160,9 @@ impl<F: Family, O: KeylessOperation, C: Backing<Item = O>, H: Hasher> Keyless<F,
         ensures refused { V.tells → IsHeld journal.items (V.state vol.old) → journal.items.end ≡ 0 →
             journal.tree.tree.leaves ≡ 0 →
             IfErr result (λ e. IsOutside e ⊎ IsUnbegun H.Digest F.shape e) }
+        ensures outside { let admits = H.Digest.Read.admits tt in V.tells →
+            IsJoinedOf F.shape H.hash H.Digest.spelling admits O.spelling [] journal (present (V.state vol.old)) →
+            IfErr result IsOutside }
         ensures other { IfErr result (λ e. e ≢ Error.InvalidInitializationBound) }
         ensures changes { Changes V.tells Error.Volume (V.state vol.old) (V.state vol.new) result }
     {
@@ -247,6 +250,9 @@ impl<F: Family, O: KeylessOperation, C: Backing<Item = O>, H: Hasher> Keyless<F,
             IsHeld journal.items (V.state vol.old) → (0 < journal.items.end →
             EndsHere O.meaning items journal.items.end) →
             IfErr result (NotBuilt H.Digest F.shape items.log.start journal.items.end) }
+        ensures outside { let admits = H.Digest.Read.admits tt in V.tells → (list : List O) →
+            IsOpenedOf F.shape H.hash H.Digest.spelling admits O.spelling list journal (present (V.state vol.old)) →
+            journal.items.end ≡ 0 → IfErr result IsOutside }
         ensures log { IfOk result (λ d. V.tells → GoesOn (O.spelling (O.committed None 0)) journal.items.end
             (log_of journal.items (V.state vol.old)) (log_of journal.items (V.state vol.new))) }
         ensures other { IfErr result (λ e. e ≢ Error.InvalidInitializationBound) }
@@ -287,6 +293,15 @@ impl<F: Family, O: KeylessOperation, C: Backing<Item = O>, H: Hasher> Keyless<F,
             let items = items_of O.spelling O.admits (C.config cfg.log) old in V.tells → max_size ≢ Some 0 →
             IfErr result (NotInit V.tells H.Digest.spelling (H.Digest.Read.admits tt) F.shape map
             (old.log (string_bytes cfg.merkle.nodes)) items O.meaning max_size) }
+        // Where the contents stand for a list, the first commit is put, but for the outside.
+        ensures listed { let old = V.state vol.old in let view = C.config cfg.log in
+            let nodes = old.log (string_bytes cfg.merkle.nodes) in let map = old.map
+            (string_bytes cfg.merkle.metadata) in
+            V.tells → max_size ≢ Some 0 → (list : List O) (durable : ℕ) → Spells O.spelling list (log_of view old) →
+            length list ≤ 2 ^ 62 → TreeStands F.shape H.hash H.Digest.spelling
+            (leaves_of F.shape H.hash O.spelling list) durable (log_of view old).start nodes map →
+            IfErr result (NotListed V.tells H.Digest.spelling (H.Digest.Read.admits tt) F.shape map nodes
+            (items_of O.spelling O.admits view old) O.meaning max_size) }
         ensures named { IfOk result
             (λ d. SameButBounds (C.config cfg.log) d.journal.items × (d.journal.failed ≡ false)) }
         // It is at an end of the log's operations; and where that is 0, it has the first commit alone. The log is cut

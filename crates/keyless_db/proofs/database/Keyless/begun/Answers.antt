@@ -7,7 +7,9 @@ use Rattle.journal_base.specs.View.{View, IsDurable, IsHeld}
 use Rattle.auth_journal.specs.Standing.{logs_of, names_of}
 use Rattle.auth_journal.specs.declared.error.Error.TheVariants as joined
 use Rattle.chain_core.specs.declared.error.Error.TheVariants.{Volume}
-use Rattle.keyless_db.proofs.LiftLemmas.{ok_never, volume_below}
+use Rattle.auth_journal.proofs.LeafLemmas.{length-leaves_of}
+use Rattle.auth_journal.proofs.ReadingLemmas.{run_end}
+use Rattle.keyless_db.proofs.LiftLemmas.{ok_never, outside_above, volume_below}
 use Rattle.keyless_db.proofs.OpenLemmas.{append_outside, durable_same, logs_call}
 use Rattle.keyless_db.proofs.database.Keyless.begun.Goals as goal
 
@@ -124,3 +126,15 @@ returns-in-Ok-sync-clause-log g c tells =
     let here = ap (λ (v : View g.row.O-Cfg.Denot). new.log v.name) same in
     let there = ap (λ (v : View g.row.O-Cfg.Denot). mid.log v.name) same in
     sym here ∙ c.in-Ok-sync.ensures.contents tells ∙ there ∙ c.in-Ok.ensures.appends.appended tells
+
+pub returns-in-Err-clause-outside : goal.returns-in-Err-clause-outside
+returns-in-Err-clause-outside g c tells of =
+    let leaves = of.tree.tree.count ∙ length-leaves_of g.F.Family.shape g.H.Hasher.hash g.O.Spelled.spelling [] in
+    let end = run_end g.O.Spelled.spelling [] _ of.items in
+    append_outside c.in-Err.error c.from_joined.result c.from_joined.ensures
+    (λ x is. let full = c.in-Err.ensures.refused x (ap Err is) in omega (arith, full, leaves))
+    (λ x is. let full = (c.in-Err.ensures.overflow x (ap Err is)).1 tells in omega (arith, full, end))
+
+pub returns-in-Err-sync-clause-outside : goal.returns-in-Err-sync-clause-outside
+returns-in-Err-sync-clause-outside g c tells of =
+    outside_above c.in-Err-sync.error c.from_joined-in-Err-sync.result c.from_joined-in-Err-sync.ensures (c.in-Err-sync.ensures.outside tells _ (c.in-Ok.ensures.joined tells [] of))

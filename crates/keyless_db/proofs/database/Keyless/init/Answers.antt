@@ -9,7 +9,7 @@ use Rattle.journal_base.specs.View.{View}
 use Rattle.volume_base.specs.Log.{Log, cut_to}
 use Rattle.chain_core.specs.declared.error.Error.TheVariants.{InvalidInitializationBound, Volume}
 use Rattle.keyless_db.specs.Opening.{EndsHere, GoesOn, IsSaidCommit}
-use Rattle.keyless_db.proofs.OpenLemmas.{empty_at, ends_here, if_err, if_ok, if_ok_both, init_of, init_refused, never_err}
+use Rattle.keyless_db.proofs.OpenLemmas.{empty_at, ends_here, if_err, if_ok, if_ok_both, init_of, init_refused, listed_refused, never_err}
 use Rattle.keyless_db.proofs.database.Keyless.init.Goals as goal
 
 pub returns-in-Ok-open_journal-clause-held : goal.returns-in-Ok-open_journal-clause-held
@@ -78,7 +78,7 @@ pub returns-in-Ok-open_journal-clause-bound_only : goal.returns-in-Ok-open_journ
 returns-in-Ok-open_journal-clause-bound_only g c is = never_err InvalidInitializationBound _ c.opened_from.result c.opened_from.ensures.other is
 
 pub returns-in-Err-open_journal-clause-refused : goal.returns-in-Err-open_journal-clause-refused
-returns-in-Err-open_journal-clause-refused g c tells some = inr (inl (c.in-Err-open_journal.ensures.refused tells))
+returns-in-Err-open_journal-clause-refused g c tells some = inl (inr (inl (c.in-Err-open_journal.ensures.refused tells)))
 
 pub returns-in-Ok-open_journal-clause-refused : goal.returns-in-Ok-open_journal-clause-refused
 returns-in-Ok-open_journal-clause-refused g c tells some =
@@ -101,8 +101,8 @@ returns-in-Ok-open_journal-clause-refused g c tells some =
     subst (λ (x : g.row.O-Cfg.Denot). EndsHere m (record { log = mid.log j.items.name; spelling = spelling; admits = g.O.Read.admits x }) j.items.end) (sym codec)
     (ends_here m items (mid.log j.items.name) c.args.max_size j.items.end cut found past) in
     if_err _ _ c.opened_from.result
-    (λ e why. init_refused g.V.Volume.tells digest admits g.F.Family.shape (old.map (string_bytes c.args.cfg.merkle.metadata)) (old.log (string_bytes c.args.cfg.merkle.nodes)) items m c.args.max_size _ j.items.end e
-    (ap (λ (l : Log). l.start) cut) found why)
+    (λ e why. init_refused g.V.Volume.tells digest admits g.F.Family.shape (old.map (string_bytes c.args.cfg.merkle.metadata)) (old.log (string_bytes c.args.cfg.merkle.nodes)) items m c.args.max_size _ j.items.end
+    (ap (λ (l : Log). l.start) cut) found e why)
     (c.opened_from.ensures.refused tells at.1 ends)
 
 pub returns-in-Ok-open_journal-clause-opens : goal.returns-in-Ok-open_journal-clause-opens
@@ -121,3 +121,30 @@ returns-in-Ok-open_journal-clause-opens g c =
     let moved = subst (λ (v : View g.row.O-Cfg.Denot). GoesOn first j.items.end (mid.log j.items.name) (new.log v.name)) opened.named.0 (log tells) in
     (j.items.end, opened.found tells, at, subst (λ (l : Log). GoesOn first j.items.end l (new.log view.name)) cut moved))
     c.opened_from.ensures.at c.opened_from.ensures.log
+
+pub returns-in-Ok-open_journal-clause-listed : goal.returns-in-Ok-open_journal-clause-listed
+returns-in-Ok-open_journal-clause-listed g c tells some list durable run few stands =
+    let m = g.O.Logged.meaning in
+    let spelling = g.O.Spelled.spelling in
+    let digest = g.H.Digest.Spelled.spelling in
+    let admits = g.H.Digest.Read.admits tt in
+    let view = g.C.Backing.config c.args.cfg.log in
+    let old = g.V.Volume.state c.args.vol.now in
+    let mid = g.V.Volume.state c.open_journal.new.vol in
+    let items : Items g.row.O.Denot = items_of spelling g.O.Read.admits view old in
+    let opened = c.in-Ok-open_journal.ensures in
+    let j = c.in-Ok-open_journal.journal in
+    let at = opened.start tells in
+    let found = opened.found tells in
+    let name = ap (λ (v : View g.row.O-Cfg.Denot). mid.log v.name) opened.named.0 in
+    let codec = ap (λ (v : View g.row.O-Cfg.Denot). v.codec) opened.named.0 in
+    let cut : mid.log j.items.name ≡ cut_to (old.log view.name) j.items.end = name ∙ opened.cut tells in
+    let ends : 0 < j.items.end → EndsHere m (items_of spelling g.O.Read.admits j.items mid) j.items.end = λ past.
+    subst (λ (x : g.row.O-Cfg.Denot). EndsHere m (record { log = mid.log j.items.name; spelling = spelling; admits = g.O.Read.admits x }) j.items.end) (sym codec)
+    (ends_here m items (mid.log j.items.name) c.args.max_size j.items.end cut found past) in
+    listed_refused g.V.Volume.tells digest admits g.F.Family.shape (old.map (string_bytes c.args.cfg.merkle.metadata)) (old.log (string_bytes c.args.cfg.merkle.nodes)) items m c.args.max_size _ j.items.end
+    (ap (λ (l : Log). l.start) cut) found c.opened_from.result
+    (λ none. c.opened_from.ensures.outside tells list (opened.listed tells list durable run few stands) none) (c.opened_from.ensures.refused tells at.1 ends)
+
+pub returns-in-Err-open_journal-clause-listed : goal.returns-in-Err-open_journal-clause-listed
+returns-in-Err-open_journal-clause-listed g c tells some list durable run few stands = inr (inl (c.in-Err-open_journal.ensures.refused tells))

@@ -13,7 +13,7 @@ use Rattle.auth_journal.specs.Standing.{names_of}
 use Rattle.auth_journal.proofs.ReadingLemmas.{run_end}
 use Rattle.keyless_db.specs.DbView.{IsHeldFor}
 use Rattle.keyless_db.proofs.LocationLemmas.{nothing_taken}
-use Rattle.keyless_db.proofs.OpenLemmas.{begun_refused, built_refused, commit_there, durable_still, first_refused, if_err, if_ok, if_ok_both, read_refused}
+use Rattle.keyless_db.proofs.OpenLemmas.{begun_refused, built_refused, commit_there, durable_still, first_never, first_refused, if_err, if_ok, if_ok_both, read_refused}
 use Rattle.keyless_db.proofs.ReadLemmas.{all_at}
 use Rattle.keyless_db.proofs.StillLemmas.{present_same}
 use Rattle.keyless_db.proofs.database.Keyless.opened_from.Goals as goal
@@ -226,3 +226,26 @@ returns-in-Err-read-clause-refused g c tells here ends =
     } in
     let why = subst (λ k. ReadRefused g.V.Volume.tells items (k - 1) c.in-Err-read.error) end refused in
     read_refused g.row.H-Digest.Denot g.F.Family.shape m g.V.Volume.tells tells items j.items.end c.in-Err-read.error _ c.from.ensures here.end_is past (ends past) why
+
+pub returns-in-Err-clause-outside : goal.returns-in-Err-clause-outside
+returns-in-Err-clause-outside g c tells list opened zero =
+    let j = c.args.journal in
+    let none : take j.items.end list ≡ [] = ap (λ n. take n list) zero ∙ nothing_taken list in
+    let empty = subst (λ (xs : List g.row.O.Denot). IsJoinedOf g.F.Family.shape g.H.Hasher.hash g.H.Digest.Spelled.spelling (g.H.Digest.Read.admits tt) g.O.Spelled.spelling xs j (present (g.V.Volume.state c.args.vol.now))) none opened.joined in
+    c.in-Err.ensures.outside tells empty
+
+pub returns-then-size-eq0-clause-outside : goal.returns-then-size-eq0-clause-outside
+returns-then-size-eq0-clause-outside g c tells list opened zero =
+    let m = g.O.Logged.meaning in
+    let is = ap m.floor c.commit-commit.ensures ∙ g.met.O.KeylessOperation.floored None 0 in
+    if_err _ _ c.built.result (λ e why. first_never (m.floor c.commit-commit.result) 0 e is why) c.built.ensures.refused
+
+pub returns-in-Ok-read-clause-outside : goal.returns-in-Ok-read-clause-outside
+returns-in-Ok-read-clause-outside g c tells list opened zero =
+    let end : c.as_u64-size.result ≡ c.args.journal.items.end = c.as_u64-size.ensures ∙ c.size.ensures in
+    absurd (omega (arith, c.if-size-eq0.false, end, zero))
+
+pub returns-in-Err-read-clause-outside : goal.returns-in-Err-read-clause-outside
+returns-in-Err-read-clause-outside g c tells list opened zero =
+    let end : c.as_u64-size.result ≡ c.args.journal.items.end = c.as_u64-size.ensures ∙ c.size.ensures in
+    absurd (omega (arith, c.if-size-eq0.false, end, zero))
