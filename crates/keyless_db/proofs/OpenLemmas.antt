@@ -44,7 +44,7 @@ use Rattle.chain_core.specs.declared.error.Error.TheVariants.{Merkle, Journal, D
 use Rattle.chain_core.specs.declared.error.DataFault.TheVariants.{NotACommit}
 use Rattle.keyless_db.specs.DbView.{DbView, IsHeldFor}
 use Rattle.keyless_db.specs.Errors.{from_joined}
-use Rattle.keyless_db.specs.Opening.{EndsHere, IsHeldFrom, IsInitOf, IsSaidCommit, IsUnbegun, NotBuilt, NotInit, NotListed}
+use Rattle.keyless_db.specs.Opening.{EndsHere, IsHeldFrom, IsInitOf, IsOfOpening, IsSaidCommit, IsUnbegun, NotBuilt, NotInit, NotListed}
 use Rattle.keyless_db.proofs.ProofLemmas.{floor_at}
 use Rattle.keyless_db.proofs.SealLemmas.{leaves_are}
 use Rattle.keyless_db.proofs.SeveralLemmas.{taken_all}
@@ -335,3 +335,19 @@ module _ {F D Op V : Type 0} (known : Type 0) (spelling : D → List ℕ) (admit
   pub listed_refused : {T : Type 0} (r : Result T (Error F)) → (end ≡ 0 → IfErr r IsOutside) → IfErr r (NotBuilt D s start end) → IfErr r (NotListed known spelling admits s map log items m cap)
   listed_refused (Ok x) begun why = tt
   listed_refused (Err e) begun why = init_listed e begun why
+
+-- ---- errors, whatever the volume tells
+
+pub built_errors : {F : Type 0} (size : ℕ) (floor : Option ℕ) (e : Error F) → ((2 ^ 62 < size) × (e ≡ Merkle (LocationOverflow size))) ⊎ ((floor ≡ None) × (e ≡ DataCorrupted NotACommit)) → IsOfOpening e
+built_errors size floor e (inl high) = inr (joined.Merkle (LocationOverflow size), high.1, tt)
+built_errors size floor e (inr none) = inl none.1
+
+pub read_errors : {F : Type 0} (d : JournalError) (e : Error F) → e ≡ from_journal d → IsOfOpening e
+read_errors journal.Volume e is = inr (joined.Volume, is, tt)
+read_errors journal.Memory e is = inr (joined.Memory, is, tt)
+read_errors (journal.ItemPruned p) e is = inr (joined.Journal (journal.ItemPruned p), is, tt)
+read_errors (journal.ItemOutOfRange p) e is = inr (joined.Journal (journal.ItemOutOfRange p), is, tt)
+read_errors (journal.Corruption p) e is = inr (joined.Journal (journal.Corruption p), is, tt)
+read_errors journal.SizeOverflow e is = inr (joined.Journal journal.SizeOverflow, is, tt)
+read_errors journal.EmptyAppend e is = inr (joined.Journal journal.EmptyAppend, is, tt)
+read_errors (journal.Tree cause) e is = inr (joined.Journal (journal.Tree cause), is, tt)

@@ -18,7 +18,8 @@ use Rattle.auth_journal.specs.Searching.{EndsAt}
 use Rattle.log_model.specs.Meaning.{Meaning}
 use Rattle.chain_core.specs.Answers.{IsOutside}
 use Rattle.chain_core.specs.declared.error.Error.{Error}
-use Rattle.chain_core.specs.declared.error.Error.TheVariants.{Journal, Merkle}
+use Rattle.chain_core.specs.declared.error.Error.TheVariants.{DataCorrupted, Journal, Merkle}
+use Rattle.chain_core.specs.declared.error.DataFault.TheVariants.{NotACommit}
 use Rattle.keyless_db.specs.Errors.{IsFromJoined}
 use Rattle.keyless_db.specs.DbView.{DbView, IsHeldFor}
 
@@ -42,6 +43,10 @@ NotBuilt D s start end e =
     ⊎ (((end ≡ 0) × IsUnbegun D s e)
     ⊎ (((2 ^ 62 < end) × (e ≡ Merkle (LocationOverflow end)))
     ⊎ ((start ≡ end) × (0 < end) × (e ≡ Journal (ItemPruned (end - 1))))))
+
+-- An error of an opening, whatever the volume holds: one of the journal's, or that the last operation is no commit.
+abbrev pub IsOfOpening : {F : Type 0} → Error F → Type 0
+IsOfOpening e = (e ≡ DataCorrupted NotACommit) ⊎ IsFromJoined (λ d. Unit {0}) e
 
 -- Why no database is opened of these contents under a cap, or none, where the first commit can be put: by the outside; or
 -- as the journal; or, without a cap, an empty log stands past 0.

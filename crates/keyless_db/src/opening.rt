@@ -58,7 +58,7 @@ impl<F: Family, O: KeylessOperation, C: Backing<Item = O>, H: Hasher> Keyless<F,
     ghost use Rattle.chain_core.specs.declared.error.DataFault.TheVariants.{NotACommit};
     ghost use Rattle.keyless_db.specs.DbView.{IsHeldFor};
     ghost use Rattle.keyless_db.specs.Errors.{IsFromJoined};
-    ghost use Rattle.keyless_db.specs.Opening.{EndsHere, GoesOn, IsBuiltAt, IsHeldFrom, IsInitOf, IsOpenedOf, IsSaidCommit, IsUnbegun, NotBuilt, NotInit, NotListed};
+    ghost use Rattle.keyless_db.specs.Opening.{EndsHere, GoesOn, IsBuiltAt, IsHeldFrom, IsInitOf, IsOfOpening, IsOpenedOf, IsSaidCommit, IsUnbegun, NotBuilt, NotInit, NotListed};
 
     /// The log and the tree up to the last commit at or below a size, or up to the last of all.
     fn open_journal<V: Volume>(
@@ -99,6 +99,7 @@ impl<F: Family, O: KeylessOperation, C: Backing<Item = O>, H: Hasher> Keyless<F,
             (IsFromJoined (NotOpened V.tells H.Digest.spelling (H.Digest.Read.admits tt) F.shape map
             (old.log (string_bytes cfg.merkle.nodes)) items (IsSaidCommit O.meaning) max_size)) }
         ensures other { IfErr result (λ e. e ≢ Error.InvalidInitializationBound) }
+        ensures errors { IfErr result IsOfOpening }
         ensures changes { Changes V.tells Error.Volume (V.state vol.old) (V.state vol.new) result }
     {
         let Config {
@@ -164,6 +165,7 @@ impl<F: Family, O: KeylessOperation, C: Backing<Item = O>, H: Hasher> Keyless<F,
             IsJoinedOf F.shape H.hash H.Digest.spelling admits O.spelling [] journal (present (V.state vol.old)) →
             IfErr result IsOutside }
         ensures other { IfErr result (λ e. e ≢ Error.InvalidInitializationBound) }
+        ensures errors { IfErr result IsOfOpening }
         ensures changes { Changes V.tells Error.Volume (V.state vol.old) (V.state vol.new) result }
     {
         let made = match journal.append(vol, commit) {
@@ -256,6 +258,7 @@ impl<F: Family, O: KeylessOperation, C: Backing<Item = O>, H: Hasher> Keyless<F,
         ensures log { IfOk result (λ d. V.tells → GoesOn (O.spelling (O.committed None 0)) journal.items.end
             (log_of journal.items (V.state vol.old)) (log_of journal.items (V.state vol.new))) }
         ensures other { IfErr result (λ e. e ≢ Error.InvalidInitializationBound) }
+        ensures errors { IfErr result IsOfOpening }
         ensures changes { Changes V.tells Error.Volume (V.state vol.old) (V.state vol.new) result }
     {
         let size = journal.size().as_u64();
@@ -293,6 +296,8 @@ impl<F: Family, O: KeylessOperation, C: Backing<Item = O>, H: Hasher> Keyless<F,
             let items = items_of O.spelling O.admits (C.config cfg.log) old in V.tells → max_size ≢ Some 0 →
             IfErr result (NotInit V.tells H.Digest.spelling (H.Digest.Read.admits tt) F.shape map
             (old.log (string_bytes cfg.merkle.nodes)) items O.meaning max_size) }
+        // So it is whatever the volume tells.
+        ensures errors { max_size ≢ Some 0 → IfErr result IsOfOpening }
         // Where the contents stand for a list, the first commit is put, but for the outside.
         ensures listed { let old = V.state vol.old in let view = C.config cfg.log in
             let nodes = old.log (string_bytes cfg.merkle.nodes) in let map = old.map

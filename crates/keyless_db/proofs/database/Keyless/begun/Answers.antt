@@ -138,3 +138,9 @@ returns-in-Err-clause-outside g c tells of =
 pub returns-in-Err-sync-clause-outside : goal.returns-in-Err-sync-clause-outside
 returns-in-Err-sync-clause-outside g c tells of =
     outside_above c.in-Err-sync.error c.from_joined-in-Err-sync.result c.from_joined-in-Err-sync.ensures (c.in-Err-sync.ensures.outside tells _ (c.in-Ok.ensures.joined tells [] of))
+
+pub returns-in-Err-clause-errors : goal.returns-in-Err-clause-errors
+returns-in-Err-clause-errors g c = inr (c.in-Err.error, c.from_joined.ensures, tt)
+
+pub returns-in-Err-sync-clause-errors : goal.returns-in-Err-sync-clause-errors
+returns-in-Err-sync-clause-errors g c = inr (c.in-Err-sync.error, c.from_joined-in-Err-sync.ensures, tt)

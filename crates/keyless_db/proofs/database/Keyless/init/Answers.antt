@@ -148,3 +148,9 @@ returns-in-Ok-open_journal-clause-listed g c tells some list durable run few sta
 
 pub returns-in-Err-open_journal-clause-listed : goal.returns-in-Err-open_journal-clause-listed
 returns-in-Err-open_journal-clause-listed g c tells some list durable run few stands = inr (inl (c.in-Err-open_journal.ensures.refused tells))
+
+pub returns-in-Err-open_journal-clause-errors : goal.returns-in-Err-open_journal-clause-errors
+returns-in-Err-open_journal-clause-errors g c some = c.in-Err-open_journal.ensures.errors
+
+pub returns-in-Ok-open_journal-clause-errors : goal.returns-in-Ok-open_journal-clause-errors
+returns-in-Ok-open_journal-clause-errors g c some = c.opened_from.ensures.errors

@@ -1,4 +1,4 @@
-use Rattle.std.proofs.Common.{◌≡◌, ℕ, Some, None, Option, sym, ◌∙◌, ap, subst, arith, rules}
+use Rattle.std.proofs.Common.{◌≡◌, ℕ, Some, None, Option, sym, ◌∙◌, ap, subst, arith, rules, inr}
 use Rattle.std.specs.Prelude.{string_bytes}
 use Rattle.volume_base.specs.Log.{Log}
 use Rattle.journal_base.specs.Items.{Items, items_of}
@@ -102,3 +102,9 @@ returns-in-Err-new-clause-refused g c tells =
       subst (λ (o : Option ℕ). NotOpened g.V.Volume.tells digest admits g.F.Family.shape map log items (IsSaidCommit g.O.Logged.meaning) o c.in-Err-new.error) cap
           (not_opened_as g.V.Volume.tells digest admits g.F.Family.shape map log items _ (IsSaidCommit g.O.Logged.meaning) None c.in-Err-new.error (λ x b k. search rules) (c.in-Err-new.ensures.refused tells)),
     )
+
+pub returns-in-Err-clause-errors : goal.returns-in-Err-clause-errors
+returns-in-Err-clause-errors g c = inr (c.in-Err.error, c.from_joined.ensures, tt)
+
+pub returns-in-Err-new-clause-errors : goal.returns-in-Err-new-clause-errors
+returns-in-Err-new-clause-errors g c = inr (c.in-Err-new.error, c.from_joined-in-Err-new.ensures, tt)

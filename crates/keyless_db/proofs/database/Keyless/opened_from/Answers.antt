@@ -13,7 +13,7 @@ use Rattle.auth_journal.specs.Standing.{names_of}
 use Rattle.auth_journal.proofs.ReadingLemmas.{run_end}
 use Rattle.keyless_db.specs.DbView.{IsHeldFor}
 use Rattle.keyless_db.proofs.LocationLemmas.{nothing_taken}
-use Rattle.keyless_db.proofs.OpenLemmas.{begun_refused, built_refused, commit_there, durable_still, first_never, first_refused, if_err, if_ok, if_ok_both, read_refused}
+use Rattle.keyless_db.proofs.OpenLemmas.{begun_refused, built_errors, built_refused, commit_there, durable_still, first_never, first_refused, if_err, if_ok, if_ok_both, read_errors, read_refused}
 use Rattle.keyless_db.proofs.ReadLemmas.{all_at}
 use Rattle.keyless_db.proofs.StillLemmas.{present_same}
 use Rattle.keyless_db.proofs.database.Keyless.opened_from.Goals as goal
@@ -249,3 +249,17 @@ pub returns-in-Err-read-clause-outside : goal.returns-in-Err-read-clause-outside
 returns-in-Err-read-clause-outside g c tells list opened zero =
     let end : c.as_u64-size.result ≡ c.args.journal.items.end = c.as_u64-size.ensures ∙ c.size.ensures in
     absurd (omega (arith, c.if-size-eq0.false, end, zero))
+
+pub returns-in-Err-clause-errors : goal.returns-in-Err-clause-errors
+returns-in-Err-clause-errors g c = c.in-Err.ensures.errors
+
+pub returns-then-size-eq0-clause-errors : goal.returns-then-size-eq0-clause-errors
+returns-then-size-eq0-clause-errors g c =
+    if_err _ _ c.built.result (λ e why. built_errors 1 (g.O.Logged.meaning.floor c.commit-commit.result) e why) c.built.ensures.refused
+
+pub returns-in-Ok-read-clause-errors : goal.returns-in-Ok-read-clause-errors
+returns-in-Ok-read-clause-errors g c =
+    if_err _ _ c.built-in-Ok-read.result (λ e why. built_errors c.as_u64-size.result (g.O.Logged.meaning.floor c.in-Ok-read.last_commit) e why) c.built-in-Ok-read.ensures.refused
+
+pub returns-in-Err-read-clause-errors : goal.returns-in-Err-read-clause-errors
+returns-in-Err-read-clause-errors g c = read_errors c.in-Err-read.error _ c.from.ensures
