@@ -269,6 +269,15 @@ log_floorless journal.SizeOverflow n is = cc
 log_floorless journal.EmptyAppend n is = cc
 log_floorless (journal.Tree cause) n is = cc
 
+-- nor does one that is handed on
+pub log_never_floorless : {F T : Type 0} (cause : JournalError) (d : Error F) (n : ℕ) → d ≡ from_journal cause → IsErrOf {T = T} (Err d) (db_error.HistoricalFloorPruned n) → ⊥
+log_never_floorless cause d n is at = let same : d ≡ db_error.HistoricalFloorPruned n = cc in log_floorless cause n (sym is ∙ same)
+
+-- as an error in place of one answer it is the same in place of another
+pub floorless_too : {F S T : Type 0} (e : Error F) (n : ℕ) → IsErrOf {T = S} (Err e) (db_error.HistoricalFloorPruned n)
+    → IsErrOf {T = T} (Err e) (db_error.HistoricalFloorPruned n)
+floorless_too e n at = let same : e ≡ db_error.HistoricalFloorPruned n = cc in ap (λ d. Err d) same
+
 module _ {F T Op V : Type 0} (tells : Type 0) (m : Meaning Op V) (items : Items Op) (count n : ℕ) (same : count ≡ n) (e : Error F) where
   -- the commit's bytes are none
   pub floor_corrupt : (a k p : ℕ) → tells → IsFloorFault tells m items count e → IsErrOf {T = T} (Err e) (db_error.Journal (journal.Corruption p)) → IsCorruptFor items n a k p

@@ -40,6 +40,8 @@ impl<F: Family, O: KeylessOperation, C: Backing<Item = O>, H: Hasher> Keyless<F,
             (O.meaning.floor op)) result }
         ensures fault { let items = items_of O.spelling O.admits self.now.journal.items (V.state vol.old) in
             IfErr result (IsFloorFault V.tells O.meaning items count) }
+        ensures uncounted { (n : ℕ) → IsErrOf result (Error.HistoricalFloorPruned n) →
+            (V.state vol.new).faults ≡ (V.state vol.old).faults }
         ensures reads { Reads V.tells Error.Volume (V.state vol.old) (V.state vol.new) result }
     {
         match self.journal.read(vol, count - 1) {
@@ -139,6 +141,9 @@ impl<F: Family, O: KeylessOperation, C: Backing<Item = O>, H: Hasher> Keyless<F,
         ensures no_commit { let items = items_of O.spelling O.admits self.now.journal.items (V.state vol.old) in
             (n : ℕ) → IsErrOf result (Error.HistoricalFloorPruned n) →
             (n ≡ op_count) × (V.tells → IsNoCommitAt O.meaning items (op_count - 1)) }
+        // That no commit ends a size is no failure of the volume.
+        ensures uncounted { (n : ℕ) → IsErrOf result (Error.HistoricalFloorPruned n) →
+            (V.state vol.new).faults ≡ (V.state vol.old).faults }
         // Of any database, whatever the volume holds.
         ensures errors { IfErr result (λ e. IsFromJoined IsLifted e ⊎ (e ≡ Error.HistoricalFloorPruned op_count)) }
         ensures reads { Reads V.tells Error.Volume (V.state vol.old) (V.state vol.new) result }

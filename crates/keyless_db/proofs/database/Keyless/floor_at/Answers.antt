@@ -10,7 +10,7 @@ use Rattle.chain_core.specs.declared.error.Error.TheVariants as db_error
 use Rattle.keyless_db.specs.DbView.{DbView}
 use Rattle.keyless_db.specs.Reading.{AnswersAs, IsNoCommitAt, IsReadFault, from_start}
 use Rattle.keyless_db.proofs.LiftLemmas.{joined_back}
-use Rattle.keyless_db.proofs.ProofLemmas.{floor_kept, floor_unread, no_commit_read}
+use Rattle.keyless_db.proofs.ProofLemmas.{floor_kept, floor_unread, log_never_floorless, no_commit_read}
 use Rattle.keyless_db.proofs.ReadLemmas.{item_refused, read_fault}
 use Rattle.keyless_db.proofs.database.Keyless.floor_at.Goals as goal
 
@@ -91,3 +91,9 @@ returns-clause-fault g c =
     } in
     inl (subst (λ (x : Joined g.row.H-Digest.Denot g.row.O-Cfg.Denot). IsReadFault g.V.Volume.tells (items_of spelling g.O.Read.admits x.items a) (n - 1) c.from.result) same
     (read_fault g.V.Volume.tells items (n - 1) c.in-Err.error c.from.result c.from.ensures refused))
+
+pub returns-in-Ok-clause-uncounted : goal.returns-in-Ok-clause-uncounted
+returns-in-Ok-clause-uncounted g c n at = (c.in-Ok.ensures {u = tt}).answers.kept
+
+pub returns-clause-uncounted : goal.returns-clause-uncounted
+returns-clause-uncounted g c n at = absurd (log_never_floorless c.in-Err.error c.from.result n c.from.ensures at)

@@ -11,7 +11,7 @@ use Rattle.log_model.specs.Reads.{or_else, unless_refused}
 use Rattle.log_model.specs.declared.refusal.Refusal.TheVariants.{RangeOutOfBounds}
 use Rattle.keyless_db.specs.DbView.{DbView}
 use Rattle.keyless_db.specs.Reading.{floor_refusal, late_refusal}
-use Rattle.keyless_db.proofs.ProofLemmas.{corrupt_still, floor_corrupt, floor_error, floor_lacks, floor_stops, range_corrupt, split_refusal, size_refused, under_error}
+use Rattle.keyless_db.proofs.ProofLemmas.{corrupt_still, floor_corrupt, floor_error, floor_lacks, floor_stops, floorless_too, range_corrupt, split_refusal, size_refused, under_error}
 use Rattle.keyless_db.proofs.SeveralLemmas.{answers_by, refused_by, refused_ok}
 use Rattle.keyless_db.proofs.StillLemmas.{held_size, held_still}
 use Rattle.keyless_db.proofs.database.Keyless.historical_proof.Goals as goal
@@ -107,3 +107,9 @@ pub returns-in-Err-clause-errors : goal.returns-in-Err-clause-errors
 returns-in-Err-clause-errors g c =
     let items : Items g.row.O.Denot = items_of g.O.Spelled.spelling g.O.Read.admits c.args.self.now.journal.items (g.V.Volume.state c.args.vol.now) in
     floor_error c.args.op_count g.V.Volume.tells g.O.Logged.meaning items c.as_u64-count.result c.in-Err.error c.as_u64-count.ensures c.in-Err.ensures.fault
+
+pub returns-in-Ok-clause-uncounted : goal.returns-in-Ok-clause-uncounted
+returns-in-Ok-clause-uncounted g c n at = absurd (c.proof_under.ensures.no_commit n at)
+
+pub returns-in-Err-clause-uncounted : goal.returns-in-Err-clause-uncounted
+returns-in-Err-clause-uncounted g c n at = c.in-Err.ensures.uncounted n (floorless_too c.in-Err.error n at)
