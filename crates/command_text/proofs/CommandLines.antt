@@ -1,14 +1,21 @@
 -- Lines that say commands.
-use Rattle.std.proofs.Common.{◌≡◌, inl, inr, ℕ, ◌+◌, List, [], ◌∷◌, ◌++◌, length, get_or, Option, Some, None, refl, sym, ◌∙◌, ap, subst, append_assoc, arith}
+use Rattle.std.proofs.Common.{◌≡◌, inl, inr, ℕ, ◌+◌, ◌*◌, ◌<◌, List, [], ◌∷◌, ◌++◌, length, Option, Some, None, refl, sym, ◌∙◌, ap, subst, append_assoc, arith}
 use Rattle.std.specs.Prelude.{codes}
 use Rattle.std.specs.List.{onto_first}
+use Rattle.std.specs.NonZero.{non_zero_u64_get}
+use Rattle.std.specs.Coded.{le_prop}
+use Rattle.std.specs.declared.num.NonZeroU64.{NonZeroU64}
+use Rattle.std.proofs.lemmas.Bool.{eqb-false}
 use Rattle.std.proofs.lemmas.Fmt.{decimal_injective}
 use Rattle.std.proofs.lemmas.List.{append-nil, length-append}
 use Rattle.command_text.specs.declared.command.Command.{Command}
-use Rattle.command_text.specs.declared.command.Command.TheVariants.{New, Append, Seal, Apply, Hold, Release, Snapshot, Size, Metadata}
+use Rattle.command_text.specs.declared.command.Command.TheVariants.{New, Append, Seal, Apply, Hold, Release, Snapshot, Get, GetMany, BatchGet, BatchGetMany, Size, Metadata, Proof, Commit, Sync, StartSync, Prune}
 use Rattle.line_text.specs.Lines.{words_of}
 use Rattle.line_text.specs.Said.{IsNumberWord, IsBytesWord, IsOptionalWord, IsSkipped}
-use Rattle.command_text.specs.Grammar.{WordsSay, Says, LinesSay}
+use Rattle.command_text.specs.declared.name.Name.{Name}
+use Rattle.command_text.specs.declared.name.Name.TheVariants as name
+use Rattle.command_text.specs.Names.{name_text}
+use Rattle.command_text.specs.Grammar.{AreNumberWords, WordsSay, SayNothing, Says, LinesSay}
 use Rattle.command_text.specs.declared.parse.LineError.{LineError}
 use Rattle.command_text.specs.declared.parse.LineError.TheVariants.{Bad, Memory}
 use Rattle.command_text.specs.Bad.{IsBad, IsFirstBad, IsCause, IsBadHere, Adds}
@@ -45,43 +52,120 @@ one_metadata text (Some []) None p q = absurd (hyphen_is_no_stop (sym q ∙ p))
 one_metadata text (Some (b ∷ bytes)) None p q = absurd (rw q at p)
 one_metadata text (Some v) (Some w) p q = ap Some (one_value text v w p q)
 
--- letter k of the first word, or 0
-abbrev letter : ℕ → List (List ℕ) → ℕ
-letter k [] = 0
-letter k (word ∷ words) = get_or word k 0
+-- which command it is
+abbrev kind_of : Command → Name
+kind_of (New b) = name.New
+kind_of (Append b v) = name.Append
+kind_of (Seal b m f) = name.Seal
+kind_of (Apply b) = name.Apply
+kind_of (Hold b) = name.Hold
+kind_of (Release b) = name.Release
+kind_of Snapshot = name.Snapshot
+kind_of (Get l) = name.Get
+kind_of (GetMany ls) = name.GetMany
+kind_of (BatchGet b l) = name.BatchGet
+kind_of (BatchGetMany b ls) = name.BatchGetMany
+kind_of Size = name.Size
+kind_of Metadata = name.Metadata
+kind_of (Proof s l n) = name.Proof
+kind_of Commit = name.Commit
+kind_of Sync = name.Sync
+kind_of StartSync = name.StartSync
+kind_of (Prune l) = name.Prune
 
--- words whose first words differ in a letter are not one
-apart : (words xs ys : List (List ℕ)) (k m n : ℕ) → words ≡ xs → words ≡ ys → letter k xs ≡ m → letter k ys ≡ n → (m ≡ n → ⊥) → ⊥
-apart words xs ys k m n e f g h differ = differ (sym g ∙ ap (letter k) (sym e ∙ f) ∙ h)
+-- the first word of a command
+abbrev command_name : Command → List ℕ
+command_name c = name_text (kind_of c)
+
+-- the first of words, or the empty word
+abbrev head_word : List (List ℕ) → List ℕ
+head_word [] = []
+head_word (word ∷ words) = word
+
+-- what says a command begins with its name
+named : (words : List (List ℕ)) (c : Command) → WordsSay words c → head_word words ≡ command_name c
+named words (New None) p = ap head_word p
+named words (New (Some b)) p = ap head_word p.1
+named words (Append b v) p = ap head_word p.2
+named words (Seal b m f) p = ap head_word p.3
+named words (Apply b) p = ap head_word p.1
+named words (Hold b) p = ap head_word p.1
+named words (Release b) p = ap head_word p.1
+named words Snapshot p = ap head_word p
+named words (Get l) p = ap head_word p.1
+named words (GetMany ls) p = ap head_word p.1
+named words (BatchGet b l) p = ap head_word p.2
+named words (BatchGetMany b ls) p = ap head_word p.2
+named words Size p = ap head_word p
+named words Metadata p = ap head_word p
+named words (Proof s l n) p = ap head_word p.3
+named words Commit p = ap head_word p
+named words Sync p = ap head_word p
+named words StartSync p = ap head_word p
+named words (Prune l) p = ap head_word p.1
+
+-- a word that is no name begins no command
+pub unnamed : (word : List ℕ) (words : List (List ℕ)) → ((n : Name) → word ≡ name_text n → ⊥) → SayNothing (word ∷ words)
+unnamed word words none c p = none (kind_of c) (named (word ∷ words) c p)
+
+-- a number for each word; the names of commands have different ones
+abbrev mark : List ℕ → ℕ
+mark [] = 0
+mark (b ∷ word) = b + 3 * mark word
+
+same_mark : (words : List (List ℕ)) (a b : Command) → WordsSay words a → WordsSay words b → mark (command_name a) ≡ mark (command_name b)
+same_mark words a b p q = ap mark (sym (named words a p) ∙ named words b q)
+
+-- words that begin with `proof` say no other command
+only_proof : (words : List (List ℕ)) → ((s l : ℕ) (n : NonZeroU64) → WordsSay (codes "proof" ∷ words) (Proof s l n) → ⊥) → SayNothing (codes "proof" ∷ words)
+only_proof words none (Proof s l n) p = none s l n p
+only_proof words none c p = absurd (eqb-false (mark (codes "proof")) (mark (command_name c)) refl (ap mark (named (codes "proof" ∷ words) c p)))
+
+-- a proof wants a second number
+pub no_start : (words behind : List (List ℕ)) (word : List ℕ) → words ≡ word ∷ behind
+    → ((next : List ℕ) (rest : List (List ℕ)) (n : ℕ) → behind ≡ next ∷ rest → IsNumberWord next n → ⊥) → SayNothing (codes "proof" ∷ words)
+no_start words behind word e none = only_proof words
+    (λ s l n p. let same = p.3 in let next : behind ≡ p.1 ∷ p.2 ∷ [] = cc in none p.1 (p.2 ∷ []) l next p.5)
+
+-- and a third that isn't 0
+pub no_zero : (words behind left : List (List ℕ)) (word next last : List ℕ) → words ≡ word ∷ behind → behind ≡ next ∷ left → left ≡ last ∷ [] → IsNumberWord last 0
+    → SayNothing (codes "proof" ∷ words)
+no_zero words behind left word next last e f g zero = only_proof words
+    (λ s l n p.
+    let same = p.3 in
+    let lasts : p.2 ≡ last = cc in
+    let none = one_number last (non_zero_u64_get n) 0 (rw lasts at p.6) zero in
+    omega (arith, none, n.ok))
+
+-- words are one list of numbers
+one_list : (words : List (List ℕ)) (ms ns : List ℕ) → AreNumberWords words ms → AreNumberWords words ns → ms ≡ ns
+one_list [] [] [] p q = refl
+one_list [] [] (n ∷ ns) p q = absurd q
+one_list [] (m ∷ ms) ns p q = absurd p
+one_list (word ∷ words) [] ns p q = absurd p
+one_list (word ∷ words) (m ∷ ms) [] p q = absurd q
+one_list (word ∷ words) (m ∷ ms) (n ∷ ns) p q =
+    let first = one_number word m n p.0 q.0 in
+    let rest = one_list words ms ns p.1 q.1 in
+    cc
+
+-- a number that isn't 0 is one by its value
+one_count : (m n : NonZeroU64) → non_zero_u64_get m ≡ non_zero_u64_get n → m ≡ n
+one_count m n e =
+    let P : ℕ → Type 0 = λ v. (ok : 0 < v) → m ≡ record { value = v; ok = ok } in
+    let positive : (x y : 0 < m.value) → x ≡ y = hlevel le_prop in
+    subst P e (λ ok i. record { value = m.value; ok = positive m.ok ok i }) n.ok
 
 -- words say one command
 one_command : (words : List (List ℕ)) (a b : Command) → WordsSay words a → WordsSay words b → a ≡ b
 one_command words (New None) (New None) p q = refl
 one_command words (New None) (New (Some b)) p q = absurd (let e = sym p ∙ q.1 in cc)
-one_command words (New None) (Append b w) p q = absurd (apart words _ _ 0 110 97 p q.2 refl refl (λ e. omega (arith, e)))
-one_command words (New None) (Seal b n g) p q = absurd (apart words _ _ 0 110 115 p q.3 refl refl (λ e. omega (arith, e)))
-one_command words (New None) (Apply b) p q = absurd (apart words _ _ 0 110 97 p q.1 refl refl (λ e. omega (arith, e)))
-one_command words (New None) (Hold b) p q = absurd (apart words _ _ 0 110 104 p q.1 refl refl (λ e. omega (arith, e)))
-one_command words (New None) (Release b) p q = absurd (apart words _ _ 0 110 114 p q.1 refl refl (λ e. omega (arith, e)))
-one_command words (New None) Snapshot p q = absurd (apart words _ _ 0 110 115 p q refl refl (λ e. omega (arith, e)))
-one_command words (New None) Size p q = absurd (apart words _ _ 0 110 115 p q refl refl (λ e. omega (arith, e)))
-one_command words (New None) Metadata p q = absurd (apart words _ _ 0 110 109 p q refl refl (λ e. omega (arith, e)))
 one_command words (New (Some a)) (New None) p q = absurd (let e = sym p.1 ∙ q in cc)
 one_command words (New (Some a)) (New (Some b)) p q =
     let same = sym p.1 ∙ q.1 in
     let numbers : p.0 ≡ q.0 = cc in
     let number = one_number q.0 a b (rw numbers at p.2) q.2 in
     cc
-one_command words (New (Some a)) (Append b w) p q = absurd (apart words _ _ 0 110 97 p.1 q.2 refl refl (λ e. omega (arith, e)))
-one_command words (New (Some a)) (Seal b n g) p q = absurd (apart words _ _ 0 110 115 p.1 q.3 refl refl (λ e. omega (arith, e)))
-one_command words (New (Some a)) (Apply b) p q = absurd (apart words _ _ 0 110 97 p.1 q.1 refl refl (λ e. omega (arith, e)))
-one_command words (New (Some a)) (Hold b) p q = absurd (apart words _ _ 0 110 104 p.1 q.1 refl refl (λ e. omega (arith, e)))
-one_command words (New (Some a)) (Release b) p q = absurd (apart words _ _ 0 110 114 p.1 q.1 refl refl (λ e. omega (arith, e)))
-one_command words (New (Some a)) Snapshot p q = absurd (apart words _ _ 0 110 115 p.1 q refl refl (λ e. omega (arith, e)))
-one_command words (New (Some a)) Size p q = absurd (apart words _ _ 0 110 115 p.1 q refl refl (λ e. omega (arith, e)))
-one_command words (New (Some a)) Metadata p q = absurd (apart words _ _ 0 110 109 p.1 q refl refl (λ e. omega (arith, e)))
-one_command words (Append a v) (New None) p q = absurd (apart words _ _ 0 97 110 p.2 q refl refl (λ e. omega (arith, e)))
-one_command words (Append a v) (New (Some b)) p q = absurd (apart words _ _ 0 97 110 p.2 q.1 refl refl (λ e. omega (arith, e)))
 one_command words (Append a v) (Append b w) p q =
     let same = sym p.2 ∙ q.2 in
     let numbers : p.0 ≡ q.0 = cc in
@@ -89,16 +173,6 @@ one_command words (Append a v) (Append b w) p q =
     let number = one_number q.0 a b (rw numbers at p.3) q.3 in
     let value = one_value q.1 v w (rw texts at p.4) q.4 in
     cc
-one_command words (Append a v) (Seal b n g) p q = absurd (apart words _ _ 0 97 115 p.2 q.3 refl refl (λ e. omega (arith, e)))
-one_command words (Append a v) (Apply b) p q = absurd (apart words _ _ 3 101 108 p.2 q.1 refl refl (λ e. omega (arith, e)))
-one_command words (Append a v) (Hold b) p q = absurd (apart words _ _ 0 97 104 p.2 q.1 refl refl (λ e. omega (arith, e)))
-one_command words (Append a v) (Release b) p q = absurd (apart words _ _ 0 97 114 p.2 q.1 refl refl (λ e. omega (arith, e)))
-one_command words (Append a v) Snapshot p q = absurd (apart words _ _ 0 97 115 p.2 q refl refl (λ e. omega (arith, e)))
-one_command words (Append a v) Size p q = absurd (apart words _ _ 0 97 115 p.2 q refl refl (λ e. omega (arith, e)))
-one_command words (Append a v) Metadata p q = absurd (apart words _ _ 0 97 109 p.2 q refl refl (λ e. omega (arith, e)))
-one_command words (Seal a m f) (New None) p q = absurd (apart words _ _ 0 115 110 p.3 q refl refl (λ e. omega (arith, e)))
-one_command words (Seal a m f) (New (Some b)) p q = absurd (apart words _ _ 0 115 110 p.3 q.1 refl refl (λ e. omega (arith, e)))
-one_command words (Seal a m f) (Append b w) p q = absurd (apart words _ _ 0 115 97 p.3 q.2 refl refl (λ e. omega (arith, e)))
 one_command words (Seal a m f) (Seal b n g) p q =
     let same = sym p.3 ∙ q.3 in
     let numbers : p.0 ≡ q.0 = cc in
@@ -108,123 +182,91 @@ one_command words (Seal a m f) (Seal b n g) p q =
     let metadata = one_metadata q.1 m n (rw texts at p.5) q.5 in
     let floor = one_number q.2 f g (rw floors at p.6) q.6 in
     cc
-one_command words (Seal a m f) (Apply b) p q = absurd (apart words _ _ 0 115 97 p.3 q.1 refl refl (λ e. omega (arith, e)))
-one_command words (Seal a m f) (Hold b) p q = absurd (apart words _ _ 0 115 104 p.3 q.1 refl refl (λ e. omega (arith, e)))
-one_command words (Seal a m f) (Release b) p q = absurd (apart words _ _ 0 115 114 p.3 q.1 refl refl (λ e. omega (arith, e)))
-one_command words (Seal a m f) Snapshot p q = absurd (apart words _ _ 1 101 110 p.3 q refl refl (λ e. omega (arith, e)))
-one_command words (Seal a m f) Size p q = absurd (apart words _ _ 1 101 105 p.3 q refl refl (λ e. omega (arith, e)))
-one_command words (Seal a m f) Metadata p q = absurd (apart words _ _ 0 115 109 p.3 q refl refl (λ e. omega (arith, e)))
-one_command words (Apply a) (New None) p q = absurd (apart words _ _ 0 97 110 p.1 q refl refl (λ e. omega (arith, e)))
-one_command words (Apply a) (New (Some b)) p q = absurd (apart words _ _ 0 97 110 p.1 q.1 refl refl (λ e. omega (arith, e)))
-one_command words (Apply a) (Append b w) p q = absurd (apart words _ _ 3 108 101 p.1 q.2 refl refl (λ e. omega (arith, e)))
-one_command words (Apply a) (Seal b n g) p q = absurd (apart words _ _ 0 97 115 p.1 q.3 refl refl (λ e. omega (arith, e)))
 one_command words (Apply a) (Apply b) p q =
     let same = sym p.1 ∙ q.1 in
     let numbers : p.0 ≡ q.0 = cc in
     let number = one_number q.0 a b (rw numbers at p.2) q.2 in
     cc
-one_command words (Apply a) (Hold b) p q = absurd (apart words _ _ 0 97 104 p.1 q.1 refl refl (λ e. omega (arith, e)))
-one_command words (Apply a) (Release b) p q = absurd (apart words _ _ 0 97 114 p.1 q.1 refl refl (λ e. omega (arith, e)))
-one_command words (Apply a) Snapshot p q = absurd (apart words _ _ 0 97 115 p.1 q refl refl (λ e. omega (arith, e)))
-one_command words (Apply a) Size p q = absurd (apart words _ _ 0 97 115 p.1 q refl refl (λ e. omega (arith, e)))
-one_command words (Apply a) Metadata p q = absurd (apart words _ _ 0 97 109 p.1 q refl refl (λ e. omega (arith, e)))
-one_command words (Hold a) (New None) p q = absurd (apart words _ _ 0 104 110 p.1 q refl refl (λ e. omega (arith, e)))
-one_command words (Hold a) (New (Some b)) p q = absurd (apart words _ _ 0 104 110 p.1 q.1 refl refl (λ e. omega (arith, e)))
-one_command words (Hold a) (Append b w) p q = absurd (apart words _ _ 0 104 97 p.1 q.2 refl refl (λ e. omega (arith, e)))
-one_command words (Hold a) (Seal b n g) p q = absurd (apart words _ _ 0 104 115 p.1 q.3 refl refl (λ e. omega (arith, e)))
-one_command words (Hold a) (Apply b) p q = absurd (apart words _ _ 0 104 97 p.1 q.1 refl refl (λ e. omega (arith, e)))
 one_command words (Hold a) (Hold b) p q =
     let same = sym p.1 ∙ q.1 in
     let numbers : p.0 ≡ q.0 = cc in
     let number = one_number q.0 a b (rw numbers at p.2) q.2 in
     cc
-one_command words (Hold a) (Release b) p q = absurd (apart words _ _ 0 104 114 p.1 q.1 refl refl (λ e. omega (arith, e)))
-one_command words (Hold a) Snapshot p q = absurd (apart words _ _ 0 104 115 p.1 q refl refl (λ e. omega (arith, e)))
-one_command words (Hold a) Size p q = absurd (apart words _ _ 0 104 115 p.1 q refl refl (λ e. omega (arith, e)))
-one_command words (Hold a) Metadata p q = absurd (apart words _ _ 0 104 109 p.1 q refl refl (λ e. omega (arith, e)))
-one_command words (Release a) (New None) p q = absurd (apart words _ _ 0 114 110 p.1 q refl refl (λ e. omega (arith, e)))
-one_command words (Release a) (New (Some b)) p q = absurd (apart words _ _ 0 114 110 p.1 q.1 refl refl (λ e. omega (arith, e)))
-one_command words (Release a) (Append b w) p q = absurd (apart words _ _ 0 114 97 p.1 q.2 refl refl (λ e. omega (arith, e)))
-one_command words (Release a) (Seal b n g) p q = absurd (apart words _ _ 0 114 115 p.1 q.3 refl refl (λ e. omega (arith, e)))
-one_command words (Release a) (Apply b) p q = absurd (apart words _ _ 0 114 97 p.1 q.1 refl refl (λ e. omega (arith, e)))
-one_command words (Release a) (Hold b) p q = absurd (apart words _ _ 0 114 104 p.1 q.1 refl refl (λ e. omega (arith, e)))
 one_command words (Release a) (Release b) p q =
     let same = sym p.1 ∙ q.1 in
     let numbers : p.0 ≡ q.0 = cc in
     let number = one_number q.0 a b (rw numbers at p.2) q.2 in
     cc
-one_command words (Release a) Snapshot p q = absurd (apart words _ _ 0 114 115 p.1 q refl refl (λ e. omega (arith, e)))
-one_command words (Release a) Size p q = absurd (apart words _ _ 0 114 115 p.1 q refl refl (λ e. omega (arith, e)))
-one_command words (Release a) Metadata p q = absurd (apart words _ _ 0 114 109 p.1 q refl refl (λ e. omega (arith, e)))
-one_command words Snapshot (New None) p q = absurd (apart words _ _ 0 115 110 p q refl refl (λ e. omega (arith, e)))
-one_command words Snapshot (New (Some b)) p q = absurd (apart words _ _ 0 115 110 p q.1 refl refl (λ e. omega (arith, e)))
-one_command words Snapshot (Append b w) p q = absurd (apart words _ _ 0 115 97 p q.2 refl refl (λ e. omega (arith, e)))
-one_command words Snapshot (Seal b n g) p q = absurd (apart words _ _ 1 110 101 p q.3 refl refl (λ e. omega (arith, e)))
-one_command words Snapshot (Apply b) p q = absurd (apart words _ _ 0 115 97 p q.1 refl refl (λ e. omega (arith, e)))
-one_command words Snapshot (Hold b) p q = absurd (apart words _ _ 0 115 104 p q.1 refl refl (λ e. omega (arith, e)))
-one_command words Snapshot (Release b) p q = absurd (apart words _ _ 0 115 114 p q.1 refl refl (λ e. omega (arith, e)))
 one_command words Snapshot Snapshot p q = refl
-one_command words Snapshot Size p q = absurd (apart words _ _ 1 110 105 p q refl refl (λ e. omega (arith, e)))
-one_command words Snapshot Metadata p q = absurd (apart words _ _ 0 115 109 p q refl refl (λ e. omega (arith, e)))
-one_command words Size (New None) p q = absurd (apart words _ _ 0 115 110 p q refl refl (λ e. omega (arith, e)))
-one_command words Size (New (Some b)) p q = absurd (apart words _ _ 0 115 110 p q.1 refl refl (λ e. omega (arith, e)))
-one_command words Size (Append b w) p q = absurd (apart words _ _ 0 115 97 p q.2 refl refl (λ e. omega (arith, e)))
-one_command words Size (Seal b n g) p q = absurd (apart words _ _ 1 105 101 p q.3 refl refl (λ e. omega (arith, e)))
-one_command words Size (Apply b) p q = absurd (apart words _ _ 0 115 97 p q.1 refl refl (λ e. omega (arith, e)))
-one_command words Size (Hold b) p q = absurd (apart words _ _ 0 115 104 p q.1 refl refl (λ e. omega (arith, e)))
-one_command words Size (Release b) p q = absurd (apart words _ _ 0 115 114 p q.1 refl refl (λ e. omega (arith, e)))
-one_command words Size Snapshot p q = absurd (apart words _ _ 1 105 110 p q refl refl (λ e. omega (arith, e)))
+one_command words (Get a) (Get b) p q =
+    let same = sym p.1 ∙ q.1 in
+    let numbers : p.0 ≡ q.0 = cc in
+    let number = one_number q.0 a b (rw numbers at p.2) q.2 in
+    cc
+one_command words (GetMany ms) (GetMany ns) p q =
+    let same = sym p.1 ∙ q.1 in
+    let texts : p.0 ≡ q.0 = cc in
+    let numbers = one_list q.0 ms ns (rw texts at p.2) q.2 in
+    cc
+one_command words (BatchGet a l) (BatchGet b k) p q =
+    let same = sym p.2 ∙ q.2 in
+    let numbers : p.0 ≡ q.0 = cc in
+    let lasts : p.1 ≡ q.1 = cc in
+    let number = one_number q.0 a b (rw numbers at p.3) q.3 in
+    let location = one_number q.1 l k (rw lasts at p.4) q.4 in
+    cc
+one_command words (BatchGetMany a ms) (BatchGetMany b ns) p q =
+    let same = sym p.2 ∙ q.2 in
+    let numbers : p.0 ≡ q.0 = cc in
+    let texts : p.1 ≡ q.1 = cc in
+    let number = one_number q.0 a b (rw numbers at p.3) q.3 in
+    let locations = one_list q.1 ms ns (rw texts at p.4) q.4 in
+    cc
 one_command words Size Size p q = refl
-one_command words Size Metadata p q = absurd (apart words _ _ 0 115 109 p q refl refl (λ e. omega (arith, e)))
-one_command words Metadata (New None) p q = absurd (apart words _ _ 0 109 110 p q refl refl (λ e. omega (arith, e)))
-one_command words Metadata (New (Some b)) p q = absurd (apart words _ _ 0 109 110 p q.1 refl refl (λ e. omega (arith, e)))
-one_command words Metadata (Append b w) p q = absurd (apart words _ _ 0 109 97 p q.2 refl refl (λ e. omega (arith, e)))
-one_command words Metadata (Seal b n g) p q = absurd (apart words _ _ 0 109 115 p q.3 refl refl (λ e. omega (arith, e)))
-one_command words Metadata (Apply b) p q = absurd (apart words _ _ 0 109 97 p q.1 refl refl (λ e. omega (arith, e)))
-one_command words Metadata (Hold b) p q = absurd (apart words _ _ 0 109 104 p q.1 refl refl (λ e. omega (arith, e)))
-one_command words Metadata (Release b) p q = absurd (apart words _ _ 0 109 114 p q.1 refl refl (λ e. omega (arith, e)))
-one_command words Metadata Snapshot p q = absurd (apart words _ _ 0 109 115 p q refl refl (λ e. omega (arith, e)))
-one_command words Metadata Size p q = absurd (apart words _ _ 0 109 115 p q refl refl (λ e. omega (arith, e)))
 one_command words Metadata Metadata p q = refl
+one_command words (Proof s l m) (Proof t k n) p q =
+    let same = sym p.3 ∙ q.3 in
+    let numbers : p.0 ≡ q.0 = cc in
+    let nexts : p.1 ≡ q.1 = cc in
+    let lasts : p.2 ≡ q.2 = cc in
+    let size = one_number q.0 s t (rw numbers at p.4) q.4 in
+    let start = one_number q.1 l k (rw nexts at p.5) q.5 in
+    let count = one_count m n (one_number q.2 (non_zero_u64_get m) (non_zero_u64_get n) (rw lasts at p.6) q.6) in
+    cc
+one_command words Commit Commit p q = refl
+one_command words Sync Sync p q = refl
+one_command words StartSync StartSync p q = refl
+one_command words (Prune a) (Prune b) p q =
+    let same = sym p.1 ∙ q.1 in
+    let numbers : p.0 ≡ q.0 = cc in
+    let number = one_number q.0 a b (rw numbers at p.2) q.2 in
+    cc
+one_command words a b p q = absurd (eqb-false (mark (command_name a)) (mark (command_name b)) refl (same_mark words a b p q))
 
--- the first byte of words, or 0
-abbrev head_byte : List (List ℕ) → ℕ
+-- the first byte of a word, or 0
+abbrev head_byte : List ℕ → ℕ
 head_byte [] = 0
-head_byte ([] ∷ words) = 0
-head_byte ((b ∷ word) ∷ words) = b
+head_byte (b ∷ word) = b
 
-head_hash : (words : List (List ℕ)) → head_byte (onto_first 35 words) ≡ 35
-head_hash [] = refl
-head_hash (word ∷ words) = refl
+-- a command's name begins with a letter
+begins_with_letter : (c : Command) → 35 < head_byte (command_name c)
+begins_with_letter (New b) = omega arith
+begins_with_letter c = omega arith
 
-other_head : (words others : List (List ℕ)) (n : ℕ) → onto_first 35 words ≡ others → head_byte others ≡ n → n ≡ 35
-other_head words others n e h = sym h ∙ sym (ap head_byte e) ∙ head_hash words
+said_letter : (words : List (List ℕ)) (c : Command) → WordsSay words c → 35 < head_byte (head_word words)
+said_letter words c p = subst (λ word. 35 < head_byte word) (sym (named words c p)) (begins_with_letter c)
+
+onto_hash : (words : List (List ℕ)) → head_byte (head_word (onto_first 35 words)) ≡ 35
+onto_hash [] = refl
+onto_hash (word ∷ words) = refl
 
 -- words that begin with a number sign say no command
 hash_says_nothing : (words : List (List ℕ)) (c : Command) → WordsSay (onto_first 35 words) c → ⊥
-hash_says_nothing words (New None) p = absurd (let e = other_head words _ 110 p refl in omega (arith, e))
-hash_says_nothing words (New (Some b)) p = absurd (let e = other_head words _ 110 p.1 refl in omega (arith, e))
-hash_says_nothing words (Append b v) p = absurd (let e = other_head words _ 97 p.2 refl in omega (arith, e))
-hash_says_nothing words (Seal b m f) p = absurd (let e = other_head words _ 115 p.3 refl in omega (arith, e))
-hash_says_nothing words (Apply b) p = absurd (let e = other_head words _ 97 p.1 refl in omega (arith, e))
-hash_says_nothing words (Hold b) p = absurd (let e = other_head words _ 104 p.1 refl in omega (arith, e))
-hash_says_nothing words (Release b) p = absurd (let e = other_head words _ 114 p.1 refl in omega (arith, e))
-hash_says_nothing words Snapshot p = absurd (let e = other_head words _ 115 p refl in omega (arith, e))
-hash_says_nothing words Size p = absurd (let e = other_head words _ 115 p refl in omega (arith, e))
-hash_says_nothing words Metadata p = absurd (let e = other_head words _ 109 p refl in omega (arith, e))
+hash_says_nothing words c p = let letter = said_letter (onto_first 35 words) c p in omega (arith, letter, onto_hash words)
 
 -- the empty word is no command
 empty_says_nothing : (c : Command) → WordsSay ([] ∷ []) c → ⊥
-empty_says_nothing (New None) p = cc
-empty_says_nothing (New (Some b)) p = let e = p.1 in cc
-empty_says_nothing (Append b v) p = let e = p.2 in cc
-empty_says_nothing (Seal b m f) p = let e = p.3 in cc
-empty_says_nothing (Apply b) p = let e = p.1 in cc
-empty_says_nothing (Hold b) p = let e = p.1 in cc
-empty_says_nothing (Release b) p = let e = p.1 in cc
-empty_says_nothing Snapshot p = cc
-empty_says_nothing Size p = cc
-empty_says_nothing Metadata p = cc
+empty_says_nothing c p = let letter = said_letter ([] ∷ []) c p in omega (arith, letter)
 
 -- a line that is skipped says no command
 skipped_says_nothing : (line : List ℕ) (c : Command) → IsSkipped line → Says line c → ⊥

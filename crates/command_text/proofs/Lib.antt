@@ -1,3 +1,4 @@
 pub mod CommandLines
+pub mod NumberWords
 pub mod ReplyLines
 mod EachText

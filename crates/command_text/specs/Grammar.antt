@@ -1,9 +1,17 @@
 -- The grammar of the input: which command a line says.
 use Rattle.std.specs.Prelude.{◌≡◌, ◌⊎◌, ℕ, List, [], ◌∷◌, Option, Some, None, codes}
+use Rattle.std.specs.NonZero.{non_zero_u64_get}
 use Rattle.command_text.specs.declared.command.Command.{Command}
-use Rattle.command_text.specs.declared.command.Command.TheVariants.{New, Append, Seal, Apply, Hold, Release, Snapshot, Size, Metadata}
+use Rattle.command_text.specs.declared.command.Command.TheVariants.{New, Append, Seal, Apply, Hold, Release, Snapshot, Get, GetMany, BatchGet, BatchGetMany, Size, Metadata, Proof, Commit, Sync, StartSync, Prune}
 use Rattle.line_text.specs.Lines.{lines_of, words_of}
 use Rattle.line_text.specs.Said.{IsNumberWord, IsBytesWord, IsOptionalWord, IsSkipped}
+
+-- these words are these numbers, one each
+abbrev pub AreNumberWords : List (List ℕ) → List ℕ → Type 0
+AreNumberWords [] [] = Unit {0}
+AreNumberWords [] (n ∷ numbers) = ⊥
+AreNumberWords (word ∷ words) [] = ⊥
+AreNumberWords (word ∷ words) (n ∷ numbers) = IsNumberWord word n × AreNumberWords words numbers
 
 -- these words say the command
 abbrev pub WordsSay : List (List ℕ) → Command → Type 0
@@ -15,8 +23,17 @@ WordsSay words (Apply b) = (number : List ℕ) × (words ≡ codes "apply" ∷ n
 WordsSay words (Hold b) = (number : List ℕ) × (words ≡ codes "hold" ∷ number ∷ []) × IsNumberWord number b
 WordsSay words (Release b) = (number : List ℕ) × (words ≡ codes "release" ∷ number ∷ []) × IsNumberWord number b
 WordsSay words Snapshot = words ≡ codes "snapshot" ∷ []
+WordsSay words (Get l) = (number : List ℕ) × (words ≡ codes "get" ∷ number ∷ []) × IsNumberWord number l
+WordsSay words (GetMany ls) = (numbers : List (List ℕ)) × (words ≡ codes "get-many" ∷ numbers) × AreNumberWords numbers ls
+WordsSay words (BatchGet b l) = (number : List ℕ) × (last : List ℕ) × (words ≡ codes "batch-get" ∷ number ∷ last ∷ []) × IsNumberWord number b × IsNumberWord last l
+WordsSay words (BatchGetMany b ls) = (number : List ℕ) × (numbers : List (List ℕ)) × (words ≡ codes "batch-get-many" ∷ number ∷ numbers) × IsNumberWord number b × AreNumberWords numbers ls
 WordsSay words Size = words ≡ codes "size" ∷ []
 WordsSay words Metadata = words ≡ codes "metadata" ∷ []
+WordsSay words (Proof size start count) = (number : List ℕ) × (next : List ℕ) × (last : List ℕ) × (words ≡ codes "proof" ∷ number ∷ next ∷ last ∷ []) × IsNumberWord number size × IsNumberWord next start × IsNumberWord last (non_zero_u64_get count)
+WordsSay words Commit = words ≡ codes "commit" ∷ []
+WordsSay words Sync = words ≡ codes "sync" ∷ []
+WordsSay words StartSync = words ≡ codes "start-sync" ∷ []
+WordsSay words (Prune l) = (number : List ℕ) × (words ≡ codes "prune" ∷ number ∷ []) × IsNumberWord number l
 
 abbrev pub SayNothing : List (List ℕ) → Type 0
 SayNothing words = (command : Command) → WordsSay words command → ⊥

@@ -1,3 +1,4 @@
+pub mod Names
 pub mod Grammar
 pub mod Bad
 pub mod Text

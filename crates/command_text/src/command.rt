@@ -1,7 +1,11 @@
 use codec_base::{Bytes, ListOf};
 use log_model::Refusal;
+use std::num::NonZeroU64;
 use tree_proof::Proof;
 use tree_shape::{Mmr, Sha256Digest};
+
+/// Locations of operations, in their order.
+pub type Locations = ListOf<u64>;
 
 /// A command of the program, one line of its input.
 #[derive(PartialEq, Eq, Drop)]
@@ -20,10 +24,28 @@ pub enum Command {
     Release(u64),
     /// Makes a sealed batch of the present state.
     Snapshot,
+    /// Asks for the value at a location.
+    Get(u64),
+    /// Asks for the values at several locations.
+    GetMany(Locations),
+    /// Asks for the value at a location of a batch.
+    BatchGet(u64, u64),
+    /// Asks for the values at several locations of a batch.
+    BatchGetMany(u64, Locations),
     /// Asks for the size.
     Size,
     /// Asks for the metadata of the last commit.
     Metadata,
+    /// Asks, at a size, for a proof of the operations from a location on, at most so many.
+    Proof(u64, u64, NonZeroU64),
+    /// Makes the operations durable.
+    Commit,
+    /// Makes the operations and the nodes durable.
+    Sync,
+    /// The same, by a sync that is started and ends within the command.
+    StartSync,
+    /// Gives up what lies below a location, as far as whole blobs go.
+    Prune(u64),
 }
 
 /// Values in their order; of a commit without metadata, none.

@@ -2,10 +2,12 @@
 #![tactic(auto)]
 
 mod command;
+mod name;
 mod parse;
 mod text;
+mod words;
 
-pub use command::{Answer, Command, OpList, ProofAnswer, Replies, Reply, ValueList};
+pub use command::{Answer, Command, Locations, OpList, ProofAnswer, Replies, Reply, ValueList};
 pub use log_model::Refusal;
 pub use parse::{LineError, parse_commands};
 pub use text::write_replies;
