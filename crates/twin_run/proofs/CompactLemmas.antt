@@ -102,6 +102,13 @@ written_start (Import cfg) w state here = absurd cc
 pub same_name : (was is : View (Unit {0})) → SameButBounds was is → is.name ≡ was.name
 same_name was is same = ap (λ (v : View (Unit {0})). v.name) same
 
+-- what stays of a log whose bounds alone change
+pub same_failed : (was is : View (Unit {0})) → SameButBounds was is → is.failed ≡ was.failed
+same_failed was is same = ap (λ (v : View (Unit {0})). v.failed) same
+
+pub same_blob : (was is : View (Unit {0})) → SameButBounds was is → is.blob ≡ was.blob
+same_blob was is same = ap (λ (v : View (Unit {0})). v.blob) same
+
 -- a list without more
 no_more : (ops more : List Operation) → length more ≤ 0 → ops ++ more ≡ ops
 no_more ops [] le = append-nil ops

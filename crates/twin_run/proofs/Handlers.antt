@@ -26,14 +26,16 @@ use Rattle.log_model.proofs.ReachLemmas.{lists_decide}
 use Rattle.op_codec.specs.declared.keyless.Operation.TheVariants.{Append}
 use Rattle.command_text.specs.declared.command.Answer.{Answer}
 use Rattle.command_text.specs.declared.command.Answer.TheVariants as answer
+use Rattle.command_text.specs.declared.command.Command.{Command}
 use Rattle.log_model.specs.declared.refusal.Refusal.TheVariants.{NoBatch, ValueTooLong, StaleBatch, LocationOverflow}
 use Rattle.twin_run.specs.Operation.{Operation, meaning, one_list, same_operation, operation_decide}
 use Rattle.twin_run.specs.Commitments.{same_state, AreBounds}
 use Rattle.twin_run.specs.Told.{IsTold}
 use Rattle.volume_base.specs.Moments.{Image}
 use Rattle.twin_run.specs.Kind.{Kind, Kept, kept_of, with_list, IsKnown, size_of, snapshot_of}
-use Rattle.twin_run.specs.Step.{Outcome, refused, metadata_length, sealed_or_lost, seal_refusal, begin, begin_on, append_to, seal, apply, hold, release, snapshot, size, metadata}
-use Rattle.twin_run.specs.StateOf.{HaveMarks, Likeness, LinkIs, IsUnsealedOf, IsItemOf, IsSealedOf, IsEntryOf, AreBatchesOf, AreFew, HasRoom, if_held, held_in, IsSealedAs, IsUnsealedAs, same_lists, any_lists, IsShaped, IsStateOf, Meets, AnyState, IsToldBy, Follows, Answers}
+use Rattle.twin_run.specs.Config.{Config}
+use Rattle.twin_run.specs.Step.{Outcome, step, refused, metadata_length, sealed_or_lost, seal_refusal, begin, begin_on, append_to, seal, apply, hold, release, snapshot, size, metadata}
+use Rattle.twin_run.specs.StateOf.{HaveMarks, Likeness, LinkIs, IsUnsealedOf, IsItemOf, IsSealedOf, IsEntryOf, AreBatchesOf, AreFew, HasRoom, if_held, held_in, IsSealedAs, IsUnsealedAs, same_lists, any_lists, IsShaped, IsStateOf, Meets, AnyState, IsToldBy, Follows, FollowsCommand, Answers}
 use Rattle.twin_run.specs.declared.numbers.Batch.{Batch}
 use Rattle.twin_run.specs.declared.numbers.Batch.TheVariants.{Unsealed, Sealed, Gone}
 use Rattle.twin_run.specs.declared.numbers.Holding.{Holding}
@@ -287,6 +289,16 @@ module _ {Db S U : Type 0} (k : Kind Db S U) where
     follows = λ s by is.
         subst (λ (o : Outcome). Meets k o image made new a) (sym (same s))
         (subst (λ (d : Db). Meets k (f s) image d new a) (sym kept) ((answers image).follows s (told s by) is));
+  }
+
+  -- and follows a command whose step is the same
+  pub follows_command : (of : State Operation → Type 0) (f : State Operation → Outcome) (limit : ℕ) (command : Command) (db made : Db) (old new : Numbers S U) (a : Answer) → Answers k of f db old new a
+      → ((s : State Operation) → IsTold s → of s) → made ≡ db → Image → ((config : Config) (s : State Operation) → config.value_limit ≡ limit → step config s command ≡ f s) → FollowsCommand k limit command db made old new
+  follows_command of f limit command db made old new a answers told kept any same = record {
+    shaped = (answers any).shaped;
+    follows = λ config image s limited by is.
+        subst (λ (o : Outcome). IsStateOf k image made new o.1) (sym (same config s limited))
+        (subst (λ (d : Db). IsStateOf k image d new (f s).1) (sym kept) ((answers image).follows s (told s by) is).1);
   }
 
   module _ (db : Db) (old : Numbers S U) (sh : IsShaped k old) (new : Numbers S U) (taken : new.taken ≡ old.taken) where

@@ -10,6 +10,7 @@ pub mod Changes
 pub mod Marking
 pub mod Reaching
 pub mod Handlers
+pub mod ListSteps
 pub mod Writing
 pub mod Sealing
 pub mod NamesApart
@@ -18,7 +19,18 @@ pub mod CompactOpening
 pub mod CompactSizes
 pub mod CompactStanding
 pub mod FullLemmas
+pub mod FullReads
+pub mod BatchReads
+pub mod KeptReads
+pub mod ReadAnswers
+pub mod ProvingLemmas
+pub mod VerifyLemmas
 pub mod FoundLemmas
 pub mod FullOpening
 pub mod CompactRefusing
 pub mod CompactImages
+pub mod BothSides
+pub mod Settling
+pub mod FullDurable
+pub mod FullFresh
+pub mod HeldLog

@@ -1,6 +1,6 @@
 -- Each step keeps a state good.
-use Rattle.std.proofs.Common.{◌≡◌, ℕ, zero, suc, ◌+◌, ◌-◌, ◌<◌, ◌≤◌, false, List, [], ◌∷◌, length, drop, get_or, Option, Some, None, refl, ◌∙◌, ap, subst, arith}
-use Rattle.std.specs.Prelude.{nat_lt, nat_le, slice_set, IfSome, Contains, Result, Ok, Err}
+use Rattle.std.proofs.Common.{◌≡◌, ℕ, zero, suc, ◌+◌, ◌-◌, ◌<◌, ◌≤◌, false, List, [], ◌∷◌, length, drop, get_or, Option, Some, None, refl, sym, ◌∙◌, ap, subst, arith}
+use Rattle.std.specs.Prelude.{nat_lt, nat_le, slice_set, IfSome, Contains}
 use Rattle.std.specs.List.{flat_map}
 use Rattle.std.proofs.lemmas.Bool.Decides.{nat_tests}
 use Rattle.std.proofs.lemmas.List.{drop_more}
@@ -15,17 +15,17 @@ use Rattle.log_model.proofs.GoodLemmas.{good_lost, good_with_append, good_with_h
 use Rattle.log_model.proofs.LogLemmas.{good_committed, good_synced, good_pruned}
 use Rattle.log_model.proofs.StoredLemmas.{good_fresh}
 use Rattle.log_model.proofs.StepLemmas.{filled, prune_fits, good_sealed_here, good_applied_here}
+use Rattle.twin_run.specs.Config.{Config}
 use Rattle.twin_run.specs.Operation.{Operation, meaning, operation_decide, one_list, same_operation}
 use Rattle.op_codec.specs.declared.keyless.Operation.TheVariants.{Append, Commit}
-use Rattle.command_text.specs.declared.command.Answer.{Answer}
 use Rattle.command_text.specs.declared.command.Command.{Command}
 use Rattle.command_text.specs.declared.command.Command.TheVariants as command
 use Rattle.log_model.specs.declared.refusal.Refusal.{Refusal}
-use Rattle.twin_run.specs.Step.{Outcome, step, begin, begin_on, append_to, seal_refusal, metadata_length, sealed_or_lost, seal, apply, hold, release, answered, unless, batch_get, batch_get_many, prune, prune_unless, plain_commit}
+use Rattle.twin_run.specs.Step.{Outcome, step, begin, begin_on, append_to, seal_refusal, metadata_length, sealed_or_lost, seal, apply, hold, release, prune, prune_unless, plain_commit}
 use Rattle.twin_run.specs.Told.{IsTold, StatesAreTold}
 use Rattle.twin_run.specs.Trace.{state_after, lists_passed, fresh_state, HasNoClash}
 use Rattle.twin_run.specs.GoodRuns.{IsGoodState, HasLists, StepsStayGood, RunsAreGood}
-use Rattle.twin_run.proofs.RunLaws.{either}
+use Rattle.twin_run.proofs.RunLaws.{either, answered_keeps, unless_keeps, batch_get_keeps, batch_get_many_keeps}
 
 abbrev Allowed : ℕ → List ℕ → Type 0
 Allowed limit v = length v ≤ limit
@@ -109,23 +109,8 @@ module _ (among : List Operation → Type 0) (limit : ℕ) (s : State Operation)
 
   -- ---- answers that change nothing
 
-  pub answered_good : {A : Type 0} (answer : A → Answer) (r : Result A Refusal) → Stays (answered s answer r)
-  answered_good answer (Ok x) = g
-  answered_good answer (Err r) = g
-
-  pub unless_good : (r : Option Refusal) (a : Answer) → Stays (unless s r a)
-  unless_good None a = g
-  unless_good (Some r) a = g
-
-  pub batch_get_good : (b l : ℕ) (x : Batch Operation) → Stays (batch_get s b l x)
-  batch_get_good b l (Unsealed u) = answered_good _ _
-  batch_get_good b l (Sealed c) = either Stays (is_held c) _ _ (λ h. answered_good _ _) (λ h. g)
-  batch_get_good b l Gone = g
-
-  pub batch_get_many_good : (b : ℕ) (ls : List ℕ) (x : Batch Operation) → Stays (batch_get_many s b ls x)
-  batch_get_many_good b ls (Unsealed u) = answered_good _ _
-  batch_get_many_good b ls (Sealed c) = either Stays (is_held c) _ _ (λ h. answered_good _ _) (λ h. g)
-  batch_get_many_good b ls Gone = g
+  pub kept_good : (t : State Operation) → t ≡ s → IsGoodState among limit t
+  kept_good t e = subst (λ (x : State Operation). IsGoodState among limit x) (sym e) g
 
   -- ---- durability
 
@@ -146,17 +131,26 @@ module _ (among : List Operation → Type 0) (limit : ℕ) (s : State Operation)
   prune_good log_blob witness_blob l = prune_good_where log_blob witness_blob l (prune_refusal meaning s l) refl
 
 -- a step after which each list is one of these keeps a good state
-stay_good_among : (among : List Operation → Type 0) (limit : ℕ) (s : State Operation) (c : Command) → HasLists among (step limit s c).1 → IsGoodState among limit s
-    → IsGoodState among limit (step limit s c).1
-stay_good_among among limit s (command.New parent) known g = begin_good among limit s g parent
-stay_good_among among limit s (command.Append b v) known g = append_good among limit s g b v (batch_at s b) refl
-stay_good_among among limit s (command.Seal b metadata floor) known g = seal_good among limit s g b metadata floor (batch_at s b) refl known
-stay_good_among among limit s (command.Apply b) known g = apply_good among limit s g b (batch_at s b) refl
-stay_good_among among limit s (command.Hold b) known g = hold_good among limit s g b (batch_at s b) refl
-stay_good_among among limit s (command.Release b) known g = release_good among limit s g b (batch_at s b) refl
-stay_good_among among limit s command.Snapshot known g = snapshot_good among limit s g
-stay_good_among among limit s command.Size known g = g
-stay_good_among among limit s command.Metadata known g = g
+stay_good_among : (among : List Operation → Type 0) (config : Config) (s : State Operation) (c : Command) → HasLists among (step config s c).1 → IsGoodState among config.value_limit s
+    → IsGoodState among config.value_limit (step config s c).1
+stay_good_among among config s (command.New parent) known g = begin_good among config.value_limit s g parent
+stay_good_among among config s (command.Append b v) known g = append_good among config.value_limit s g b v (batch_at s b) refl
+stay_good_among among config s (command.Seal b metadata floor) known g = seal_good among config.value_limit s g b metadata floor (batch_at s b) refl known
+stay_good_among among config s (command.Apply b) known g = apply_good among config.value_limit s g b (batch_at s b) refl
+stay_good_among among config s (command.Hold b) known g = hold_good among config.value_limit s g b (batch_at s b) refl
+stay_good_among among config s (command.Release b) known g = release_good among config.value_limit s g b (batch_at s b) refl
+stay_good_among among config s command.Snapshot known g = snapshot_good among config.value_limit s g
+stay_good_among among config s (command.Get l) known g = kept_good among config.value_limit s g _ (answered_keeps s _ _)
+stay_good_among among config s (command.GetMany ls) known g = kept_good among config.value_limit s g _ (answered_keeps s _ _)
+stay_good_among among config s (command.BatchGet b l) known g = kept_good among config.value_limit s g _ (batch_get_keeps s b l (batch_at s b))
+stay_good_among among config s (command.BatchGetMany b ls) known g = kept_good among config.value_limit s g _ (batch_get_many_keeps s b ls (batch_at s b))
+stay_good_among among config s command.Size known g = g
+stay_good_among among config s command.Metadata known g = g
+stay_good_among among config s (command.Proof n a count) known g = kept_good among config.value_limit s g _ (unless_keeps s _ _)
+stay_good_among among config s command.Commit known g = commit_good among config.value_limit s g
+stay_good_among among config s command.Sync known g = sync_good among config.value_limit s g
+stay_good_among among config s command.StartSync known g = sync_good among config.value_limit s g
+stay_good_among among config s (command.Prune l) known g = prune_good among config.value_limit s g config.log_blob config.witness_blob l
 
 pub stay_good : StepsStayGood
 stay_good limit = record {
@@ -167,14 +161,14 @@ stay_good limit = record {
   hold = λ b s g. hold_good AnyList limit s g b (batch_at s b) refl;
   release = λ b s g. release_good AnyList limit s g b (batch_at s b) refl;
   snapshot = λ s g. snapshot_good AnyList limit s g;
-  get = λ l s g. answered_good AnyList limit s g _ _;
-  get_many = λ ls s g. answered_good AnyList limit s g _ _;
-  batch_get = λ b l s g. batch_get_good AnyList limit s g b l (batch_at s b);
-  batch_get_many = λ b ls s g. batch_get_many_good AnyList limit s g b ls (batch_at s b);
+  get = λ l s g. kept_good AnyList limit s g _ (answered_keeps s _ _);
+  get_many = λ ls s g. kept_good AnyList limit s g _ (answered_keeps s _ _);
+  batch_get = λ b l s g. kept_good AnyList limit s g _ (batch_get_keeps s b l (batch_at s b));
+  batch_get_many = λ b ls s g. kept_good AnyList limit s g _ (batch_get_many_keeps s b ls (batch_at s b));
   size = λ s g. g;
   metadata = λ s g. g;
-  proof = λ n a count s g. unless_good AnyList limit s g _ _;
-  commit_proof = λ n s g. unless_good AnyList limit s g _ _;
+  proof = λ n a count s g. kept_good AnyList limit s g _ (unless_keeps s _ _);
+  commit_proof = λ n s g. kept_good AnyList limit s g _ (unless_keeps s _ _);
   commit = λ s g. commit_good AnyList limit s g;
   sync = λ s g. sync_good AnyList limit s g;
   start_sync = λ s g. sync_good AnyList limit s g;
@@ -184,18 +178,18 @@ stay_good limit = record {
 -- ---- and so does a run
 
 -- the lists of a state are among those that a run passes from it on
-here_passed : (limit : ℕ) (s : State Operation) (cs : List Command) → HasLists (Contains (lists_passed limit s cs)) s
-here_passed limit s [] list has = has
-here_passed limit s (c ∷ cs) list has = Contains-append_left (lists_here s) (lists_passed limit (step limit s c).1 cs) list has
+here_passed : (config : Config) (s : State Operation) (cs : List Command) → HasLists (Contains (lists_passed config s cs)) s
+here_passed config s [] list has = has
+here_passed config s (c ∷ cs) list has = Contains-append_left (lists_here s) (lists_passed config (step config s c).1 cs) list has
 
 -- those that it passes from the next state on are among them
-later_passed : (limit : ℕ) (s : State Operation) (c : Command) (cs : List Command) (list : List Operation)
-    → Contains (lists_passed limit (step limit s c).1 cs) list → Contains (lists_passed limit s (c ∷ cs)) list
-later_passed limit s c cs list has = Contains-append_right (lists_here s) (lists_passed limit (step limit s c).1 cs) list has
+later_passed : (config : Config) (s : State Operation) (c : Command) (cs : List Command) (list : List Operation)
+    → Contains (lists_passed config (step config s c).1 cs) list → Contains (lists_passed config s (c ∷ cs)) list
+later_passed config s c cs list has = Contains-append_right (lists_here s) (lists_passed config (step config s c).1 cs) list has
 
-run_good : (limit : ℕ) (s : State Operation) (cs : List Command) → IsGoodState AnyList limit s → IsGoodState AnyList limit (state_after limit s cs)
-run_good limit s [] g = g
-run_good limit s (c ∷ cs) g = run_good limit (step limit s c).1 cs (stay_good_among AnyList limit s c (λ list has. tt) g)
+run_good : (config : Config) (s : State Operation) (cs : List Command) → IsGoodState AnyList config.value_limit s → IsGoodState AnyList config.value_limit (state_after config s cs)
+run_good config s [] g = g
+run_good config s (c ∷ cs) g = run_good config (step config s c).1 cs (stay_good_among AnyList config s c (λ list has. tt) g)
 
 -- the state in which a fresh volume is opened is good among any lists that hold its own
 fresh_good_among : (among : List Operation → Type 0) (limit : ℕ) → among (plain_commit ∷ []) → IsGoodState among limit fresh_state
@@ -211,32 +205,32 @@ are_good = record { fresh = λ limit. fresh_good_among AnyList limit tt; runs = 
 
 -- a state that a run of all these commands reaches from a first state, with some of them left: it is good among the lists that the run passes, and
 -- from it on the run passes no others
-pub record IsOnWay (limit : ℕ) (first : State Operation) (all : List Command) (s : State Operation) (left : List Command) : Type 0 where
-  pub good : IsGoodState (Contains (lists_passed limit first all)) limit s
-  pub known : (list : List Operation) → Contains (lists_passed limit s left) list → Contains (lists_passed limit first all) list
+pub record IsOnWay (config : Config) (first : State Operation) (all : List Command) (s : State Operation) (left : List Command) : Type 0 where
+  pub good : IsGoodState (Contains (lists_passed config first all)) config.value_limit s
+  pub known : (list : List Operation) → Contains (lists_passed config s left) list → Contains (lists_passed config first all) list
 
 -- over a fresh volume it begins
-pub way_begins : (limit : ℕ) (all : List Command) → IsOnWay limit fresh_state all fresh_state all
-way_begins limit all = record {
-  good = fresh_good_among (Contains (lists_passed limit fresh_state all)) limit (here_passed limit fresh_state all (plain_commit ∷ []) (0, omega arith, refl));
+pub way_begins : (config : Config) (all : List Command) → IsOnWay config fresh_state all fresh_state all
+way_begins config all = record {
+  good = fresh_good_among (Contains (lists_passed config fresh_state all)) config.value_limit (here_passed config fresh_state all (plain_commit ∷ []) (0, omega arith, refl));
   known = λ list has. has;
 }
 
-module _ (limit : ℕ) (first : State Operation) (all : List Command) (s : State Operation) where
-  way_goes : (c : Command) (left : List Command) → IsOnWay limit first all s (c ∷ left) → IsOnWay limit first all (step limit s c).1 left
+module _ (config : Config) (first : State Operation) (all : List Command) (s : State Operation) where
+  way_goes : (c : Command) (left : List Command) → IsOnWay config first all s (c ∷ left) → IsOnWay config first all (step config s c).1 left
   way_goes c left way =
-      let next : State Operation = (step limit s c).1 in
-      let later : (list : List Operation) → Contains (lists_passed limit next left) list → Contains (lists_passed limit first all) list = λ list has. way.known list (later_passed limit s c left list has) in
+      let next : State Operation = (step config s c).1 in
+      let later : (list : List Operation) → Contains (lists_passed config next left) list → Contains (lists_passed config first all) list = λ list has. way.known list (later_passed config s c left list has) in
       record {
-        good = stay_good_among (Contains (lists_passed limit first all)) limit s c (λ list has. later list (here_passed limit next left list has)) way.good;
+        good = stay_good_among (Contains (lists_passed config first all)) config s c (λ list has. later list (here_passed config next left list has)) way.good;
         known = later;
       }
 
   -- the next of the commands
-  pub way_next : (i : ℕ) (c : Command) → i < length all → get_or all i c ≡ c → IsOnWay limit first all s (drop i all) → IsOnWay limit first all (step limit s c).1 (drop (i + 1) all)
-  way_next i c lt is way = way_goes c (drop (i + 1) all) (subst (IsOnWay limit first all s) (drop_more all i c lt ∙ ap (λ (x : Command). x ∷ drop (i + 1) all) is) way)
+  pub way_next : (i : ℕ) (c : Command) → i < length all → get_or all i c ≡ c → IsOnWay config first all s (drop i all) → IsOnWay config first all (step config s c).1 (drop (i + 1) all)
+  way_next i c lt is way = way_goes c (drop (i + 1) all) (subst (IsOnWay config first all s) (drop_more all i c lt ∙ ap (λ (x : Command). x ∷ drop (i + 1) all) is) way)
 
   -- where nothing clashes, size and root tell the lists of the state
-  pub way_told : (left : List Command) → StatesAreTold limit → HasNoClash limit first all → IsOnWay limit first all s left → IsTold s
+  pub way_told : (left : List Command) → StatesAreTold config.value_limit → HasNoClash config first all → IsOnWay config first all s left → IsTold s
   unfolding HasNoClash
-  way_told left law clear way = law (lists_passed limit first all) s clear way.good
+  way_told left law clear way = law (lists_passed config first all) s clear way.good

@@ -1,22 +1,24 @@
 -- The laws of whole runs.
 use Rattle.std.proofs.Common.{◌≡◌, ℕ, zero, suc, ◌+◌, ◌<◌, ◌≤◌, Bool, true, false, cond, List, [], ◌∷◌, ◌++◌, length, take, get_or, Option, Some, None, refl, sym, ap, subst, arith}
-use Rattle.std.specs.Prelude.{nat_lt, nat_le, slice_get, unwrap_or}
+use Rattle.std.specs.Prelude.{nat_lt, nat_le, slice_get, unwrap_or, Result, Ok, Err}
 use Rattle.std.specs.List.Sorted.{IsNonDecreasingBy}
 use Rattle.std.proofs.lemmas.Option.{same_Some}
 use Rattle.log_model.specs.StateBatches.{Batch, UnsealedBatch, Unsealed, Sealed, Gone, size_of, is_held}
 use Rattle.log_model.specs.Machine.{State, max_leaves, batch_at, with_batch}
 use Rattle.log_model.specs.Reach.{may_seal, may_apply, floor_below}
 use Rattle.log_model.proofs.ReachLemmas.{lists_decide, not_longer}
+use Rattle.twin_run.specs.Config.{Config}
 use Rattle.twin_run.specs.Operation.{Operation, meaning, operation_decide, one_list, same_operation}
 use Rattle.command_text.specs.declared.command.Command.{Command}
 use Rattle.command_text.specs.declared.command.Command.TheVariants as command
+use Rattle.command_text.specs.declared.command.Answer.{Answer}
 use Rattle.command_text.specs.declared.command.Answer.TheVariants as answer
 use Rattle.log_model.specs.declared.refusal.Refusal.{Refusal}
 use Rattle.command_text.specs.declared.command.Reply.{Reply}
-use Rattle.log_model.specs.Refusals.{floor_refusal}
-use Rattle.twin_run.specs.Step.{Outcome, step, reply, begin, begin_on, append_to, seal_refusal, metadata_length, sealed_or_lost, seal, apply, hold, release}
+use Rattle.log_model.specs.Refusals.{floor_refusal, prune_refusal}
+use Rattle.twin_run.specs.Step.{Outcome, step, reply, begin, begin_on, append_to, seal_refusal, metadata_length, sealed_or_lost, seal, apply, hold, release, answered, unless, batch_get, batch_get_many, prune, prune_unless}
 use Rattle.twin_run.specs.Trace.{trace, replies_from, state_after}
-use Rattle.twin_run.specs.Laws.{SizesNeverFall, TellsList, RepliesTellLists, RunsContinue, loses_batch, RefusalsKeep}
+use Rattle.twin_run.specs.Laws.{SizesNeverFall, TellsList, RepliesTellLists, RunsContinue, loses_batch, RefusalsKeep, KeepsLists, StorageKeepsLists, QuestionsKeep}
 
 -- what holds of both choices holds of the one that a test makes
 pub either : (P : Outcome → Type 0) (b : Bool) (x y : Outcome) → (b ≡ true → P x) → (b ≡ false → P y) → P (cond b x y)
@@ -26,6 +28,58 @@ either P false x y p q = q refl
 pub either_why : (P : Option Refusal → Type 0) (b : Bool) (x y : Option Refusal) → (b ≡ true → P x) → (b ≡ false → P y) → P (cond b x y)
 either_why P true x y p q = p refl
 either_why P false x y p q = q refl
+
+-- ---- questions
+
+-- it leaves the state
+abbrev pub Keeps : State Operation → Outcome → Type 0
+Keeps s o = o.1 ≡ s
+
+pub answered_keeps : {A : Type 0} (s : State Operation) (a : A → Answer) (r : Result A Refusal) → Keeps s (answered s a r)
+answered_keeps s a (Ok x) = refl
+answered_keeps s a (Err r) = refl
+
+pub unless_keeps : (s : State Operation) (r : Option Refusal) (a : Answer) → Keeps s (unless s r a)
+unless_keeps s None a = refl
+unless_keeps s (Some r) a = refl
+
+pub batch_get_keeps : (s : State Operation) (b l : ℕ) (x : Batch Operation) → Keeps s (batch_get s b l x)
+batch_get_keeps s b l (Unsealed u) = answered_keeps s _ _
+batch_get_keeps s b l (Sealed c) = either (Keeps s) (is_held c) _ _ (λ h. answered_keeps s _ _) (λ h. refl)
+batch_get_keeps s b l Gone = refl
+
+pub batch_get_many_keeps : (s : State Operation) (b : ℕ) (ls : List ℕ) (x : Batch Operation) → Keeps s (batch_get_many s b ls x)
+batch_get_many_keeps s b ls (Unsealed u) = answered_keeps s _ _
+batch_get_many_keeps s b ls (Sealed c) = either (Keeps s) (is_held c) _ _ (λ h. answered_keeps s _ _) (λ h. refl)
+batch_get_many_keeps s b ls Gone = refl
+
+pub questions_are_kept : QuestionsKeep
+questions_are_kept = record {
+  get = λ l config s. answered_keeps s _ _;
+  get_many = λ ls config s. answered_keeps s _ _;
+  batch_get = λ b l config s. batch_get_keeps s b l (batch_at s b);
+  batch_get_many = λ b ls config s. batch_get_many_keeps s b ls (batch_at s b);
+  size = λ config s. refl;
+  metadata = λ config s. refl;
+  proof = λ n a count config s. unless_keeps s _ _;
+}
+
+-- ---- durability
+
+prune_keeps_where : (log_blob witness_blob : ℕ) (s : State Operation) (l : ℕ) (why : Option Refusal) → KeepsLists s (prune_unless log_blob witness_blob s l why).1
+prune_keeps_where log_blob witness_blob s l None = record { ops = refl; sizes = refl; batches = refl }
+prune_keeps_where log_blob witness_blob s l (Some r) = record { ops = refl; sizes = refl; batches = refl }
+
+prune_keeps : (log_blob witness_blob : ℕ) (s : State Operation) (l : ℕ) → KeepsLists s (prune log_blob witness_blob s l).1
+prune_keeps log_blob witness_blob s l = prune_keeps_where log_blob witness_blob s l (prune_refusal meaning s l)
+
+pub storage_keeps : StorageKeepsLists
+storage_keeps = record {
+  commit = λ config s. record { ops = refl; sizes = refl; batches = refl };
+  sync = λ config s. record { ops = refl; sizes = refl; batches = refl };
+  start_sync = λ config s. record { ops = refl; sizes = refl; batches = refl };
+  prune = λ config s l. prune_keeps config.log_blob config.witness_blob s l;
+}
 
 -- ---- sizes
 
@@ -74,36 +128,51 @@ begin_grows : (s : State Operation) (parent : Option ℕ) → Grows s (begin s p
 begin_grows s None = omega arith
 begin_grows s (Some p) = begin_grows_on s p (batch_at s p)
 
-step_grows : (limit : ℕ) (s : State Operation) (c : Command) → Grows s (step limit s c)
-step_grows limit s (command.New parent) = begin_grows s parent
-step_grows limit s (command.Append b v) = append_grows limit s b v (batch_at s b)
-step_grows limit s (command.Seal b metadata floor) = seal_grows limit s b metadata floor (batch_at s b)
-step_grows limit s (command.Apply b) = apply_grows s b (batch_at s b)
-step_grows limit s (command.Hold b) = hold_grows s b (batch_at s b)
-step_grows limit s (command.Release b) = release_grows s b (batch_at s b)
-step_grows limit s command.Snapshot = omega arith
-step_grows limit s command.Size = omega arith
-step_grows limit s command.Metadata = omega arith
+keeps_grows : (s t : State Operation) → t ≡ s → length s.ops ≤ length t.ops
+keeps_grows s t e = let l = ap (λ (x : State Operation). length x.ops) e in omega (arith, l)
+
+prune_grows : (log_blob witness_blob : ℕ) (s : State Operation) (l : ℕ) → Grows s (prune log_blob witness_blob s l)
+prune_grows log_blob witness_blob s l = let e = ap (λ (ops : List Operation). length ops) (prune_keeps log_blob witness_blob s l).ops in omega (arith, e)
+
+step_grows : (config : Config) (s : State Operation) (c : Command) → Grows s (step config s c)
+step_grows config s (command.New parent) = begin_grows s parent
+step_grows config s (command.Append b v) = append_grows config.value_limit s b v (batch_at s b)
+step_grows config s (command.Seal b metadata floor) = seal_grows config.value_limit s b metadata floor (batch_at s b)
+step_grows config s (command.Apply b) = apply_grows s b (batch_at s b)
+step_grows config s (command.Hold b) = hold_grows s b (batch_at s b)
+step_grows config s (command.Release b) = release_grows s b (batch_at s b)
+step_grows config s command.Snapshot = omega arith
+step_grows config s (command.Get l) = keeps_grows s _ (answered_keeps s _ _)
+step_grows config s (command.GetMany ls) = keeps_grows s _ (answered_keeps s _ _)
+step_grows config s (command.BatchGet b l) = keeps_grows s _ (batch_get_keeps s b l (batch_at s b))
+step_grows config s (command.BatchGetMany b ls) = keeps_grows s _ (batch_get_many_keeps s b ls (batch_at s b))
+step_grows config s command.Size = omega arith
+step_grows config s command.Metadata = omega arith
+step_grows config s (command.Proof n a count) = keeps_grows s _ (unless_keeps s _ _)
+step_grows config s command.Commit = omega arith
+step_grows config s command.Sync = omega arith
+step_grows config s command.StartSync = omega arith
+step_grows config s (command.Prune l) = prune_grows config.log_blob config.witness_blob s l
 
 -- no later reply tells a smaller size
-later_larger : (limit : ℕ) (s : State Operation) (cs : List Command) (j : ℕ) (d : Reply) → j < length (replies_from limit s cs) → length s.ops ≤ (get_or (replies_from limit s cs) j d).size
-later_larger limit s [] j d lt = absurd (omega arith)
-later_larger limit s (c ∷ cs) zero d lt = step_grows limit s c
-later_larger limit s (c ∷ cs) (suc j) d lt = let now = step_grows limit s c in let rest = later_larger limit (step limit s c).1 cs j d (omega arith) in omega (arith, now, rest)
+later_larger : (config : Config) (s : State Operation) (cs : List Command) (j : ℕ) (d : Reply) → j < length (replies_from config s cs) → length s.ops ≤ (get_or (replies_from config s cs) j d).size
+later_larger config s [] j d lt = absurd (omega arith)
+later_larger config s (c ∷ cs) zero d lt = step_grows config s c
+later_larger config s (c ∷ cs) (suc j) d lt = let now = step_grows config s c in let rest = later_larger config (step config s c).1 cs j d (omega arith) in omega (arith, now, rest)
 
-never_fall_from : (limit : ℕ) (s : State Operation) (cs : List Command) → IsNonDecreasingBy (λ (r : Reply). r.size) (replies_from limit s cs)
-never_fall_from limit s [] i j d le lt = absurd (omega arith)
-never_fall_from limit s (c ∷ cs) zero zero d le lt = omega arith
-never_fall_from limit s (c ∷ cs) zero (suc j) d le lt = later_larger limit (step limit s c).1 cs j d (omega arith)
-never_fall_from limit s (c ∷ cs) (suc i) zero d le lt = absurd (omega arith)
-never_fall_from limit s (c ∷ cs) (suc i) (suc j) d le lt = never_fall_from limit (step limit s c).1 cs i j d (omega arith) (omega arith)
+never_fall_from : (config : Config) (s : State Operation) (cs : List Command) → IsNonDecreasingBy (λ (r : Reply). r.size) (replies_from config s cs)
+never_fall_from config s [] i j d le lt = absurd (omega arith)
+never_fall_from config s (c ∷ cs) zero zero d le lt = omega arith
+never_fall_from config s (c ∷ cs) zero (suc j) d le lt = later_larger config (step config s c).1 cs j d (omega arith)
+never_fall_from config s (c ∷ cs) (suc i) zero d le lt = absurd (omega arith)
+never_fall_from config s (c ∷ cs) (suc i) (suc j) d le lt = never_fall_from config (step config s c).1 cs i j d (omega arith) (omega arith)
 
 pub never_fall : SizesNeverFall
 unfolding trace
-never_fall limit s cs zero zero d le lt = omega arith
-never_fall limit s cs zero (suc j) d le lt = later_larger limit s cs j d (omega arith)
-never_fall limit s cs (suc i) zero d le lt = absurd (omega arith)
-never_fall limit s cs (suc i) (suc j) d le lt = never_fall_from limit s cs i j d (omega arith) (omega arith)
+never_fall config s cs zero zero d le lt = omega arith
+never_fall config s cs zero (suc j) d le lt = later_larger config s cs j d (omega arith)
+never_fall config s cs (suc i) zero d le lt = absurd (omega arith)
+never_fall config s cs (suc i) (suc j) d le lt = never_fall_from config s cs i j d (omega arith) (omega arith)
 
 -- ---- what replies tell
 
@@ -113,25 +182,25 @@ some_is a b e = ap (λ o. unwrap_or o a) e
 this_tells : (o : Outcome) (r : Reply) → Some (reply o) ≡ Some r → TellsList r o.1.ops
 this_tells o r e = subst (λ (x : Reply). TellsList x o.1.ops) (some_is (reply o) r e) (record { size = refl; full = refl; compact = refl })
 
-tell_from : (limit : ℕ) (s : State Operation) (cs : List Command) (i : ℕ) (r : Reply) → slice_get (replies_from limit s cs) i ≡ Some r → TellsList r (state_after limit s (take (suc i) cs)).ops
-tell_from limit s [] i r e = absurd (cc)
-tell_from limit s (c ∷ cs) zero r e = this_tells (step limit s c) r e
-tell_from limit s (c ∷ cs) (suc i) r e = tell_from limit (step limit s c).1 cs i r e
+tell_from : (config : Config) (s : State Operation) (cs : List Command) (i : ℕ) (r : Reply) → slice_get (replies_from config s cs) i ≡ Some r → TellsList r (state_after config s (take (suc i) cs)).ops
+tell_from config s [] i r e = absurd (cc)
+tell_from config s (c ∷ cs) zero r e = this_tells (step config s c) r e
+tell_from config s (c ∷ cs) (suc i) r e = tell_from config (step config s c).1 cs i r e
 
 pub tell_lists : RepliesTellLists
 unfolding trace
-tell_lists limit s cs zero r e = this_tells (answer.Opened (length s.ops) s.start, s) r e
-tell_lists limit s cs (suc i) r e = tell_from limit s cs i r e
+tell_lists config s cs zero r e = this_tells (answer.Opened (length s.ops) s.start, s) r e
+tell_lists config s cs (suc i) r e = tell_from config s cs i r e
 
 -- ---- runs that continue
 
-continue_from : (limit : ℕ) (s : State Operation) (cs ds : List Command) → replies_from limit s (cs ++ ds) ≡ replies_from limit s cs ++ replies_from limit (state_after limit s cs) ds
-continue_from limit s [] ds = refl
-continue_from limit s (c ∷ cs) ds = ap (λ (rs : List Reply). reply (step limit s c) ∷ rs) (continue_from limit (step limit s c).1 cs ds)
+continue_from : (config : Config) (s : State Operation) (cs ds : List Command) → replies_from config s (cs ++ ds) ≡ replies_from config s cs ++ replies_from config (state_after config s cs) ds
+continue_from config s [] ds = refl
+continue_from config s (c ∷ cs) ds = ap (λ (rs : List Reply). reply (step config s c) ∷ rs) (continue_from config (step config s c).1 cs ds)
 
 pub continues : RunsContinue
 unfolding trace
-continues limit s cs ds = ap (λ (rs : List Reply). reply (answer.Opened (length s.ops) s.start, s) ∷ rs) (continue_from limit s cs ds)
+continues config s cs ds = ap (λ (rs : List Reply). reply (answer.Opened (length s.ops) s.start, s) ∷ rs) (continue_from config s cs ds)
 
 -- ---- refusals
 
@@ -167,6 +236,10 @@ begin_stays_on s p Gone = λ r is. refl
 begin_stays : (s : State Operation) (parent : Option ℕ) → Stays s (begin s parent)
 begin_stays s None = λ r is. absurd (cc)
 begin_stays s (Some p) = begin_stays_on s p (batch_at s p)
+
+prune_stays : (log_blob witness_blob : ℕ) (s : State Operation) (l : ℕ) (why : Option Refusal) → Stays s (prune_unless log_blob witness_blob s l why)
+prune_stays log_blob witness_blob s l None = λ r is. absurd (cc)
+prune_stays log_blob witness_blob s l (Some x) = λ r is. refl
 
 -- an answer tells why
 same_why : (x r : Refusal) → answer.Refused x ≡ answer.Refused r → x ≡ r
@@ -207,12 +280,21 @@ seal_loses_or_stays limit s b metadata floor (Sealed c) = λ r is. stays_why s (
 seal_loses_or_stays limit s b metadata floor Gone = λ r is. stays_why s (with_batch s b Gone) _ r is refl
 
 pub keep : RefusalsKeep
-keep limit s (command.New parent) r is = begin_stays s parent r is
-keep limit s (command.Append b v) r is = append_stays limit s b v (batch_at s b) r is
-keep limit s (command.Seal b metadata floor) r is = seal_loses_or_stays limit s b metadata floor (batch_at s b) r is
-keep limit s (command.Apply b) r is = apply_stays s b (batch_at s b) r is
-keep limit s (command.Hold b) r is = hold_stays s b (batch_at s b) r is
-keep limit s (command.Release b) r is = release_stays s b (batch_at s b) r is
-keep limit s command.Snapshot r is = absurd (cc)
-keep limit s command.Size r is = absurd (cc)
-keep limit s command.Metadata r is = absurd (cc)
+keep config s (command.New parent) r is = begin_stays s parent r is
+keep config s (command.Append b v) r is = append_stays config.value_limit s b v (batch_at s b) r is
+keep config s (command.Seal b metadata floor) r is = seal_loses_or_stays config.value_limit s b metadata floor (batch_at s b) r is
+keep config s (command.Apply b) r is = apply_stays s b (batch_at s b) r is
+keep config s (command.Hold b) r is = hold_stays s b (batch_at s b) r is
+keep config s (command.Release b) r is = release_stays s b (batch_at s b) r is
+keep config s command.Snapshot r is = absurd (cc)
+keep config s (command.Get l) r is = answered_keeps s _ _
+keep config s (command.GetMany ls) r is = answered_keeps s _ _
+keep config s (command.BatchGet b l) r is = batch_get_keeps s b l (batch_at s b)
+keep config s (command.BatchGetMany b ls) r is = batch_get_many_keeps s b ls (batch_at s b)
+keep config s command.Size r is = absurd (cc)
+keep config s command.Metadata r is = absurd (cc)
+keep config s (command.Proof n a count) r is = unless_keeps s _ _
+keep config s command.Commit r is = absurd (cc)
+keep config s command.Sync r is = absurd (cc)
+keep config s command.StartSync r is = absurd (cc)
+keep config s (command.Prune l) r is = prune_stays config.log_blob config.witness_blob s l (prune_refusal meaning s l) r is

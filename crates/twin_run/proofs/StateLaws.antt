@@ -1,19 +1,20 @@
 -- Where nothing clashes, size and root tell the lists of a good state.
-use Rattle.std.proofs.Common.{◌≡◌, ℕ, zero, suc, ◌+◌, ◌^◌, ◌<◌, ◌≤◌, true, List, [], ◌∷◌, length, take, Some, None, ap, subst, arith}
+use Rattle.std.proofs.Common.{◌≡◌, ℕ, zero, suc, ◌+◌, ◌^◌, ◌<◌, ◌≤◌, Bool, true, List, [], ◌∷◌, length, take, Option, Some, None, refl, sym, ap, subst, arith}
 use Rattle.std.specs.Prelude.{unwrap_or, IfSome, Contains}
 use Rattle.std.specs.List.{AllByRecursion}
 use Rattle.std.proofs.lemmas.Bool.Decides.{same_from_decides}
-use Rattle.std.proofs.lemmas.List.{length-take-le}
+use Rattle.std.specs.Option.{option_map_or}
+use Rattle.std.proofs.lemmas.List.{length-take-le, take_all}
 use Rattle.codec_base.specs.Parts.{admits_bytes}
 use Rattle.tree_shape.specs.Mmr.{mmr}
 use Rattle.tree_shape.specs.Sha256Codec.{bytes_of}
 use Rattle.tree_shape.specs.declared.sha256.Sha256Digest.{Sha256Digest}
 use Rattle.log_model.specs.Hashed.{NoClash}
-use Rattle.log_model.specs.StateBatches.{UnsealedBatch, SealedBatch, Unsealed, Sealed}
-use Rattle.log_model.specs.Machine.{State, batch_at}
-use Rattle.log_model.specs.Reach.{effective_boundary, tips_of, reach, stands_on, may_seal, may_apply}
+use Rattle.log_model.specs.StateBatches.{Batch, UnsealedBatch, SealedBatch, Unsealed, Sealed, Gone}
+use Rattle.log_model.specs.Machine.{State, SameTest, batch_at}
+use Rattle.log_model.specs.Reach.{effective_boundary, tips_of, reach, stands_on, may_seal, may_apply, may_read_sealed, may_read_unsealed, as_sealed, linked}
 use Rattle.log_model.proofs.ReachLemmas.{AllAgree, lists_decide, marks_here, stands_agree}
-use Rattle.log_model.specs.Good.{FloorFits, FloorsRise, ValuesAre, IsGoodList, IsMark, AreMarks, IsGoodBatch}
+use Rattle.log_model.specs.Good.{FloorFits, FloorsRise, ValuesAre, IsGoodList, IsStand, IsMark, AreMarks, IsGoodBatch}
 use Rattle.op_codec.specs.Keyless.{parts, variable_admits}
 use Rattle.op_codec.specs.declared.keyless.Operation.TheVariants.{Append, Commit}
 use Rattle.chain_core.specs.Commitments.{is_same-exact, is_same_equivalence}
@@ -121,10 +122,41 @@ module _ (limit : ℕ) (small : limit < 2 ^ 64) (law : RootsTellLists limit) (li
         let good : IsGoodBatch meaning Among (Allowed limit) plain_commit (Sealed c) = subst (IsGoodBatch meaning Among (Allowed limit) plain_commit) is (g.good.batches b) in
         stand_same c.list c.boundary c.tips good.0 good.2 good.3
 
+    -- ---- and so they do for reads
+
+    -- a good list is its own mark
+    whole_mark : (list : List Operation) → IsGoodHere list → IsMark meaning Among list (length list)
+    whole_mark list good = (omega arith, subst (IsStand meaning Among) (sym (take_all (length list) list (omega arith))) good.stand)
+
+    sealed_reads_same : (b : ℕ) (c : SealedBatch Operation) → batch_at s b ≡ Sealed c → may_read_sealed same_state s c ≡ may_read_sealed one_list s c
+    sealed_reads_same b c is =
+        let good : IsGoodBatch meaning Among (Allowed limit) plain_commit (Sealed c) = subst (IsGoodBatch meaning Among (Allowed limit) plain_commit) is (g.good.batches b) in
+        stand_same c.list c.boundary (length c.list ∷ c.tips) good.0 good.2 (whole_mark c.list good.0, good.3)
+
+    -- an unsealed batch by its parent, or by its own list
+    abbrev ReadBy : SameTest Operation → Bool → Option (SealedBatch Operation) → Bool
+    ReadBy same here parent = option_map_or (λ (c : SealedBatch Operation). may_read_sealed same s c) parent here
+
+    parent_reads : (here here' : Bool) → here ≡ here' → (p : ℕ) (x : Batch Operation) → batch_at s p ≡ x → ReadBy same_state here (as_sealed x) ≡ ReadBy one_list here' (as_sealed x)
+    parent_reads here here' same p (Unsealed u) is = same
+    parent_reads here here' same p (Sealed c) is = sealed_reads_same p c is
+    parent_reads here here' same p Gone is = same
+
+    linked_reads : (here here' : Bool) → here ≡ here' → (link : Option ℕ) → ReadBy same_state here (linked s link) ≡ ReadBy one_list here' (linked s link)
+    linked_reads here here' same None = same
+    linked_reads here here' same (Some p) = parent_reads here here' same p (batch_at s p) refl
+
+    unsealed_reads_same : (b : ℕ) (u : UnsealedBatch Operation) → batch_at s b ≡ Unsealed u → may_read_unsealed same_state s u ≡ may_read_unsealed one_list s u
+    unsealed_reads_same b u is =
+        let good : IsGoodBatch meaning Among (Allowed limit) plain_commit (Unsealed u) = subst (IsGoodBatch meaning Among (Allowed limit) plain_commit) is (g.good.batches b) in
+        linked_reads (same_state s.ops u.list) (one_list s.ops u.list) (tests_agree s.ops u.list (list_fits s.ops g.good.ops) (list_fits u.list good.0)) u.parent
+
 -- where nothing clashes, size and root tell the lists of a good state
 pub are_told : (limit : ℕ) → limit < 2 ^ 64 → RootsTellLists limit → StatesAreTold limit
 are_told limit small law lists s none g = record {
   seals = seals_same limit small law lists none s g;
   applies = applies_same limit small law lists none s g;
+  sealed_reads = sealed_reads_same limit small law lists none s g;
+  unsealed_reads = unsealed_reads_same limit small law lists none s g;
   parents = g.good.parents;
 }

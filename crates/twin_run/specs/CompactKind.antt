@@ -1,11 +1,12 @@
 -- What the compact database and its batches stand for.
-use Rattle.std.specs.Prelude.{◌≡◌, ℕ, ◌^◌, ◌<◌, ◌≤◌, List, [], ◌∷◌, length, map, take, drop, Some, slice_get}
+use Rattle.std.specs.Prelude.{◌≡◌, ℕ, ◌^◌, ◌<◌, ◌≤◌, List, [], ◌∷◌, length, map, take, drop, Some, slice_get, false}
 use Rattle.std.specs.List.{AllByRecursion}
 use Rattle.std.proofs.Common.{ap, refl, sym, ◌∙◌, subst}
 use Rattle.volume_base.specs.Log.{Log, end_of}
 use Rattle.volume_base.specs.Moments.{Image}
 use Rattle.volume_base.specs.Names.{log_alone}
 use Rattle.volume_base.specs.Volume.{State}
+use Rattle.journal_base.specs.View.{IsDurable}
 use Rattle.tree_shape.specs.Mmr.{mmr}
 use Rattle.tree_shape.specs.Sha256Codec.{bytes_of, IsDigest}
 use Rattle.tree_shape.specs.declared.mmr.Mmr.{Mmr}
@@ -110,6 +111,10 @@ compact_kind = record {
   base = λ u. u.base;
   pending = λ u. u.pending;
   parent = λ u. u.parent;
+  is_under = λ config db. (seen_log db.log).blob ≡ config.witness_blob;
+  is_sound = λ db. (seen_log db.log).failed ≡ false;
+  is_durable = λ db state. IsDurable (seen_log db.log) state;
+  is_synced = λ db state. IsDurable (seen_log db.log) state;
   names = λ db. log_alone (seen_log db.log).name;
   in_memory = ⊥;
   nothing = λ memory db. absurd memory;

@@ -1,9 +1,10 @@
 -- What the full database and its batches stand for.
-use Rattle.std.specs.Prelude.{◌≡◌, ℕ, List}
+use Rattle.std.specs.Prelude.{◌≡◌, ℕ, List, false}
 use Rattle.std.proofs.Common.{ap, sym, ◌∙◌, subst}
 use Rattle.volume_base.specs.Log.{Log, end_of}
 use Rattle.volume_base.specs.Moments.{Image}
 use Rattle.journal_base.specs.Items.{Spells}
+use Rattle.journal_base.specs.View.{IsDurable}
 use Rattle.tree_shape.specs.Mmr.{mmr}
 use Rattle.tree_shape.specs.Sha256Codec.{bytes_of, IsDigest}
 use Rattle.tree_shape.specs.declared.mmr.Mmr.{Mmr}
@@ -15,6 +16,7 @@ use Rattle.auth_journal.specs.Standing.{names_of}
 use Rattle.keyless_db.specs.Batches.{UnmerkleizedView, MerkleizedView, IsUnmerkleizedOf, IsMerkleizedOf, HasMarks, bounds_of, link_marks}
 use Rattle.keyless_db.specs.DbView.{DbView, IsHeldFor, floor_in}
 use Rattle.keyless_db.proofs.DbLemmas.{floor_of_list}
+use Rattle.twin_run.specs.Config.{Config}
 use Rattle.twin_run.specs.Operation.{Operation, meaning, sha}
 use Rattle.twin_run.specs.Kind.{Kind, Kept}
 
@@ -43,6 +45,12 @@ IsUnsealedBatchOf list u = IsUnmerkleizedOf mmr sha meaning meaning.encoding lis
 pub record IsFullDbOf (kept : Kept) (image : Image) (db : FullView) : Type 0 where
   pub held : IsHeldIn kept.ops db image
   pub begins : (image.log db.journal.items.name).start ≡ kept.start
+
+-- The blobs of its logs have so many operations and nodes, and values that are read have at most this length.
+pub record IsFullUnder (config : Config) (db : FullView) : Type 0 where
+  pub blob : db.journal.items.blob ≡ config.log_blob
+  pub nodes : db.journal.tree.log.blob ≡ config.node_blob
+  pub codec : db.journal.items.codec ≡ record { max = config.value_limit }
 
 -- What is kept of a log that is opened.
 abbrev pub kept_full : List Operation → List ℕ → (start wstart : ℕ) → Kept
@@ -79,6 +87,10 @@ full_kind = record {
   base = λ u. u.base;
   pending = λ u. u.tree.items;
   parent = λ u. u.parent;
+  is_under = λ config db. IsFullUnder config db;
+  is_sound = λ db. db.journal.failed ≡ false;
+  is_durable = λ db state. IsDurable db.journal.items state;
+  is_synced = λ db state. IsDurable db.journal.items state × IsDurable db.journal.tree.log state;
   names = λ db. names_of db.journal;
   in_memory = ⊥;
   nothing = λ memory db. absurd memory;

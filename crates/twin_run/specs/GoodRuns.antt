@@ -3,6 +3,7 @@ use Rattle.std.specs.Prelude.{ℕ, ◌≤◌, List, Option, length, Contains}
 use Rattle.log_model.specs.Good as good
 use Rattle.log_model.specs.Good.{AnyList}
 use Rattle.log_model.specs.Machine.{State, batch_at, lists_here}
+use Rattle.twin_run.specs.Config.{Config}
 use Rattle.twin_run.specs.Operation.{Operation, meaning}
 use Rattle.command_text.specs.declared.command.Command.{Command}
 use Rattle.twin_run.specs.Step.{Outcome, plain_commit, begin, append_to, seal, apply, hold, release, snapshot, get, get_many, batch_get, batch_get_many, size, metadata, prove, prove_commit, commit, sync, start_sync, prune}
@@ -48,5 +49,5 @@ StepsStayGood = (limit : ℕ) → EachStaysGood limit
 -- So the state in which a fresh volume is opened is good, and each state of a run from a good one on.
 pub record RunsAreGood : Type 0 where
   pub fresh : (limit : ℕ) → IsGoodState AnyList limit fresh_state
-  pub runs : (limit : ℕ) (s : State Operation) (cs : List Command) → IsGoodState AnyList limit s
-      → IsGoodState AnyList limit (state_after limit s cs)
+  pub runs : (config : Config) (s : State Operation) (cs : List Command) → IsGoodState AnyList config.value_limit s
+      → IsGoodState AnyList config.value_limit (state_after config s cs)

@@ -1,14 +1,17 @@
 -- What a database of the run and its batches stand for.
-use Rattle.std.specs.Prelude.{◌≡◌, ◌⊎◌, ℕ, ◌+◌, List, [], length, Option}
+use Rattle.std.specs.Prelude.{◌≡◌, ◌⊎◌, ℕ, ◌+◌, max, List, [], length, Option}
 use Rattle.volume_base.specs.Moments.{Image}
 use Rattle.volume_base.specs.Names.{Names, EachOf}
-use Rattle.log_model.specs.Machine.{State, sizes_with}
+use Rattle.volume_base.specs.Volume as volume
+use Rattle.log_model.specs.Machine.{State, by_blobs, sizes_with}
+use Rattle.log_model.specs.AppliedSizes.{first_at_least}
 use Rattle.log_model.specs.Operations.{floor_of}
 use Rattle.chain_core.specs.Chains.{Sealing}
 use Rattle.chain_core.specs.declared.bounds.Bounds.{Bounds}
 use Rattle.chain_core.specs.declared.commitment.Commitment.{Commitment}
 use Rattle.tree_shape.specs.declared.mmr.Mmr.{Mmr}
 use Rattle.tree_shape.specs.declared.sha256.Sha256Digest.{Sha256Digest}
+use Rattle.twin_run.specs.Config.{Config}
 use Rattle.twin_run.specs.Operation.{Operation, meaning}
 use Rattle.twin_run.specs.Commitments.{commitment_of, AreBounds}
 
@@ -26,6 +29,13 @@ kept_of s = record { ops = s.ops; sizes = s.sizes; start = s.start; wstart = s.w
 abbrev pub with_list : Kept → List Operation → Kept
 with_list kept list = record kept { ops = list; sizes = sizes_with kept.sizes (length kept.ops) (length list) }
 
+-- The same, pruned to a location under a configuration.
+abbrev pub kept_pruned : Config → Kept → ℕ → Kept
+kept_pruned c kept l = record kept {
+  start = max kept.start (by_blobs c.log_blob l);
+  wstart = max kept.wstart (by_blobs c.witness_blob (first_at_least l kept.sizes));
+}
+
 -- A database is, with these contents of a volume, of what it keeps, and has a state and a floor. A sealed batch is of a list, and carries its
 -- states. An unsealed one stands on a list, has appends behind it, and names its parent in the pool; its chain has marks at these sizes.
 pub record Kind (Db Sealed Unsealed : Type 0) : Type 1 where
@@ -39,6 +49,13 @@ pub record Kind (Db Sealed Unsealed : Type 0) : Type 1 where
   pub base : Unsealed → Commitment Mmr Sha256Digest
   pub pending : Unsealed → List Operation
   pub parent : Unsealed → Option ℕ
+  -- it was opened under a configuration: its blobs and the greatest length of its values are the configuration's
+  pub is_under : Config → Db → Type 0
+  -- it keeps no failed sync
+  pub is_sound : Db → Type 0
+  -- a crash now leaves its operations as they are; and what is kept with them
+  pub is_durable : Db → volume.State → Type 0
+  pub is_synced : Db → volume.State → Type 0
   -- the logs and maps that it keeps on a volume
   pub names : Db → Names
   -- it keeps nothing on a volume

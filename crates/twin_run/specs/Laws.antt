@@ -1,22 +1,30 @@
 -- Laws of whole runs, and of a refusal.
 use Rattle.std.specs.Prelude.{◌≡◌, ℕ, Bool, true, false, List, ◌++◌, length, take, slice_get, Some, if◌then◌else◌}
 use Rattle.std.specs.List.Sorted.{IsNonDecreasingBy}
+use Rattle.std.specs.declared.num.NonZeroU64.{NonZeroU64}
+use Rattle.tree_shape.specs.Mmr.{mmr}
+use Rattle.tree_shape.specs.declared.bagging.Bagging.TheVariants.{ForwardFold}
+use Rattle.tree_proof.specs.Check.{Checks}
+use Rattle.log_model.specs.Good.{AnyList}
 use Rattle.log_model.specs.StateBatches.{Gone}
 use Rattle.log_model.specs.Machine.{State, with_batch}
-use Rattle.twin_run.specs.Operation.{Operation}
+use Rattle.twin_run.specs.Config.{Config}
+use Rattle.twin_run.specs.Operation.{Operation, sha}
 use Rattle.command_text.specs.declared.command.Command.{Command}
 use Rattle.command_text.specs.declared.command.Command.TheVariants as command
 use Rattle.command_text.specs.declared.command.Answer.TheVariants as answer
 use Rattle.log_model.specs.declared.refusal.Refusal.{Refusal}
 use Rattle.log_model.specs.declared.refusal.Refusal.TheVariants as refusal
+use Rattle.command_text.specs.declared.command.ProofAnswer.{ProofAnswer}
 use Rattle.command_text.specs.declared.command.Reply.{Reply}
 use Rattle.twin_run.specs.Step.{step, root_of_list}
+use Rattle.twin_run.specs.GoodRuns.{IsGoodState}
 use Rattle.twin_run.specs.Trace.{trace, replies_from, state_after}
 
 -- The sizes in the replies of a run never fall.
 abbrev pub SizesNeverFall : Type 0
 SizesNeverFall =
-    (limit : ℕ) (s : State Operation) (cs : List Command) → IsNonDecreasingBy (λ (r : Reply). r.size) (trace limit s cs)
+    (config : Config) (s : State Operation) (cs : List Command) → IsNonDecreasingBy (λ (r : Reply). r.size) (trace config s cs)
 
 -- A reply tells the size and the root of a list.
 pub record TellsList (r : Reply) (list : List Operation) : Type 0 where
@@ -24,15 +32,15 @@ pub record TellsList (r : Reply) (list : List Operation) : Type 0 where
   pub full : r.full_root ≡ root_of_list list
   pub compact : r.compact_root ≡ root_of_list list
 
--- Each reply of a run tells the list after the commands up to it, and nothing else of them.
+-- The size and the roots of each reply of a run are those of the list after the commands up to it.
 abbrev pub RepliesTellLists : Type 0
-RepliesTellLists = (limit : ℕ) (s : State Operation) (cs : List Command) (i : ℕ) (r : Reply)
-    → slice_get (trace limit s cs) i ≡ Some r → TellsList r (state_after limit s (take i cs)).ops
+RepliesTellLists = (config : Config) (s : State Operation) (cs : List Command) (i : ℕ) (r : Reply)
+    → slice_get (trace config s cs) i ≡ Some r → TellsList r (state_after config s (take i cs)).ops
 
 -- A run of two lists of commands is the run of the first, continued by the second.
 abbrev pub RunsContinue : Type 0
-RunsContinue = (limit : ℕ) (s : State Operation) (cs ds : List Command)
-    → trace limit s (cs ++ ds) ≡ trace limit s cs ++ replies_from limit (state_after limit s cs) ds
+RunsContinue = (config : Config) (s : State Operation) (cs ds : List Command)
+    → trace config s (cs ++ ds) ≡ trace config s cs ++ replies_from config (state_after config s cs) ds
 
 -- A seal that is refused for this reason loses its batch.
 abbrev pub loses_batch : Refusal → Bool
@@ -49,5 +57,39 @@ after_refusal s _ r = s
 
 -- A refused command changes nothing; a seal that is refused as stale, for its location or for its floor loses its batch.
 abbrev pub RefusalsKeep : Type 0
-RefusalsKeep = (limit : ℕ) (s : State Operation) (c : Command) (r : Refusal) → (step limit s c).0 ≡ answer.Refused r
-    → (step limit s c).1 ≡ after_refusal s c r
+RefusalsKeep = (config : Config) (s : State Operation) (c : Command) (r : Refusal) → (step config s c).0 ≡ answer.Refused r
+    → (step config s c).1 ≡ after_refusal s c r
+
+-- Of two states both have the list, its applied sizes and the batches.
+pub record KeepsLists (s t : State Operation) : Type 0 where
+  pub ops : t.ops ≡ s.ops
+  pub sizes : t.sizes ≡ s.sizes
+  pub batches : t.batches ≡ s.batches
+
+-- What is made durable or given up changes no list.
+pub record StorageKeepsLists : Type 0 where
+  pub commit : (config : Config) (s : State Operation) → KeepsLists s (step config s command.Commit).1
+  pub sync : (config : Config) (s : State Operation) → KeepsLists s (step config s command.Sync).1
+  pub start_sync : (config : Config) (s : State Operation) → KeepsLists s (step config s command.StartSync).1
+  pub prune : (config : Config) (s : State Operation) (l : ℕ) → KeepsLists s (step config s (command.Prune l)).1
+
+-- A command keeps each state.
+abbrev pub KeepsStates : Command → Type 0
+KeepsStates c = (config : Config) (s : State Operation) → (step config s c).1 ≡ s
+
+-- A question changes nothing, whatever it answers.
+pub record QuestionsKeep : Type 0 where
+  pub get : (l : ℕ) → KeepsStates (command.Get l)
+  pub get_many : (ls : List ℕ) → KeepsStates (command.GetMany ls)
+  pub batch_get : (b l : ℕ) → KeepsStates (command.BatchGet b l)
+  pub batch_get_many : (b : ℕ) (ls : List ℕ) → KeepsStates (command.BatchGetMany b ls)
+  pub size : KeepsStates command.Size
+  pub metadata : KeepsStates command.Metadata
+  pub proof : (n a : ℕ) (count : NonZeroU64) → KeepsStates (command.Proof n a count)
+
+-- A proof that is answered begins at the location that was asked for, and shows its operations in the tree with the
+-- root that the list had at the size.
+abbrev pub ProofsVerify : Type 0
+ProofsVerify = (config : Config) (s : State Operation) (n a : ℕ) (count : NonZeroU64) (p : ProofAnswer)
+    → IsGoodState AnyList config.value_limit s → (step config s (command.Proof n a count)).0 ≡ answer.Proof p
+    → (p.start ≡ a) × Checks mmr sha ForwardFold p.proof a p.operations (root_of_list (take n s.ops))

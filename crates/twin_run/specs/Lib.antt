@@ -11,7 +11,12 @@ pub mod Kind
 pub mod ListKind
 pub mod CompactKind
 pub mod FullKind
+pub mod Proving
+pub mod ReadRefusals
 pub mod StateOf
+pub mod Durability
+pub mod Faults
+pub mod Twins
 pub mod Outcome
 pub mod Report
 pub mod Laws

@@ -16,10 +16,10 @@ use Rattle.twin_run.specs.declared.list_db.ListDb.{ListDb}
 abbrev pub bounds_of : SealedBatch → Bounds Mmr Sha256Digest
 bounds_of x = x.bounds
 
--- Each is its list, of which nothing is given up, and all are in memory. It has no use for marks.
+-- Each is its list, and all are in memory: the list stays whole, from wherever the log is kept. It has no use for marks.
 abbrev pub list_kind : Kind ListDb SealedBatch UnsealedBatch
 list_kind = record {
-  is_of = λ kept image db. (db.list ≡ kept.ops) × (kept.start ≡ 0);
+  is_of = λ kept image db. db.list ≡ kept.ops;
   is_sealed = λ list x. (x.list ≡ list) × AreBounds list x.bounds;
   is_unsealed = λ list u. u.list ≡ list;
   is_marked = λ marks u. Unit {0};
@@ -29,11 +29,15 @@ list_kind = record {
   base = λ u. commitment_of u.list;
   pending = λ u. u.own.items;
   parent = λ u. u.parent;
+  is_under = λ config db. Unit {0};
+  is_sound = λ db. Unit {0};
+  is_durable = λ db state. Unit {0};
+  is_synced = λ db state. Unit {0};
   names = λ db. record { logs = []; maps = [] };
   in_memory = Unit {0};
   nothing = λ memory db. refl;
-  state_is = λ kept image db is. ap commitment_of is.0;
-  floor_is = λ kept image db is. ap (floor_of meaning) is.0;
+  state_is = λ kept image db is. ap commitment_of is;
+  floor_is = λ kept image db is. ap (floor_of meaning) is;
   bounded = λ list x is. is.1;
   base_is = λ list u is. ap commitment_of is;
   framed = λ kept image other db logs maps is. is;

@@ -3,18 +3,20 @@ use Rattle.std.specs.Prelude.{◌≡◌, ◌⊎◌, ℕ, ◌<◌, ◌≤◌, Lis
 use Rattle.std.specs.Io.KnownBytes.{Appends, IsAtEnd}
 use Rattle.codec_base.specs.Causes.{Rose}
 use Rattle.stream_base.specs.Writing.{WritesFront}
+use Rattle.volume_base.specs.Moments.{Image}
 use Rattle.command_text.specs.declared.command.Command.{Command}
 use Rattle.command_text.specs.declared.command.Reply.{Reply}
 use Rattle.twin_run.specs.declared.ending.Fault.{Fault}
 use Rattle.twin_run.specs.declared.ending.Fault.TheVariants as fault
 use Rattle.twin_run.specs.declared.ending.Status.{Status}
-use Rattle.twin_run.specs.declared.ending.Status.TheVariants.{BadWords, BadLine, ReadFault, TooLong, Volume, NotFresh, Done, WriteFault, Memory}
+use Rattle.twin_run.specs.declared.ending.Status.TheVariants.{BadWords, BadLine, ReadFault, TooLong, Volume, Corrupt, NotFresh, Done, WriteFault, Memory}
 use Rattle.twin_run.specs.Config.{standard_config}
 use Rattle.line_text.specs.Lines.{lines_of}
 use Rattle.command_text.specs.Grammar.{InputSays}
 use Rattle.command_text.specs.Bad.{IsFirstBad}
 use Rattle.command_text.specs.Text.{text_of}
-use Rattle.twin_run.specs.Trace.{trace, fresh_state, HasNoClash, IsBegun}
+use Rattle.twin_run.specs.Trace.{trace, state_after, fresh_state, HasNoClash, IsBegun}
+use Rattle.twin_run.specs.Twins.{HoldsLog}
 
 -- the input was read to its end, and isn't too long
 pub record IsWhole (old new : Option (List ℕ)) : Type 0 where
@@ -37,23 +39,23 @@ pub record IsInput (old new : Option (List ℕ)) (commands : List Command) : Typ
 
 -- the replies of a run of these commands over a fresh volume, under the program's configuration
 abbrev pub replies_to : List Command → List Reply
-replies_to commands = trace standard_config.value_limit fresh_state commands
+replies_to commands = trace standard_config fresh_state commands
 
 -- nothing clashes that is hashed for the lists of a run of these commands
 abbrev pub IsClear : List Command → Type 0
-IsClear commands = HasNoClash standard_config.value_limit fresh_state commands
+IsClear commands = HasNoClash standard_config fresh_state commands
 
--- the input says commands, and where nothing clashes the text of all replies to them was written
-pub record IsAnswered (left left' written written' : Option (List ℕ)) : Type 0 where
+-- the input says commands, and something clashes that is hashed for the lists of a run of these
+pub record HasClash (left left' : Option (List ℕ)) : Type 0 where
   pub commands : List Command
   pub input : IsInput left left' commands
-  pub wrote : IsClear commands → Appends written written' (text_of (replies_to commands))
+  pub clash : IsClear commands → ⊥
 
--- the input says commands, and where nothing clashes a front of the text of all replies to them was written
-pub record IsCutOff (left left' written written' : Option (List ℕ)) : Type 0 where
+-- the input says commands, and where nothing clashes the operation log holds what is kept of the list after these
+pub record HasLeft (left left' : Option (List ℕ)) (image : Image) : Type 0 where
   pub commands : List Command
   pub input : IsInput left left' commands
-  pub wrote : IsClear commands → WritesFront written written' (text_of (replies_to commands))
+  pub holds : IsClear commands → HoldsLog standard_config image (state_after standard_config fresh_state commands)
 
 -- the text of the first of these replies, which are not all, was written, or a front of it where the sink failed
 pub record WritesSoFar (old new : Option (List ℕ)) (faults faults' : ℕ) (replies : List Reply) : Type 0 where
@@ -61,11 +63,26 @@ pub record WritesSoFar (old new : Option (List ℕ)) (faults faults' : ℕ) (rep
   pub begun : IsBegun so_far replies
   pub wrote : Appends old new (text_of so_far) ⊎ (Rose faults faults' × WritesFront old new (text_of so_far))
 
--- the input says commands, and where nothing clashes the text of the first replies to them was written, or a front of it where the sink failed
-pub record IsStopped (left left' written written' : Option (List ℕ)) (faults faults' : ℕ) : Type 0 where
-  pub commands : List Command
-  pub input : IsInput left left' commands
-  pub wrote : IsClear commands → WritesSoFar written written' faults faults' (replies_to commands)
+-- What was written where the input says commands. It is known where the volume tells what it holds and nothing
+-- clashes.
+module _ (tells : Type 0) (left left' written written' : Option (List ℕ)) where
+  -- the text of all replies to them
+  pub record IsAnswered : Type 0 where
+    pub commands : List Command
+    pub input : IsInput left left' commands
+    pub wrote : tells → IsClear commands → Appends written written' (text_of (replies_to commands))
+
+  -- a front of that text
+  pub record IsCutOff : Type 0 where
+    pub commands : List Command
+    pub input : IsInput left left' commands
+    pub wrote : tells → IsClear commands → WritesFront written written' (text_of (replies_to commands))
+
+  -- the text of the first replies to them, or a front of it where the sink failed
+  pub record IsStopped (faults faults' : ℕ) : Type 0 where
+    pub commands : List Command
+    pub input : IsInput left left' commands
+    pub wrote : tells → IsClear commands → WritesSoFar written written' faults faults' (replies_to commands)
 
 -- the program ends before its run
 abbrev pub IsEarly : Status → Type 0
@@ -76,6 +93,7 @@ IsEarly TooLong = Unit {0}
 IsEarly Done = ⊥
 IsEarly WriteFault = ⊥
 IsEarly Volume = ⊥
+IsEarly Corrupt = ⊥
 IsEarly NotFresh = ⊥
 IsEarly Memory = ⊥
 
@@ -90,18 +108,21 @@ IsReadStatus left left' faults faults' BadWords = ⊥
 IsReadStatus left left' faults faults' Done = ⊥
 IsReadStatus left left' faults faults' WriteFault = ⊥
 IsReadStatus left left' faults faults' Volume = ⊥
+IsReadStatus left left' faults faults' Corrupt = ⊥
 IsReadStatus left left' faults faults' NotFresh = ⊥
 
 -- what a run of these commands has left in a sink, and why it didn't end otherwise
-module _ (commands : List Command) (written written' : Option (List ℕ)) (faults faults' volume volume' : ℕ) where
+module _ (tells : Type 0) (commands : List Command) (written written' : Option (List ℕ))
+    (faults faults' volume volume' : ℕ) where
   abbrev pub HasWrittenSoFar : Type 0
-  HasWrittenSoFar = IsClear commands → WritesSoFar written written' faults faults' (replies_to commands)
+  HasWrittenSoFar = tells → IsClear commands → WritesSoFar written written' faults faults' (replies_to commands)
 
   abbrev pub IsRunStatus : Status → Type 0
-  IsRunStatus Done = IsClear commands → Appends written written' (text_of (replies_to commands))
+  IsRunStatus Done = tells → IsClear commands → Appends written written' (text_of (replies_to commands))
   IsRunStatus WriteFault =
-      Rose faults faults' × (IsClear commands → WritesFront written written' (text_of (replies_to commands)))
+      Rose faults faults' × (tells → IsClear commands → WritesFront written written' (text_of (replies_to commands)))
   IsRunStatus Volume = Rose volume volume' × HasWrittenSoFar
+  IsRunStatus Corrupt = (tells → IsClear commands → ⊥) × HasWrittenSoFar
   IsRunStatus NotFresh = HasWrittenSoFar
   IsRunStatus Memory = HasWrittenSoFar
   IsRunStatus BadWords = ⊥
@@ -112,5 +133,6 @@ module _ (commands : List Command) (written written' : Option (List ℕ)) (fault
 -- how the program ends after a fault of its run
 abbrev pub fault_status : Fault → Status
 fault_status fault.Volume = Volume
+fault_status (fault.Corrupt at) = Corrupt
 fault_status fault.NotFresh = NotFresh
 fault_status fault.Memory = Memory

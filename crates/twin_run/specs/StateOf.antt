@@ -3,6 +3,7 @@ use Rattle.std.specs.Prelude.{◌≡◌, ℕ, ◌+◌, ◌^◌, ◌<◌, ◌≤�
 use Rattle.std.specs.List.{count_by}
 use Rattle.volume_base.specs.Moments.{Image}
 use Rattle.log_model.specs.StateBatches as batches
+use Rattle.log_model.specs.Good.{AnyList}
 use Rattle.log_model.specs.Machine.{State}
 use Rattle.log_model.specs.Reach.{is_child, link_bound}
 use Rattle.twin_run.specs.Operation.{Operation}
@@ -12,9 +13,12 @@ use Rattle.chain_core.specs.Slots.{slot_at, holds_of}
 use Rattle.chain_core.specs.States.{sizes}
 use Rattle.chain_core.specs.declared.pool.HeldBatch.{HeldBatch}
 use Rattle.command_text.specs.declared.command.Answer.{Answer}
+use Rattle.command_text.specs.declared.command.Command.{Command}
 use Rattle.command_text.specs.declared.command.Reply.{Reply}
 use Rattle.twin_run.specs.Kind.{Kind, kept_of, IsKnown}
-use Rattle.twin_run.specs.Step.{Outcome, reply}
+use Rattle.twin_run.specs.Step.{Outcome, step, reply}
+use Rattle.twin_run.specs.Config.{Config}
+use Rattle.twin_run.specs.GoodRuns.{IsGoodState}
 use Rattle.twin_run.specs.Told.{IsTold}
 use Rattle.twin_run.specs.declared.numbers.Batch.{Batch}
 use Rattle.twin_run.specs.declared.numbers.Holding.{Holding}
@@ -164,6 +168,15 @@ module _ {Db S U : Type 0} (k : Kind Db S U) where
     pub batches : AreBatchesOf same_lists n.batches.items n.pool s.batches
     pub marks : HaveMarks n.batches.items n.pool
 
+  -- With these contents a side stands for a good state, which size and root tell, under the configuration that its
+  -- database was opened under.
+  pub record StandsGood (config : Config) (image : Image) (db : Db) (n : Numbers S U) (s : State Operation) : Type 0 where
+    pub told : IsTold s
+    pub good : IsGoodState AnyList config.value_limit s
+    pub under : k.is_under config db
+    pub few : config.value_limit < 2 ^ 64
+    pub is : IsStateOf image db n s
+
   -- An answer, and the side after it, are an outcome.
   abbrev pub Meets : Outcome → Image → Db → Numbers S U → Answer → Type 0
   Meets o image db n a = (a ≡ o.0) × IsStateOf image db n o.1
@@ -178,6 +191,13 @@ module _ {Db S U : Type 0} (k : Kind Db S U) where
       (old new : Numbers S U) (a : Answer) : Type 0 where
     pub shaped : IsShaped new
     pub follows : (s : State Operation) → of s → IsStateOf was db old s → Meets (step s) is made new a
+
+  -- A command was followed under each configuration that has this limit: the shape is kept, and for whatever told state
+  -- the side stood, over any contents, it stands for the state that the command leaves.
+  pub record FollowsCommand (limit : ℕ) (command : Command) (db made : Db) (old new : Numbers S U) : Type 0 where
+    pub shaped : IsShaped new
+    pub follows : (config : Config) (image : Image) (s : State Operation) → config.value_limit ≡ limit → IsTold s
+        → IsStateOf image db old s → IsStateOf image made new (step config s command).1
 
   -- So over any contents, where neither these nor the database are touched.
   abbrev pub Answers : (State Operation → Type 0) → (State Operation → Outcome) → Db → Numbers S U → Numbers S U → Answer

@@ -1,5 +1,6 @@
 -- The list machine's step: what each command answers, and the state that it leaves. Lists are compared by their operations.
 use Rattle.std.specs.Prelude.{ℕ, ◌+◌, ◌-◌, nat_lt, nat_le, List, length, map, drop, Option, Some, None, Result, Ok, Err, if◌then◌else◌}
+use Rattle.std.specs.NonZero.{non_zero_u64_get}
 use Rattle.tree_shape.specs.declared.sha256.Sha256Digest.{Sha256Digest}
 use Rattle.tree_shape.specs.Mmr.{mmr}
 use Rattle.tree_shape.specs.declared.mmr.Mmr.{Mmr}
@@ -10,6 +11,7 @@ use Rattle.log_model.specs.Proofs.{proof_answer, proof_end, proof_refusal, commi
 use Rattle.log_model.specs.Reach.{may_apply, sealed_here}
 use Rattle.log_model.specs.Reads.{read_answer, many_answer, sealed_reading, unsealed_reading, batch_answer, batch_many_answer}
 use Rattle.log_model.specs.Refusals as sealing
+use Rattle.twin_run.specs.Config.{Config}
 use Rattle.twin_run.specs.Operation.{Operation, meaning, sha, one_list}
 use Rattle.op_codec.specs.declared.keyless.Operation.TheVariants.{Append, Commit}
 use Rattle.command_text.specs.declared.command.Command.{Command}
@@ -204,17 +206,26 @@ prune log_blob witness_blob s l = prune_unless log_blob witness_blob s l (sealin
 abbrev pub snapshot : State Operation → Outcome
 snapshot s = (answer.Batch (length s.batches), snapshot_taken s (floor_of meaning s.ops))
 
--- What a command answers, and the state that it leaves, where values have at most this length.
-abbrev pub step : ℕ → State Operation → Command → Outcome
-step limit s (command.New parent) = begin s parent
-step limit s (command.Append b v) = append_to limit s b v (batch_at s b)
-step limit s (command.Seal b metadata floor) = seal limit s b metadata floor (batch_at s b)
-step limit s (command.Apply b) = apply s b (batch_at s b)
-step limit s (command.Hold b) = hold s b (batch_at s b)
-step limit s (command.Release b) = release s b (batch_at s b)
-step limit s command.Snapshot = snapshot s
-step limit s command.Size = size s
-step limit s command.Metadata = metadata s
+-- What a command answers, and the state that it leaves, under a configuration.
+abbrev pub step : Config → State Operation → Command → Outcome
+step c s (command.New parent) = begin s parent
+step c s (command.Append b v) = append_to c.value_limit s b v (batch_at s b)
+step c s (command.Seal b metadata floor) = seal c.value_limit s b metadata floor (batch_at s b)
+step c s (command.Apply b) = apply s b (batch_at s b)
+step c s (command.Hold b) = hold s b (batch_at s b)
+step c s (command.Release b) = release s b (batch_at s b)
+step c s command.Snapshot = snapshot s
+step c s (command.Get l) = get s l
+step c s (command.GetMany ls) = get_many s ls
+step c s (command.BatchGet b l) = batch_get s b l (batch_at s b)
+step c s (command.BatchGetMany b ls) = batch_get_many s b ls (batch_at s b)
+step c s command.Size = size s
+step c s command.Metadata = metadata s
+step c s (command.Proof n a count) = prove s n a (non_zero_u64_get count)
+step c s command.Commit = commit s
+step c s command.Sync = sync s
+step c s command.StartSync = start_sync s
+step c s (command.Prune l) = prune c.log_blob c.witness_blob s l
 
 -- The reply: the answer, with the size and the root of the list after the step.
 abbrev pub reply : Outcome → Reply

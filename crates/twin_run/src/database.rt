@@ -14,6 +14,7 @@ ghost use Rattle.tree_shape.specs.Sha256Codec.{bytes_of};
 ghost use Rattle.volume_base.specs.Moments.{Image, present};
 ghost use Rattle.volume_base.specs.Names.{NamesCall};
 ghost use Rattle.volume_base.specs.Volume.{Writes};
+ghost use Rattle.twin_run.specs.Config.{Config};
 ghost use Rattle.twin_run.specs.Operation.{Operation, meaning, sha};
 ghost use Rattle.twin_run.specs.Kind.{Kind, Kept, with_list, IsKnown, size_of, sealing_of, snapshot_of};
 
@@ -165,6 +166,9 @@ pub trait Database: Drop + Sized {
         // Whatever it answers, it touches its own logs and maps alone.
         ensures names { V.tells → NamesCall (kind.names self) (V.state volume.old) (V.state volume.new) }
         ensures same_names { IfOk result (λ made. kind.names made ≡ kind.names self) }
+        ensures sound { IfOk result (λ made. kind.is_sound self → kind.is_sound made) }
+        ensures under { IfOk result (λ made. (config : Config) → kind.is_under config self →
+            kind.is_under config made) }
         ensures writes { Writes V.tells Error.Volume (V.state volume.old) (V.state volume.new) result }
         ensures still { kind.in_memory → volume.new ≡ volume.old }
         ensures memory { kind.in_memory → IsOkUnless result Error.Memory };

@@ -1,5 +1,7 @@
 //! The full database, which keeps each operation and their tree on a volume, as a database of the run.
-ghost use Rattle.std.specs.Prelude.{◌≡◌, ◌≢◌, ◌<◌, ◌≤◌, ◌^◌, ◌∷◌, [], ℕ, List, Some, Err, length, take, slice_get, IfOk, string_bytes};
+ghost use Rattle.std.specs.Prelude.{◌≡◌, ◌≢◌, ◌<◌, ◌≤◌, ◌^◌, ◌∷◌, [], ℕ, List, Some, Err, length, take, slice_get, IfOk, IfErr, string_bytes};
+ghost use Rattle.std.specs.FinMap as map;
+ghost use Rattle.std.specs.NonZero.{non_zero_u64_get};
 ghost use Rattle.volume_base.specs.Moments.{present};
 ghost use Rattle.volume_base.specs.Names.{two_logs_and_map, NamesCall};
 ghost use Rattle.volume_base.specs.Volume.{Changes};
@@ -10,9 +12,12 @@ ghost use Rattle.tree_shape.specs.Sha256Codec.{bytes_of};
 ghost use Rattle.tree_store.specs.Stored.{TreeStands};
 ghost use Rattle.auth_journal.specs.Joined.{leaves_of};
 ghost use Rattle.log_model.specs.Opening.{last_commit};
+ghost use Rattle.chain_core.specs.Answers.{IsOutside};
 ghost use Rattle.twin_run.specs.FullKind.{IsFullDbOf, full_kind, kept_full};
+ghost use Rattle.twin_run.specs.Kind.{kept_of};
 ghost use Rattle.twin_run.specs.Operation.{Operation, meaning, sha};
 ghost use Rattle.twin_run.specs.Step.{plain_commit};
+ghost use Rattle.twin_run.specs.Trace.{fresh_state, IsFreshLog};
 
 use crate::database::Database;
 use crate::operation::Operation;
@@ -24,6 +29,9 @@ use keyless_db::{Keyless, MerkleizedBatch, UnmerkleizedBatch};
 use std::alloc::Global;
 use tree_shape::{Location, Mmr, Sha256Digest, Sha256Hasher};
 use volume_base::Volume;
+
+/// The full database of the run.
+pub type Full = Keyless<Mmr, Operation, VariableJournal<Operation>, Sha256Hasher>;
 
 impl Database for Keyless<Mmr, Operation, VariableJournal<Operation>, Sha256Hasher> {
     type Sealed = MerkleizedBatch<Mmr, Sha256Digest, Operation>;
@@ -122,7 +130,7 @@ pub fn open_full<V: Volume>(
     volume: &mut V,
     cfg: Config<LengthCfg>,
     cap: Option<Location<Mmr>>,
-) -> Result<Keyless<Mmr, Operation, VariableJournal<Operation>, Sha256Hasher>, Error<Mmr>>
+) -> Result<Full, Error<Mmr>>
     requires { string_bytes cfg.log.name ≢ string_bytes cfg.merkle.nodes }
     ensures bound { cap ≡ Some 0 → (result ≡ Err Error.InvalidInitializationBound) × (volume.new ≡ volume.old) }
     // Of a log with a list's operations, beside the list's tree, it is the list's up to the last commit within the cap;
@@ -138,6 +146,22 @@ pub fn open_full<V: Volume>(
         (0 < size → IsFullDbOf (kept_full (take size ops) sizes log.start wstart) (present (V.state volume.new)) db)
         × (size ≡ 0 →
         IsFullDbOf (kept_full (plain_commit ∷ []) sizes log.start wstart) (present (V.state volume.new)) db)) }
+    // Of logs and a map that hold nothing it is the database of the state in which a fresh volume is opened; and there
+    // it is refused by the volume or for want of memory alone.
+    ensures fresh { V.tells → let old = V.state volume.old in IsFreshLog (old.log (string_bytes cfg.log.name)) →
+        IsFreshLog (old.log (string_bytes cfg.merkle.nodes)) →
+        old.map (string_bytes cfg.merkle.metadata) ≡ map.empty →
+        IfOk result (IsFullDbOf (kept_of fresh_state) (present (V.state volume.new))) }
+    ensures fresh_refused { cap ≢ Some 0 → V.tells → let old = V.state volume.old in
+        IsFreshLog (old.log (string_bytes cfg.log.name)) → IsFreshLog (old.log (string_bytes cfg.merkle.nodes)) →
+        old.map (string_bytes cfg.merkle.metadata) ≡ map.empty → IfErr result IsOutside }
+    // Whatever the volume holds, its logs have the configuration's blobs and codec, it keeps no failed sync, and what
+    // is there is durable.
+    ensures under { IfOk result (λ db. (db.journal.items.blob ≡ non_zero_u64_get cfg.log.items_per_blob)
+        × (db.journal.tree.log.blob ≡ non_zero_u64_get cfg.merkle.items_per_blob)
+        × (db.journal.items.codec ≡ cfg.log.codec)) }
+    ensures sound { IfOk result (λ db. full_kind.is_sound db) }
+    ensures durable { IfOk result (λ db. V.tells → full_kind.is_synced db (V.state volume.new)) }
     ensures names { let names = two_logs_and_map (string_bytes cfg.log.name) (string_bytes cfg.merkle.nodes)
         (string_bytes cfg.merkle.metadata) in V.tells → NamesCall names (V.state volume.old) (V.state volume.new) }
     ensures same_names { IfOk result (λ db. full_kind.names db ≡ two_logs_and_map (string_bytes cfg.log.name)

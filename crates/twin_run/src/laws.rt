@@ -1,10 +1,11 @@
 //! Laws of the definitions that the run is stated by.
 ghost use Rattle.twin_run.specs.GoodRuns.{StepsStayGood, RunsAreGood};
-ghost use Rattle.twin_run.specs.Laws.{SizesNeverFall, RepliesTellLists, RunsContinue, RefusalsKeep};
+ghost use Rattle.twin_run.specs.Laws.{SizesNeverFall, RepliesTellLists, RunsContinue, RefusalsKeep, StorageKeepsLists, QuestionsKeep, ProofsVerify};
 ghost use Rattle.twin_run.specs.Told.{StatesAreTold};
 
 use crate::operation::Operation;
 use codec_base::LengthCfg;
+use keyless_db::answers_verify_law;
 use log_model::no_clash_law;
 use tree_shape::{Mmr, Sha256Hasher};
 
@@ -13,7 +14,7 @@ pub fn sizes_never_fall()
     ensures { SizesNeverFall }
 {}
 
-/// Each reply of a run tells the list after the commands up to it, and nothing else of them.
+/// The size and the roots of each reply of a run are those of the list after the commands up to it.
 pub fn replies_tell_lists()
     ensures { RepliesTellLists }
 {}
@@ -28,6 +29,23 @@ pub fn refusals_keep()
     ensures { RefusalsKeep }
 {}
 
+/// What is made durable or given up changes no list.
+pub fn storage_keeps_lists()
+    ensures { StorageKeepsLists }
+{}
+
+/// A question changes nothing, whatever it answers.
+pub fn questions_keep()
+    ensures { QuestionsKeep }
+{}
+
+/// A proof that is answered verifies: it shows its operations in the tree with the root that the list had at the size.
+pub fn proofs_verify()
+    ensures { ProofsVerify }
+{
+    answers_verify_law::<Mmr, Sha256Hasher, Operation>();
+}
+
 /// Each kind of step makes a good state of a good state.
 pub fn steps_stay_good()
     ensures { StepsStayGood }
@@ -38,7 +56,7 @@ pub fn runs_are_good()
     ensures { RunsAreGood }
 {}
 
-/// Where nothing clashes that is hashed for the lists of a good state, size and root tell where its batches may be sealed and applied.
+/// Where nothing clashes that is hashed for the lists of a good state, size and root tell where its batches may be sealed, applied and read.
 pub fn states_are_told(limit: u64)
     ensures { StatesAreTold limit }
 {

@@ -1,20 +1,16 @@
-//! The run over one list in memory.
-ghost use Rattle.std.specs.Prelude.{◌≡◌, ◌<◌, ◌+◌, ◌-◌, ◌^◌, IfOk, IsOkUnless};
-ghost use Rattle.log_model.specs.Machine.{State};
-ghost use Rattle.twin_run.specs.Operation.{Operation};
-ghost use Rattle.twin_run.specs.Step.{step, reply};
-ghost use Rattle.twin_run.specs.Told.{IsTold};
+//! The side of the run that is a list in memory.
+ghost use Rattle.std.specs.Prelude.{◌≡◌, IfOk, IsOkUnless};
 ghost use Rattle.twin_run.specs.Trace.{fresh_state};
 ghost use Rattle.twin_run.specs.ListKind.{list_kind};
-ghost use Rattle.volume_base.specs.Moments.{Image, present};
-ghost use Rattle.twin_run.specs.StateOf.{IsShaped, HasRoom, IsStateOf, RepliesAs, Follows};
+ghost use Rattle.volume_base.specs.Moments.{Image};
+ghost use Rattle.twin_run.specs.StateOf.{IsShaped, HasRoom, IsStateOf, FollowsCommand};
 
 use crate::database::Database;
 use crate::list_db::ListDb;
 use crate::side::Side;
 use chain_core::Error;
 use codec_base::CodecError;
-use command_text::{Answer, Command, Reply};
+use command_text::Command;
 use std::alloc::Global;
 use tree_shape::Mmr;
 use volume_base::Volume;
@@ -32,92 +28,62 @@ impl Side<ListDb> {
         Ok(Side::of(db, alloc, limit))
     }
 
-    /// What a command answers.
-    fn answer<V: Volume>(
+    /// The list after a command. One that reads, proves or makes durable leaves it as it is.
+    pub fn follow<V: Volume>(
         mut self,
         volume: &mut V,
         command: &Command,
-    ) -> Result<(Self, Answer), Error<Mmr>>
+    ) -> Result<Self, Error<Mmr>>
         requires shaped { IsShaped list_kind self.numbers }
         requires room { HasRoom self.numbers }
-        ensures ok { IfOk result (λ r. Follows list_kind IsTold (λ s. step self.limit s command.now)
-            (present (V.state volume.old)) (present (V.state volume.new)) self.db r.0.db self.numbers r.0.numbers r.1) }
-        ensures limit { IfOk result (λ r. r.0.limit ≡ self.limit) }
-        ensures taken { IfOk result (λ r. r.0.numbers.taken ≡ self.numbers.taken) }
+        // Over any contents it stands for what the list machine makes of the state for which it stood.
+        ensures ok { IfOk result
+            (λ m. FollowsCommand list_kind self.limit command.now self.db m.db self.numbers m.numbers) }
+        ensures limit { IfOk result (λ m. m.limit ≡ self.limit) }
+        ensures taken { IfOk result (λ m. m.numbers.taken ≡ self.numbers.taken) }
         ensures still { volume.new ≡ volume.old }
         ensures memory { IsOkUnless result Error.Memory }
     {
         match command {
             Command::New(parent) => {
-                let begun = self.begin(*parent)?;
-                Ok((self, begun))
+                self.begin(*parent)?;
+                Ok(self)
             }
             Command::Append(b, value) => {
-                let appended = self.append(*b, value)?;
-                Ok((self, appended))
+                self.append(*b, value)?;
+                Ok(self)
             }
             Command::Seal(b, metadata, floor) => {
-                let sealed = self.seal(*b, metadata, *floor)?;
-                Ok((self, sealed))
+                self.seal(*b, metadata, *floor)?;
+                Ok(self)
             }
-            Command::Apply(b) => self.apply(volume, *b),
+            Command::Apply(b) => {
+                let (applied, _answer) = self.apply(volume, *b)?;
+                Ok(applied)
+            }
             Command::Hold(b) => {
-                let held = self.hold(*b);
-                Ok((self, held))
+                self.hold(*b);
+                Ok(self)
             }
             Command::Release(b) => {
-                let released = self.release(*b);
-                Ok((self, released))
+                self.release(*b);
+                Ok(self)
             }
             Command::Snapshot => {
-                let snapshot = self.snapshot()?;
-                Ok((self, snapshot))
+                self.snapshot()?;
+                Ok(self)
             }
-            Command::Size => {
-                let size = self.size(0);
-                Ok((self, size))
-            }
-            Command::Metadata => {
-                let metadata = self.metadata(volume)?;
-                Ok((self, metadata))
-            }
+            Command::Get(_)
+            | Command::GetMany(_)
+            | Command::BatchGet(_, _)
+            | Command::BatchGetMany(_, _)
+            | Command::Size
+            | Command::Metadata
+            | Command::Proof(_, _, _)
+            | Command::Commit
+            | Command::Sync
+            | Command::StartSync
+            | Command::Prune(_) => Ok(self),
         }
-    }
-
-    /// An answer, with the size and the root of the list.
-    pub fn reply(&self, answer: Answer) -> Reply
-        ensures { (image : Image) (s : State Operation) → IsStateOf list_kind image self.now.db self.now.numbers s →
-            result ≡ reply (answer, s) }
-    {
-        let state = self.db.commitment();
-        Reply {
-            answer,
-            size: state.size.as_u64(),
-            full_root: state.root,
-            compact_root: state.root,
-        }
-    }
-
-    /// One step of the list machine. No count passes its type's end, since each is at most that of the steps.
-    pub fn step<V: Volume>(
-        mut self,
-        volume: &mut V,
-        command: &Command,
-    ) -> Result<(Self, Reply), Error<Mmr>>
-        requires shaped { IsShaped list_kind self.numbers }
-        requires taken { self.numbers.taken < 2 ^ 64 - 1 }
-        ensures shaped { IfOk result (λ r. IsShaped list_kind r.0.numbers) }
-        ensures ok { IfOk result (λ r. (s : State Operation) → IsTold s →
-            IsStateOf list_kind (present (V.state volume.old)) self.db self.numbers s →
-            RepliesAs list_kind (step self.limit s command.now) (present (V.state volume.new)) r.0.db r.0.numbers r.1) }
-        ensures limit { IfOk result (λ r. r.0.limit ≡ self.limit) }
-        ensures taken { IfOk result (λ r. r.0.numbers.taken ≡ self.numbers.taken + 1) }
-        ensures still { volume.new ≡ volume.old }
-        ensures memory { IsOkUnless result Error.Memory }
-    {
-        self.numbers.count();
-        let (side, answer) = self.answer(volume, command)?;
-        let reply = side.reply(answer);
-        Ok((side, reply))
     }
 }

@@ -9,6 +9,7 @@ ghost use Rattle.log_model.specs.declared.refusal.Refusal.{Refusal};
 ghost use Rattle.volume_base.specs.Moments.{Image, present};
 ghost use Rattle.volume_base.specs.Names.{NamesCall};
 ghost use Rattle.volume_base.specs.Volume.{Writes};
+ghost use Rattle.twin_run.specs.Config.{Config};
 ghost use Rattle.twin_run.specs.Kind.{kept_of};
 ghost use Rattle.twin_run.specs.Operation.{Operation};
 ghost use Rattle.twin_run.specs.Step.{begin, append_to, metadata_length, seal, apply, hold, release, snapshot, size, metadata};
@@ -204,6 +205,9 @@ impl<D: Database> Side<D> {
             IsStateOf D.kind (present (V.state volume.old)) self.db self.numbers s → IsOutside e) }
         ensures names { V.tells → NamesCall (D.kind.names self.db) (V.state volume.old) (V.state volume.new) }
         ensures same_names { IfOk result (λ r. D.kind.names r.0.db ≡ D.kind.names self.db) }
+        ensures sound { IfOk result (λ r. D.kind.is_sound self.db → D.kind.is_sound r.0.db) }
+        ensures under { IfOk result (λ r. (config : Config) → D.kind.is_under config self.db →
+            D.kind.is_under config r.0.db) }
         ensures limit { IfOk result (λ r. r.0.limit ≡ self.limit) }
         ensures taken { IfOk result (λ r. r.0.numbers.taken ≡ self.numbers.taken) }
         ensures writes { Writes V.tells Error.Volume (V.state volume.old) (V.state volume.new) result }

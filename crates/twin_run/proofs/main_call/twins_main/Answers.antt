@@ -7,7 +7,7 @@ pub returns-in-Ok-clause-words : goal.returns-in-Ok-clause-words
 returns-in-Ok-clause-words g c = let run = c.run_and_write.ensures.run in (λ e. absurd (rw e at run), λ some. let none = eqb-true _ _ (sym c.if-not-is_empty.ensures) in absurd (omega arith))
 
 pub returns-in-Ok-clause-early : goal.returns-in-Ok-clause-early
-returns-in-Ok-clause-early g c = λ early. absurd (not_early _ _ _ _ _ _ _ c.run_and_write.result c.run_and_write.ensures.run early)
+returns-in-Ok-clause-early g c = λ early. absurd (not_early _ _ _ _ _ _ _ _ c.run_and_write.result c.run_and_write.ensures.run early)
 
 pub returns-in-Ok-clause-bad_line : goal.returns-in-Ok-clause-bad_line
 returns-in-Ok-clause-bad_line g c = λ n e. let run = c.run_and_write.ensures.run in absurd (rw e at run)
@@ -49,20 +49,28 @@ returns-in-Ok-clause-unopened g c = c.run_and_write.ensures.unopened
 pub returns-in-Ok-clause-answered : goal.returns-in-Ok-clause-answered
 returns-in-Ok-clause-answered g c = c.run_and_write.ensures.answered
 
-pub returns-in-Ok-clause-kept : goal.returns-in-Ok-clause-kept
-returns-in-Ok-clause-kept g c = c.run_and_write.ensures.kept
-
 pub returns-in-Ok-clause-no_fault : goal.returns-in-Ok-clause-no_fault
 returns-in-Ok-clause-no_fault g c = c.run_and_write.ensures.no_fault
+
+pub returns-in-Ok-clause-corrupt : goal.returns-in-Ok-clause-corrupt
+returns-in-Ok-clause-corrupt g c = λ e told.
+    let run = rw e at c.run_and_write.ensures.run in
+    record { commands = c.in-Ok.commands.items; input = c.in-Ok.ensures.input; clash = (rw c.deref.ensures.value at run.0) told }
 
 pub returns-in-Ok-clause-stopped : goal.returns-in-Ok-clause-stopped
 returns-in-Ok-clause-stopped g c = λ e. elim e [
   | inl v ↦
       let run = rw v at c.run_and_write.ensures.run in
       record { commands = c.in-Ok.commands.items; input = c.in-Ok.ensures.input; wrote = rw c.deref.ensures.value at run.1 }
-  | inr v ↦
-      let run = rw v at c.run_and_write.ensures.run in
-      record { commands = c.in-Ok.commands.items; input = c.in-Ok.ensures.input; wrote = rw c.deref.ensures.value at run }
+  | inr w ↦
+      elim w [
+        | inl v ↦
+            let run = rw v at c.run_and_write.ensures.run in
+            record { commands = c.in-Ok.commands.items; input = c.in-Ok.ensures.input; wrote = rw c.deref.ensures.value at run.1 }
+        | inr v ↦
+            let run = rw v at c.run_and_write.ensures.run in
+            record { commands = c.in-Ok.commands.items; input = c.in-Ok.ensures.input; wrote = rw c.deref.ensures.value at run }
+      ]
 ]
 
 pub returns-in-Ok-clause-memory : goal.returns-in-Ok-clause-memory
@@ -71,8 +79,9 @@ returns-in-Ok-clause-memory g c = λ e.
     inr (record { commands = c.in-Ok.commands.items; input = c.in-Ok.ensures.input; wrote = rw c.deref.ensures.value at run })
 
 pub returns-in-Err-clause-valid : goal.returns-in-Err-clause-valid
-returns-in-Err-clause-valid g c = λ valid tells fresh source sink volume. valid_read _ _ _ _ _ c.in-Err.status c.in-Err.ensures.early valid source
+returns-in-Err-clause-valid g c = λ valid tells fresh clear source sink volume. valid_read _ _ _ _ _ c.in-Err.status c.in-Err.ensures.early valid source
 
 pub returns-in-Ok-clause-valid : goal.returns-in-Ok-clause-valid
-returns-in-Ok-clause-valid g c = λ valid tells fresh source sink volume.
-    valid_run _ _ _ _ _ _ _ c.run_and_write.result c.run_and_write.ensures.run (λ e. c.run_and_write.ensures.not_fresh e tells fresh) sink volume
+returns-in-Ok-clause-valid g c = λ valid tells fresh clear source sink volume.
+    valid_run _ _ _ _ _ _ _ _ c.run_and_write.result c.run_and_write.ensures.run (λ e. c.run_and_write.ensures.not_fresh e tells fresh)
+    (λ e. clear (let run = rw e at c.run_and_write.ensures.run in record { commands = c.in-Ok.commands.items; input = c.in-Ok.ensures.input; clash = (rw c.deref.ensures.value at run.0) tells })) sink volume

@@ -1,0 +1,208 @@
+//! Proofs of the operations of the side that has the full database.
+ghost use Rattle.std.specs.Prelude.{◌≡◌, ℕ, map, Option, Some, None, Ok, IfOk, IfErr, IsOkUnless};
+ghost use Rattle.std.specs.NonZero.{non_zero_u64_get};
+ghost use Rattle.std.specs.Option.{option_map};
+ghost use Rattle.volume_base.specs.Moments.{present};
+ghost use Rattle.volume_base.specs.Volume.{Reads};
+ghost use Rattle.log_model.specs.Machine.{State};
+ghost use Rattle.log_model.specs.declared.refusal.Refusal.{Refusal};
+ghost use Rattle.chain_core.specs.Answers.{IsOutside};
+ghost use Rattle.keyless_db.specs.Reading.{late_refusal};
+ghost use Rattle.command_text.specs.declared.command.Answer.TheVariants as answer;
+ghost use Rattle.twin_run.specs.Config.{Config};
+ghost use Rattle.twin_run.specs.FullKind.{full_kind};
+ghost use Rattle.twin_run.specs.Operation.{Operation, meaning};
+ghost use Rattle.twin_run.specs.Proving.{known_refusal, says_no_commit, shown};
+ghost use Rattle.twin_run.specs.StateOf.{StandsGood};
+ghost use Rattle.twin_run.specs.Step.{prove};
+
+use crate::full_side::Full;
+use crate::operation::Operation;
+use crate::side::Side;
+use chain_core::Error;
+use codec_base::{CodecError, ListOf, encode};
+use command_text::{Answer, OpList, ProofAnswer, Refusal};
+use std::alloc::Global;
+use std::num::NonZeroU64;
+use tree_proof::Proof;
+use tree_shape::{Location, Mmr, Sha256Digest};
+use volume_base::Volume;
+
+/// Why nothing is proved in the first `s` of a log of so many operations, as far as its size and its start tell.
+fn known_refusal(start: u64, size: u64, s: u64) -> Option<Refusal>
+    ensures { result ≡ known_refusal start size s }
+{
+    if s == 0 || s > size {
+        return Some(Refusal::RangeOutOfBounds(s));
+    }
+    if s - 1 < start {
+        return Some(Refusal::ItemPruned(s - 1));
+    }
+    None
+}
+
+/// Why operations from `a` on aren't proved in the first `s`, which a commit ends.
+fn late_refusal(start: u64, s: u64, a: u64) -> Option<Refusal>
+    ensures { result ≡ late_refusal start s a }
+{
+    if a >= s {
+        return Some(Refusal::RangeOutOfBounds(a));
+    }
+    if a < start {
+        return Some(Refusal::ItemPruned(a));
+    }
+    None
+}
+
+/// Whether an error says that no commit ends a size.
+fn says_no_commit(error: &Error<Mmr>) -> bool
+    ensures { result ≡ says_no_commit error.now }
+{
+    matches!(error, Error::HistoricalFloorPruned(_))
+}
+
+/// The encodings of operations, in their order.
+fn encoded(alloc: Global, operations: &[Operation]) -> Result<OpList, CodecError>
+    ensures list { IfOk result (λ list. list ≡ map meaning.encoding operations.now) }
+    ensures memory { IsOkUnless result CodecError.Memory }
+{
+    let mut list = ListOf::new(alloc);
+    for operation in operations {
+        list.push(encode(alloc, operation)?)?;
+    }
+    Ok(list)
+}
+
+/// The answer of a proof, with the location from which on it shows operations, and these.
+fn proof_answer(
+    proof: Proof<Mmr, Sha256Digest>,
+    start: u64,
+    operations: Vec<Operation>,
+) -> Result<Answer, Error<Mmr>>
+    ensures answer { IfOk result (λ made. made ≡
+        answer.Proof (record { proof = proof; start = start; operations = map meaning.encoding operations.items })) }
+    ensures memory { IsOkUnless result Error.Memory }
+{
+    match encoded(*operations.allocator(), &operations) {
+        Ok(operations) => Ok(Answer::Proof(ProofAnswer {
+            proof,
+            start,
+            operations,
+        })),
+        Err(_) => Err(Error::Memory),
+    }
+}
+
+impl Side<Full> {
+    /// The proof of the operations from `a` on, at most `n`, in the first `s` of the log, and these operations; nothing
+    /// where no commit ends the first `s`. Nothing else refuses it.
+    fn shown<V: Volume>(
+        &self,
+        volume: &mut V,
+        s: u64,
+        a: u64,
+        n: NonZeroU64,
+    ) -> Result<Option<(Proof<Mmr, Sha256Digest>, Vec<Operation>)>, Error<Mmr>>
+        requires known { known_refusal self.now.db.journal.items.start self.now.db.state.size s ≡ None }
+        requires late { late_refusal self.now.db.journal.items.start s a ≡ None }
+        ensures shown { IfOk result (λ found. V.tells → (c : Config) (state : State Operation) →
+            StandsGood full_kind c (present (V.state volume.old)) self.now.db self.now.numbers state →
+            option_map (λ made. (made.0, made.1.items)) found ≡ shown state.ops s a (non_zero_u64_get n)) }
+        ensures errors { IfErr result (λ e. V.tells → (c : Config) (state : State Operation) →
+            StandsGood full_kind c (present (V.state volume.old)) self.now.db self.now.numbers state → IsOutside e) }
+        ensures reads { Reads V.tells Error.Volume (V.state volume.old) (V.state volume.new) result }
+    {
+        match self
+            .db
+            .historical_proof(volume, Location::new(s), Location::new(a), n)
+        {
+            Ok(made) => Ok(Some(made)),
+            Err(error) => {
+                if says_no_commit(&error) {
+                    return Ok(None);
+                }
+                Err(error)
+            }
+        }
+    }
+
+    /// The answer to a proof that nothing refuses but that no commit ends the first `s`.
+    fn proved<V: Volume>(
+        &self,
+        volume: &mut V,
+        s: u64,
+        a: u64,
+        n: NonZeroU64,
+    ) -> Result<Answer, Error<Mmr>>
+        requires known { known_refusal self.now.db.journal.items.start self.now.db.state.size s ≡ None }
+        requires late { late_refusal self.now.db.journal.items.start s a ≡ None }
+        ensures ok { IfOk result (λ made. V.tells → (c : Config) (state : State Operation) →
+            StandsGood full_kind c (present (V.state volume.old)) self.now.db self.now.numbers state →
+            made ≡ (prove state s a (non_zero_u64_get n)).0) }
+        ensures errors { IfErr result (λ e. V.tells → (c : Config) (state : State Operation) →
+            StandsGood full_kind c (present (V.state volume.old)) self.now.db self.now.numbers state → IsOutside e) }
+        ensures reads { Reads V.tells Error.Volume (V.state volume.old) (V.state volume.new) result }
+    {
+        match self.shown(volume, s, a, n) {
+            Ok(Some((proof, operations))) => proof_answer(proof, a, operations),
+            Ok(None) => Ok(Answer::Refused(Refusal::HistoricalFloorPruned(s))),
+            Err(error) => Err(error),
+        }
+    }
+
+    /// The answer to a proof whose first operation is refused: that refusal, unless no commit ends the first `s`, which
+    /// a proof of the last of them tells.
+    fn refused_late<V: Volume>(
+        &self,
+        volume: &mut V,
+        s: u64,
+        refusal: Refusal,
+    ) -> Result<Answer, Error<Mmr>>
+        requires { known_refusal self.now.db.journal.items.start self.now.db.state.size s ≡ None }
+        ensures ok { IfOk result (λ made. V.tells → (c : Config) (state : State Operation) →
+            StandsGood full_kind c (present (V.state volume.old)) self.now.db self.now.numbers state →
+            (a count : ℕ) →
+            late_refusal self.now.db.journal.items.start s a ≡ Some refusal → made ≡ (prove state s a count).0) }
+        ensures errors { IfErr result (λ e. V.tells → (c : Config) (state : State Operation) →
+            StandsGood full_kind c (present (V.state volume.old)) self.now.db self.now.numbers state → IsOutside e) }
+        ensures reads { Reads V.tells Error.Volume (V.state volume.old) (V.state volume.new) result }
+    {
+        match self.shown(volume, s, s - 1, NonZeroU64::MIN) {
+            Ok(Some(_)) => Ok(Answer::Refused(refusal)),
+            Ok(None) => Ok(Answer::Refused(Refusal::HistoricalFloorPruned(s))),
+            Err(error) => Err(error),
+        }
+    }
+
+    /// The proof of the operations from `a` on, at most `n`, in the first `s` of the log, with their encodings. It
+    /// refuses, in this order: a size of 0 or past the end, one whose last operation isn't kept, one that no commit ends,
+    /// a location at or past the size, and one whose operation isn't kept.
+    pub fn prove<V: Volume>(
+        &self,
+        volume: &mut V,
+        s: u64,
+        a: u64,
+        n: NonZeroU64,
+    ) -> Result<Answer, Error<Mmr>>
+        ensures ok { IfOk result (λ made. V.tells → (c : Config) (state : State Operation) →
+            StandsGood full_kind c (present (V.state volume.old)) self.now.db self.now.numbers state →
+            made ≡ (prove state s a (non_zero_u64_get n)).0) }
+        ensures errors { IfErr result (λ e. V.tells → (c : Config) (state : State Operation) →
+            StandsGood full_kind c (present (V.state volume.old)) self.now.db self.now.numbers state → IsOutside e) }
+        // Over any contents, what the size and the start alone tell to be refused is refused before any read.
+        ensures known { let db = self.now.db in (why : Refusal) →
+            known_refusal db.journal.items.start db.state.size s ≡ Some why →
+            (result ≡ Ok (answer.Refused why)) × (volume.new ≡ volume.old) }
+        ensures reads { Reads V.tells Error.Volume (V.state volume.old) (V.state volume.new) result }
+    {
+        let (start, size) = self.db.bounds();
+        let (start, size) = (start.as_u64(), size.as_u64());
+        if let Some(refusal) = known_refusal(start, size, s) {
+            return Ok(Answer::Refused(refusal));
+        }
+        match late_refusal(start, s, a) {
+            None => self.proved(volume, s, a, n),
+            Some(refusal) => self.refused_late(volume, s, refusal),
+        }
+    }
+}
