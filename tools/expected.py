@@ -42,18 +42,22 @@ def appended_root(elements, inactive, forward):
 # ---- the cases of a script
 
 SCRIPT = Path(__file__).resolve().parent.parent / "crates" / "run_calls" / "stdin"
-NUMBER, BYTES = "(0|[1-9][0-9]*)", r"(\.|([0-9a-fA-F][0-9a-fA-F])+)"
-COMMAND = re.compile(f"new( {NUMBER})?|append {NUMBER} {BYTES}|seal {NUMBER} (-|{BYTES}) {NUMBER}"
-                     f"|(apply|hold|release) {NUMBER}|snapshot|size|metadata")
+NUMBER, COUNT, BYTES = "(0|[1-9][0-9]*)", "[1-9][0-9]*", r"(\.|([0-9a-fA-F][0-9a-fA-F])+)"
+COMMAND = re.compile(f"new( {NUMBER})?|append {NUMBER} {BYTES}|seal {NUMBER} (-|{BYTES}) {NUMBER}|(apply|hold|release|get|prune) {NUMBER}"
+                     f"|batch-get {NUMBER} {NUMBER}|(get-many|batch-get-many {NUMBER})( {NUMBER})*|proof {NUMBER} {NUMBER} {COUNT}"
+                     "|snapshot|size|metadata|commit|sync|start-sync")
 LOGS, MAP = ("log", "nodes", "witness"), "metadata"
-OPENING_CALLS = len(LOGS) + 1   # of the volume, of which the opening asks the bounds of each log, and the map
+CHECKS = len(LOGS) + 1          # calls of the volume by which a run asks whether it is fresh
+OPENING_CALLS = CHECKS + 16     # and those with which the database is opened on it
+LOG_BLOB, WITNESS_BLOB = 7, 3   # of the runs that aren't those of the program
 STATUSES = {0: "", 2: "twins: usage: twins [FOLDER] [--gen NUMBER COUNT]", 3: "twins: line {}: not a command", 4: "twins: cannot read input",
-            5: "twins: cannot write output", 6: "twins: volume failed", 10: "twins: volume is not fresh"}
+            5: "twins: cannot write output", 6: "twins: volume failed", 7: "twins: volume holds no valid state",
+            10: "twins: volume is not fresh"}
 
 
 def is_command(line):
     name, *words = line.split(" ")
-    numbers = words[0::2] if name == "seal" else words[:1]
+    numbers = words[0::2] if name == "seal" else words[:1] if name == "append" else words
     return COMMAND.fullmatch(line) is not None and all(int(word) < 2**64 for word in numbers)
 
 
@@ -80,11 +84,54 @@ def cases(text):
             yield kind, dict(zip(words[::2], words[1::2])), list(iter(lambda: next(lines), "end"))
 
 
-def fault(settings):
-    """What stops an opening, as a status."""
-    if 1 <= int(settings.get("call", 0)) <= OPENING_CALLS:
-        return 6
-    return 10 if settings.get("log") in LOGS or settings.get("map") == MAP else 0
+def commands(lines):
+    return [line for line in lines if line and line[0] != "#"]
+
+
+def machine_of(settings):
+    return Machine(int(settings["limit"]), int(settings.get("blob", LOG_BLOB)), WITNESS_BLOB)
+
+
+def calls_volume(machine, line, reply, start, size):
+    """Whether a command, answered so on a list of this start and size, has called the volume. A refusal is known without it, but
+    for that of a proof at a size that is kept. Of batches this tells only of those made on the list itself."""
+    name, *words = line.split(" ")
+    if name == "proof":
+        return start < int(words[0]) <= size
+    if reply.startswith("refused "):
+        return False
+    if name == "apply":
+        return size < len(machine.operations)
+    if name in ("batch-get", "batch-get-many"):
+        return any(int(word) < machine.batches[int(words[0])].base for word in words[1:])
+    return name in ("get", "commit", "sync", "start-sync", "prune") or name == "get-many" and words != []
+
+
+def stops(lines, machine):
+    """Where a run stops with each call of the volume failing in turn: after how many replies, and the bounds of the log then."""
+    found = [(0, 0, 0), (0, 0, 1)]
+    machine.opened()
+    for count, line in enumerate(commands(lines), 1):
+        start, size = machine.start, len(machine.operations)
+        if calls_volume(machine, line, machine.answer(line), start, size):
+            found += [(count, start, size), (count, machine.start, size)]
+    return list(dict.fromkeys(found))
+
+
+def ended(settings, lines, made):
+    """The replies of a run on a machine that is made so, and as a status what has stopped it, or 0. Of the calls behind the
+    opening only the first one may fail."""
+    call = int(settings.get("call", 0))
+    assert call <= OPENING_CALLS + 1
+    if 1 <= call <= OPENING_CALLS:
+        return "", 6
+    if settings.get("log") in LOGS or settings.get("map") == MAP:
+        return "", 10
+    replies = run(lines, made()).splitlines(keepends=True)
+    stopped = [count for count, _, _ in stops(lines, made()) if count]
+    if call and stopped:
+        return "".join(replies[: stopped[0]]), 6
+    return "".join(replies), 0
 
 
 def top_call(settings, lines):
@@ -95,20 +142,27 @@ def top_call(settings, lines):
         return "", 4, None
     if first_bad(lines):
         return "", 3, first_bad(lines)
-    if fault(settings):
-        return "", fault(settings), None
-    whole, room = run(lines), int(settings["room"])
-    if settings.get("write") == "1" or len(whole) > room:
-        return "" if settings.get("write") == "1" else whole[:room], 5, None
-    return whole, 5 if settings.get("write") == "2" else 0, None
+    whole, status = ended(settings, lines, Machine)
+    room = 0 if settings.get("write") == "1" else int(settings["room"])
+    return whole[:room], status or (5 if len(whole) > room or settings.get("write") == "2" else 0), None
+
+
+def failing(settings, lines):
+    """The run, and where it stops with each call of the volume failing in turn; then where it ends."""
+    machine = machine_of(settings)
+    replies = run(lines, machine)
+    table = [f"stopped Volume after {count} replies, log {start} to {end}\n" for count, start, end in stops(lines, machine_of(settings))]
+    return "".join([replies, *table, f"done, log {machine.start} to {len(machine.operations)}\n"])
 
 
 def answered(kind, settings, lines):
     if kind.startswith("#"):
         return kind + "\n"
     if kind == "run":
-        stopped = {6: "stopped Volume\n", 10: "stopped NotFresh\n"}
-        return stopped.get(fault(settings)) or run(lines, Machine(int(settings["limit"])))
+        replies, status = ended(settings, lines, lambda: machine_of(settings))
+        return replies + {0: "", 6: "stopped Volume\n", 10: "stopped NotFresh\n"}[status]
+    if kind == "failing":
+        return failing(settings, lines)
     if kind == "main":
         written, status, bad = top_call(settings, lines)
         return f"{written}/ status {status} {STATUSES[status].format(bad)}\n"
@@ -121,11 +175,11 @@ def script(text):
 
 
 def runs():
-    """The names, limits and commands of the runs on fresh volumes."""
+    """The names and commands of the runs on fresh volumes of which no call is set to fail."""
     name = ""
     for kind, settings, lines in cases(SCRIPT.read_text(encoding="utf-8")):
-        if kind == "run" and list(settings) == ["limit"]:
-            yield name, int(settings["limit"]), [line for line in lines if line and line[0] != "#"]
+        if kind in ("run", "failing") and not settings.keys() & {"log", "map", "call"}:
+            yield name, commands(lines)
         name = kind.removeprefix("# ")
 
 

@@ -1,5 +1,6 @@
 #!/usr/bin/env python3
-"""Lets each allocation of the program fail in turn, on each run of crates/run_calls/stdin at the program's own value limit.
+"""Lets each allocation of the program fail in turn, on each run of crates/run_calls/stdin at the program's own configuration;
+of a run that makes many, some all over it.
 
 usage: tools/fail_alloc.py PROGRAM
 
@@ -21,6 +22,7 @@ import expected
 NO_MEMORY = (8, b"twins: out of memory\n")
 DONE = (0, b"")
 FULL = "/dev/full"              # what takes nothing
+TRIED = 300                     # how many allocations of a run are made to fail, at most
 
 
 class Program:
@@ -60,15 +62,20 @@ def takes_memory(line, reply):
     return reply.startswith(b"sealed ") or line.startswith("append ") and reply.startswith(b"ok ") and not line.endswith(" .")
 
 
+def tried(count):
+    """The numbers of the allocations that are made to fail, of so many: the first, the last, and others between them."""
+    return range(1, count + 1) if count <= TRIED else [1 + at * (count - 1) // (TRIED - 1) for at in range(TRIED)]
+
+
 def faults_of(program, name, lines):
-    """How many allocations a run makes, how many of them weren't needed, and what was wrong."""
+    """How many allocations of a run were made to fail, how many of them weren't needed, and what was wrong."""
     text = input_of(lines)
     whole = expected.run(lines).encode()
     ending, output = program.run(text)
     if (ending, output) != (DONE, whole):
         return 0, 0, [f"{name}: not answered where no allocation fails"]
     count, spared, told, wrong = program.allocations(), 0, 0, []
-    for number in range(1, count + 1):
+    for number in tried(count):
         ending, output = program.run(text, number)
         if (ending, output) == (DONE, whole):
             spared += 1
@@ -80,7 +87,7 @@ def faults_of(program, name, lines):
             told = len(output)
     if told < told_at_last(lines, whole):
         wrong.append(f"{name}: where the last allocation fails, replies before it are not there")
-    return count, spared, wrong
+    return len(tried(count)), spared, wrong
 
 
 def faults_without_output(program, name, lines):
@@ -88,9 +95,9 @@ def faults_without_output(program, name, lines):
     text = input_of(lines)
     with open(FULL, "wb") as full:
         program.run(text, 0, full)
-        endings = [program.run(text, number, full)[0] for number in range(1, program.allocations() + 1)]
+        endings = [(number, program.run(text, number, full)[0]) for number in tried(program.allocations())]
     return [f"{name}: allocation {number}, and nothing can be written: {ending}"
-            for number, ending in enumerate(endings, 1) if ending != NO_MEMORY]
+            for number, ending in endings if ending != NO_MEMORY]
 
 
 def begun(words, usage):
@@ -118,7 +125,7 @@ def main(words):
         return ended
     with tempfile.TemporaryDirectory() as scratch:
         program = Program(words[0], library_in(scratch), f"{scratch}/told")
-        runs = [(name, lines) for name, _, lines in expected.runs()]
+        runs = list(expected.runs())
         results = [faults_of(program, name, lines) for name, lines in runs]
         unwritten = faults_without_output(program, *runs[1]) if os.path.exists(FULL) else []
     wrong = [line for _, _, lines in results for line in lines] + unwritten

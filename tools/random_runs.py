@@ -3,8 +3,9 @@
 
 usage: tools/random_runs.py PROGRAM [COUNT] [SEED]
 
-A script has up to sixty lines. The numbers in them are mostly of batches, sizes and floors that are there, so that most
-commands are done, and some are refused, for each reason that a short script can give.
+A script has up to sixty lines, and some begin with a batch that is longer than a blob of the program's log, so that a prune
+can move its start. The numbers in the lines are mostly of batches, sizes, locations and floors that are there, so that
+most commands are done, and some are refused, for each reason that a script can give.
 """
 import random
 import subprocess
@@ -13,9 +14,11 @@ import sys
 from machine import Machine, is_held, is_skipped, is_unsealed
 
 COUNT, LINES = 1000, 60
+LONG = range(60, 200)           # how many appends the batch has that is longer than a blob
 VALUES = [".", "61", "6263", "00" * 9, "aBcD"]
 # How often each line comes.
-WEIGHTS = {"new": 5, "append": 10, "seal": 6, "apply": 6, "hold": 1, "release": 2, "snapshot": 1, "size": 1, "metadata": 1}
+WEIGHTS = {"new": 5, "append": 10, "seal": 6, "apply": 6, "hold": 1, "release": 2, "snapshot": 1, "size": 1, "metadata": 1,
+           "get": 2, "get-many": 2, "batch-get": 2, "batch-get-many": 2, "proof": 4, "commit": 1, "sync": 1, "start-sync": 1, "prune": 3}
 
 
 class Script:
@@ -45,6 +48,45 @@ class Script:
         low, high = self.machine.floor_under(batch), batch.base + len(batch.pending)
         return self.chance.choice([low, low, high, self.chance.randint(min(low, high), max(low, high)), max(low - 1, 0), high + 1])
 
+    def place(self, *numbers):
+        """One of these numbers, or one up to the last of them, and now and then one beside them."""
+        near = self.chance.choice(numbers) + self.chance.choice([0, 0, 0, 0, -1, 1])
+        return max(self.chance.choice([near, near, self.chance.randint(0, numbers[-1])]), 0)
+
+    def location(self):
+        machine = self.machine
+        return self.place(machine.start, machine.floor(), len(machine.operations) - 1)
+
+    def locations(self, one):
+        """Several locations, mostly rising."""
+        found = [one() for _ in range(self.chance.randint(0, 4))]
+        return found if self.chance.random() < 0.2 else sorted(set(found))
+
+    def in_batch(self, b):
+        """A location of a batch."""
+        if b >= len(self.machine.batches):
+            return 0
+        batch = self.machine.batches[b]
+        floor = self.machine.floor_under(batch) if is_unsealed(batch) else batch.floor
+        return self.place(floor, batch.base, len(batch.whole) + len(batch.pending) - 1)
+
+    def proof(self):
+        size = self.chance.choice(self.machine.sizes[-4:] + [self.place(*self.machine.sizes)])
+        start = self.place(self.machine.start, max(size - 3, 0), max(size - 1, 0))
+        return f"proof {size} {start} {self.chance.choice([1, 1, 2, 5, 2**64 - 1])}"
+
+    def reading(self, name, b):
+        """A line of this name that reads, proves or prunes."""
+        if name == "get":
+            return f"get {self.location()}"
+        if name == "get-many":
+            return " ".join(["get-many", *map(str, self.locations(self.location))])
+        if name == "batch-get":
+            return f"batch-get {b} {self.in_batch(b)}"
+        if name == "batch-get-many":
+            return " ".join(["batch-get-many", str(b), *map(str, self.locations(lambda: self.in_batch(b)))])
+        return self.proof() if name == "proof" else f"prune {self.place(0, self.machine.floor(), self.machine.floor())}"
+
     def line(self):
         name = self.chance.choices(list(WEIGHTS), WEIGHTS.values())[0]
         unsealed, held = self.batches(is_unsealed), self.batches(is_held)
@@ -58,13 +100,21 @@ class Script:
         if name == "seal":
             b = self.number(unsealed)
             return f"seal {b} {self.value('-', '-', '-')} {self.floor(b)}"
+        if name in ("get", "get-many", "batch-get", "batch-get-many", "proof", "prune"):
+            return self.reading(name, self.number(sorted(held + unsealed)))
         return f"{name} {self.number(asked[name])}" if name in asked else name
+
+    def long_batch(self):
+        """The lines of a batch that is longer than a blob, with a floor within it."""
+        count = self.chance.choice(LONG)
+        return ["new", *[f"append 0 {self.value()}" for _ in range(count)], f"seal 0 - {self.chance.randint(0, count + 1)}", "apply 0"]
 
     def replies(self):
         """Chooses the lines, and gives the replies to them."""
         out = [self.machine.opened()]
-        for _ in range(self.chance.randint(1, LINES)):
-            line = self.chance.choices(["", "# nothing", self.line()], [1, 1, 60])[0]
+        first = self.long_batch() if self.chance.random() < 0.3 else []
+        for at in range(len(first) + self.chance.randint(1, LINES)):
+            line = first[at] if at < len(first) else self.chance.choices(["", "# nothing", self.line()], [1, 1, 60])[0]
             self.lines.append(line)
             if not is_skipped(line):
                 out.append(self.machine.answer(line))

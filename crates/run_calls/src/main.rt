@@ -1,10 +1,13 @@
-//! Makes the runs of a script, and prints what each answers. A case is a line with its kind and settings, each a name and a value,
-//! behind it the lines of its input, and then the line `end`. Between cases a line that begins with `#` is printed as it is.
-//! A `run` is that of commands under a `limit` of values, and ends with the fault that stopped it; a `main` is the top call,
-//! and ends with its status. Of `lines` each is an input of its own, and so of `hex`, where each is told by its bytes.
+//! Makes the runs of a script, and prints what each answers. A case is a line with its kind and settings, each a name
+//! and a value, behind it the lines of its input, and then the line `end`. Between cases a line that begins with `#`
+//! is printed as it is. A `run` is that of commands under a `limit` of values, and ends with the fault that stopped
+//! it; of `failing`, the run is made again with each call of the volume failing in turn; a `main` is the top call,
+//! and ends with its status. Of `lines` each is an input of its own, and so of `hex`, where each is told by its
+//! bytes.
 #![tactic(auto)]
 
 mod error;
+mod failing;
 mod inputs;
 mod settings;
 mod top_call;
@@ -12,6 +15,7 @@ mod volume;
 mod whole_run;
 
 use crate::error::ScriptError;
+use crate::failing::print_failing;
 use crate::inputs::{print_hex, print_lines};
 use crate::settings::kind;
 use crate::top_call::print_main;
@@ -22,6 +26,7 @@ use std::alloc::Global;
 fn print_case(rt: &impl Print, alloc: Global, head: &str, input: &str) -> Result<(), ScriptError> {
     match kind(head) {
         "run" => print_run(rt, alloc, head, input),
+        "failing" => print_failing(rt, alloc, head, input),
         "main" => print_main(rt, alloc, head, input),
         "lines" => print_lines(rt, alloc, input),
         "hex" => print_hex(rt, alloc, input),

@@ -3,26 +3,38 @@ use crate::error::ScriptError;
 use crate::settings::number;
 use crate::volume::volume_of;
 use command_text::{Replies, parse_commands, write_replies};
+use memory_volume::MemoryVolume;
 use std::alloc::Global;
 use std::str;
 use stream_base::MemorySink;
 use twin_run::{Stopped, TwinConfig, run_twins};
 
-/// What the commands answer.
-fn run(alloc: Global, head: &str, input: &str) -> Result<Result<Replies, Stopped>, ScriptError> {
+/// The name of the log of operations.
+pub(crate) const LOG: &str = "log";
+
+/// What the commands answer on a volume. The log of operations has blobs of 7, where `blob` doesn't say another number.
+pub(crate) fn answers(
+    alloc: Global,
+    head: &str,
+    input: &str,
+    volume: &mut MemoryVolume,
+) -> Result<Result<Replies, Stopped>, ScriptError> {
     let limit = number(head, "limit");
-    let (log, nodes, map, witness) = ("log", "nodes", "metadata", "witness");
-    let config = TwinConfig::new(alloc, log, nodes, map, witness, 7, 11, 3, 4, limit)?;
+    let blob = match number(head, "blob") {
+        0 => 7,
+        blob => blob,
+    };
+    let (log, nodes, map, witness) = (LOG, "nodes", "metadata", "witness");
+    let config = TwinConfig::new(alloc, log, nodes, map, witness, blob, 11, 3, 4, limit)?;
     let commands = parse_commands(alloc, input.as_bytes())?;
-    let mut volume = volume_of(alloc, head)?;
-    Ok(run_twins(alloc, &config, &mut volume, &commands))
+    Ok(run_twins(alloc, &config, volume, &commands))
 }
 
-fn print_replies(rt: &impl Print, alloc: Global, replies: &Replies) -> Result<(), ScriptError> {
-    let mut output = MemorySink::new(alloc, 65536)?;
+/// The text of replies.
+pub(crate) fn text_of(alloc: Global, replies: &Replies) -> Result<String, ScriptError> {
+    let mut output = MemorySink::new(alloc, 262144)?;
     write_replies(replies, &mut output)?;
-    print!(rt; "{}", str::from_utf8(output.written())?)?;
-    Ok(())
+    Ok(String::from_str(alloc, str::from_utf8(output.written())?)?)
 }
 
 /// Prints the replies, and the fault that stopped the run.
@@ -32,12 +44,13 @@ pub(crate) fn print_run(
     head: &str,
     input: &str,
 ) -> Result<(), ScriptError> {
-    match run(alloc, head, input)? {
-        Ok(replies) => print_replies(rt, alloc, &replies),
+    let mut volume = volume_of(alloc, head)?;
+    match answers(alloc, head, input, &mut volume)? {
+        Ok(replies) => print!(rt; "{}", text_of(alloc, &replies)?)?,
         Err(stopped) => {
-            print_replies(rt, alloc, &stopped.replies)?;
+            print!(rt; "{}", text_of(alloc, &stopped.replies)?)?;
             println!(rt; "stopped {:?}", stopped.fault)?;
-            Ok(())
         }
     }
+    Ok(())
 }

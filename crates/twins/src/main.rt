@@ -1,4 +1,4 @@
-//! Runs commands over one list in memory, which stands for both forms of the log, and writes the replies.
+//! Runs commands over a database on a fresh volume in memory, and a list beside it, and writes the replies.
 #![tactic(auto)]
 
 use host_edge::{StdSink, StdSource};
