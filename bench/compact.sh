@@ -1,8 +1,9 @@
 #!/bin/sh
 # Applies batches of one value to compact databases in memory, each committed, and serves their states. Prints, at growing numbers
 # of kept witnesses, how many calls of the volume a served state takes, and the processor time in microseconds of a served state
-# and of an apply with its commit, with their ratios to those at the fewest: the second follows that of the calls, the third stays
-# near 1. Of 200000 batches, in as many databases as they fill, and of 100000 served states, one after another in one database,
+# and of an apply with its commit, with their ratios to those at the fewest: the second follows that of the calls, the third that
+# of a batch's hash calls, 1, 1.5 and 2.0: of its leaves, their parents, the peaks and the root there are 6.5, 9.9 and 13.2 on
+# average. Of 200000 batches, in as many databases as they fill, and of 100000 served states, one after another in one database,
 # with the opening and the batches taken off, the best of five rounds counts. A look-up is the search alone (stores.sh).
 set -eu
 top=$(cd -- "$(dirname -- "$0")/.." && pwd -P)
