@@ -1,7 +1,7 @@
 -- A journal that is being opened.
-use Rattle.std.proofs.Common.{◌≡◌, ◌≢◌, ◌⊎◌, ⊎_elim, inl, inr, ℕ, zero, suc, ◌+◌, ◌-◌, ◌<◌, ◌≤◌, max, min, List, [], ◌∷◌, length, map, take, Ok, Err, refl, sym, ◌∙◌, ap, subst, arith}
+use Rattle.std.proofs.Common.{◌≡◌, ◌≢◌, ◌⊎◌, ⊎_elim, inl, inr, ℕ, zero, suc, ◌+◌, ◌-◌, ◌<◌, ◌≤◌, max, min, List, [], ◌∷◌, ◌++◌, length, map, take, Ok, Err, refl, sym, ◌∙◌, ap, subst, arith}
 use Rattle.std.specs.List.{enumerate_from, take-map}
-use Rattle.std.proofs.lemmas.List.{take_all, length-take}
+use Rattle.std.proofs.lemmas.List.{take_all, take-append-le, length-take}
 use Rattle.tree_shape.specs.Hashing.{Hashing}
 use Rattle.tree_shape.specs.Shape.{Shape}
 use Rattle.tree_shape.specs.Slow.{leaf, leaf_digests}
@@ -45,6 +45,12 @@ from_take {D = D} f (suc n) k (x ∷ xs) = ap (λ (r : List D). f (k, x) ∷ r) 
 
 pub leaves_take : {D Item : Type 0} (s : Shape) (h : Hashing D) (spelling : Item → List ℕ) (n : ℕ) (list : List Item) → take n (leaves_of s h spelling list) ≡ leaves_of s h spelling (take n list)
 leaves_take s h spelling n list = from_take (λ p. leaf s h p.0 p.1) n 0 (map spelling list) ∙ ap (leaf_digests s h) (take-map spelling n list)
+
+-- the first leaves are not changed by items behind the list
+pub leaves_ahead : {D Item : Type 0} (s : Shape) (h : Hashing D) (spelling : Item → List ℕ) (n : ℕ) (list rest : List Item) → n ≤ length list
+    → take n (leaves_of s h spelling (list ++ rest)) ≡ take n (leaves_of s h spelling list)
+leaves_ahead s h spelling n list rest low =
+    leaves_take s h spelling n (list ++ rest) ∙ ap (leaves_of s h spelling) (take-append-le n list rest low) ∙ sym (leaves_take s h spelling n list)
 
 pub take_twice : {X : Type 0} (n m : ℕ) (xs : List X) → n ≤ m → take n (take m xs) ≡ take n xs
 take_twice zero m xs low = refl

@@ -6,7 +6,7 @@ use tree_core::{Family, Hasher};
 use volume_base::Volume;
 
 impl<F: Family, C: Backing, H: Hasher> Recovery<F, C, H> {
-    ghost use Rattle.std.specs.Prelude.{◌≡◌, ◌≤◌, ◌^◌, ℕ, List, length, max, take, IfOk, IfErr, OnOk};
+    ghost use Rattle.std.specs.Prelude.{◌≡◌, ◌≤◌, ◌^◌, ◌++◌, ℕ, List, length, max, take, IfOk, IfErr, OnOk};
     ghost use Rattle.journal_base.specs.Blobs.{blob_start};
     ghost use Rattle.journal_base.specs.Items.{items_of, Spells};
     ghost use Rattle.journal_base.specs.View.{log_of, IsHeld, IsDurable};
@@ -51,14 +51,16 @@ impl<F: Family, C: Backing, H: Hasher> Recovery<F, C, H> {
         ensures nodes { let log = (V.state vol.old).log self.tree.log.name in
             let point = blob_start self.tree.log.blob (size F.shape self.tree.boundary) in
             IfOk result (λ t. V.tells → IsReadyIn self (V.state vol.old) → t.tree.log.start ≡ max log.start point) }
-        // For each list that they stood for, it is the journal of its first items.
+        // For each list that the log stood for, and the tree with perhaps more items behind it, it is the journal of
+        // the list's first items.
         ensures joined { let admits = H.Digest.Read.admits tt in
-            IfOk result (λ t. V.tells → (list : List C.Item) (durable top : ℕ) → IsReadyIn self (V.state vol.old) →
-            Spells C.Item.spelling list (log_of self.items (V.state vol.old)) → length list ≤ 2 ^ 62 →
-            TreeStands F.shape H.hash H.Digest.spelling (leaves_of F.shape H.hash C.Item.spelling list) durable top
-            ((V.state vol.old).log self.tree.log.name) self.tree.read →
+            IfOk result (λ t. V.tells → (list rest : List C.Item) (durable top : ℕ) →
+            IsReadyIn self (V.state vol.old) →
+            Spells C.Item.spelling list (log_of self.items (V.state vol.old)) → length (list ++ rest) ≤ 2 ^ 62 →
+            TreeStands F.shape H.hash H.Digest.spelling (leaves_of F.shape H.hash C.Item.spelling (list ++ rest))
+            durable top ((V.state vol.old).log self.tree.log.name) self.tree.read →
             IsOf F.shape H.hash
-            (leaves_of F.shape H.hash C.Item.spelling (take self.tree.tree.leaves list)) self.tree.tree →
+            (leaves_of F.shape H.hash C.Item.spelling (take self.tree.tree.leaves (list ++ rest))) self.tree.tree →
             IsJoinedOf F.shape H.hash H.Digest.spelling admits C.Item.spelling
             (take self.end list) t (present (V.state vol.new))) }
         ensures durable { OnOk result (V.tells →

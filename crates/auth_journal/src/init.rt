@@ -8,7 +8,7 @@ use tree_core::{Bagging, Family, Hasher};
 use volume_base::Volume;
 
 impl<F: Family, C: Backing, H: Hasher> Journal<F, C, H> {
-    ghost use Rattle.std.specs.Prelude.{◌≡◌, ◌≢◌, ◌≤◌, ◌^◌, ℕ, List, length, max, take, false, Option, Some, None, Ok, unwrap_or, string_bytes, IfOk, IfErr, OnOk};
+    ghost use Rattle.std.specs.Prelude.{◌≡◌, ◌≢◌, ◌≤◌, ◌^◌, ◌++◌, ℕ, List, length, max, take, false, Option, Some, None, Ok, unwrap_or, string_bytes, IfOk, IfErr, OnOk};
     ghost use Rattle.std.specs.Fn.{FnReturnsAt};
     ghost use Rattle.std.specs.NonZero.{non_zero_u64_get};
     ghost use Rattle.journal_base.specs.Blobs.{blob_start};
@@ -72,12 +72,14 @@ impl<F: Family, C: Backing, H: Hasher> Journal<F, C, H> {
             IfOk result (λ t. V.tells → (stored : Option ℕ) → stored_in {F = F} map ≡ Ok stored →
             let point = blob_start blob (size F.shape (unwrap_or stored 0)) in
             t.tree.log.start ≡ max (log_kept stored log).start point) }
-        // For each list that the contents stood for, it is the journal of its first items.
+        // For each list that the log stood for, and the tree with perhaps more items behind it, it is the journal of
+        // the list's first items.
         ensures joined { let map = (V.state vol.old).map (string_bytes merkle_cfg.metadata) in
             let log = (V.state vol.old).log (string_bytes merkle_cfg.nodes) in
-            IfOk result (λ t. V.tells → (list : List C.Item) (durable top : ℕ) →
-            Spells C.Item.spelling list (log_of (C.config journal_cfg) (V.state vol.old)) → length list ≤ 2 ^ 62 →
-            TreeStands F.shape H.hash H.Digest.spelling (leaves_of F.shape H.hash C.Item.spelling list)
+            IfOk result (λ t. V.tells → (list rest : List C.Item) (durable top : ℕ) →
+            Spells C.Item.spelling list (log_of (C.config journal_cfg) (V.state vol.old)) →
+            length (list ++ rest) ≤ 2 ^ 62 →
+            TreeStands F.shape H.hash H.Digest.spelling (leaves_of F.shape H.hash C.Item.spelling (list ++ rest))
             durable top log map →
             IsJoinedOf F.shape H.hash H.Digest.spelling (H.Digest.Read.admits tt) C.Item.spelling
             (take t.items.end list) t (present (V.state vol.new))) }
@@ -177,12 +179,14 @@ impl<F: Family, C: Backing, H: Hasher> Journal<F, C, H> {
             IfOk result (λ t. V.tells → (stored : Option ℕ) → stored_in {F = F} map ≡ Ok stored →
             let point = blob_start blob (size F.shape (unwrap_or stored 0)) in
             t.tree.log.start ≡ max (log_kept stored log).start point) }
-        // For each list that the contents stood for, it is the journal of its first items.
+        // For each list that the log stood for, and the tree with perhaps more items behind it, it is the journal of
+        // the list's first items.
         ensures joined { let map = (V.state vol.old).map (string_bytes merkle_cfg.metadata) in
             let log = (V.state vol.old).log (string_bytes merkle_cfg.nodes) in
-            IfOk result (λ t. V.tells → (list : List C.Item) (durable top : ℕ) →
-            Spells C.Item.spelling list (log_of (C.config journal_cfg) (V.state vol.old)) → length list ≤ 2 ^ 62 →
-            TreeStands F.shape H.hash H.Digest.spelling (leaves_of F.shape H.hash C.Item.spelling list)
+            IfOk result (λ t. V.tells → (list rest : List C.Item) (durable top : ℕ) →
+            Spells C.Item.spelling list (log_of (C.config journal_cfg) (V.state vol.old)) →
+            length (list ++ rest) ≤ 2 ^ 62 →
+            TreeStands F.shape H.hash H.Digest.spelling (leaves_of F.shape H.hash C.Item.spelling (list ++ rest))
             durable top log map →
             IsJoinedOf F.shape H.hash H.Digest.spelling (H.Digest.Read.admits tt) C.Item.spelling
             (take t.items.end list) t (present (V.state vol.new))) }
@@ -281,12 +285,14 @@ impl<F: Family, C: Backing, H: Hasher> Journal<F, C, H> {
             IfOk result (λ t. V.tells → (stored : Option ℕ) → stored_in {F = F} map ≡ Ok stored →
             let point = blob_start blob (size F.shape (unwrap_or stored 0)) in
             t.tree.log.start ≡ max (log_kept stored log).start point) }
-        // For each list that the contents stood for, it is the journal of its first items.
+        // For each list that the log stood for, and the tree with perhaps more items behind it, it is the journal of
+        // the list's first items.
         ensures joined { let map = (V.state vol.old).map (string_bytes merkle_cfg.metadata) in
             let log = (V.state vol.old).log (string_bytes merkle_cfg.nodes) in
-            IfOk result (λ t. V.tells → (list : List C.Item) (durable top : ℕ) →
-            Spells C.Item.spelling list (log_of (C.config journal_cfg) (V.state vol.old)) → length list ≤ 2 ^ 62 →
-            TreeStands F.shape H.hash H.Digest.spelling (leaves_of F.shape H.hash C.Item.spelling list)
+            IfOk result (λ t. V.tells → (list rest : List C.Item) (durable top : ℕ) →
+            Spells C.Item.spelling list (log_of (C.config journal_cfg) (V.state vol.old)) →
+            length (list ++ rest) ≤ 2 ^ 62 →
+            TreeStands F.shape H.hash H.Digest.spelling (leaves_of F.shape H.hash C.Item.spelling (list ++ rest))
             durable top log map →
             IsJoinedOf F.shape H.hash H.Digest.spelling (H.Digest.Read.admits tt) C.Item.spelling
             (take t.items.end list) t (present (V.state vol.new))) }

@@ -44,7 +44,7 @@ use Rattle.chain_core.specs.declared.error.Error.TheVariants.{Merkle, Journal, D
 use Rattle.chain_core.specs.declared.error.DataFault.TheVariants.{NotACommit}
 use Rattle.keyless_db.specs.DbView.{DbView, IsHeldFor}
 use Rattle.keyless_db.specs.Errors.{from_joined}
-use Rattle.keyless_db.specs.Opening.{EndsHere, IsHeldFrom, IsInitOf, IsOfOpening, IsSaidCommit, IsUnbegun, NotBuilt, NotInit, NotListed}
+use Rattle.keyless_db.specs.Opening.{EndsHere, IsBuiltAt, IsHeldFrom, IsInitOf, IsOfOpening, IsSaidCommit, IsUnbegun, NotBuilt, NotInit, NotListed}
 use Rattle.keyless_db.proofs.ProofLemmas.{floor_at}
 use Rattle.keyless_db.proofs.SealLemmas.{leaves_are}
 use Rattle.keyless_db.proofs.SeveralLemmas.{taken_all}
@@ -304,6 +304,11 @@ ends_here m items later cap end is found some =
         })
     by (inr (inl none)) = let zero = none.0 in absurd (omega (arith, zero, some))
     by (inr (inr empty)) = inr (empty.1 ∙ sym empty.2)
+
+-- a database that is built has an operation
+pub built_some : {F D Op Cfg : Type 0} (first : Op) (end : ℕ) (db : DbView F D Op Cfg) → IsBuiltAt first end db → 0 < db.state.size
+built_some first end db (inl past) = let some = past.0 in let is = past.1 in omega (arith, some, is)
+built_some first end db (inr begun) = let is = begun.1 in omega (arith, is)
 
 -- a first commit's database is always built
 pub first_never : {F : Type 0} (floor : Option ℕ) (at : ℕ) (e : Error F) → floor ≡ Some at → ((2 ^ 62 < 1) × (e ≡ Merkle (LocationOverflow 1))) ⊎ ((floor ≡ None) × (e ≡ DataCorrupted NotACommit)) → IsOutside e

@@ -36,7 +36,7 @@ fn check_bound<F: Family>(bound: &Option<Location<F>>) -> Result<(), Error<F>>
 }
 
 impl<F: Family, O: KeylessOperation, C: Backing<Item = O>, H: Hasher> Keyless<F, O, C, H> {
-    ghost use Rattle.std.specs.Prelude.{◌≢◌, ◌⊎◌, ◌<◌, ◌≤◌, ◌^◌, ◌+◌, ◌-◌, ◌∷◌, [], ℕ, List, length, None, Err, false, string_bytes, slice_get, IfOk, IfErr};
+    ghost use Rattle.std.specs.Prelude.{◌≢◌, ◌⊎◌, ◌<◌, ◌≤◌, ◌^◌, ◌+◌, ◌-◌, ◌∷◌, ◌++◌, [], ℕ, List, length, None, Err, false, string_bytes, slice_get, IfOk, IfErr};
     ghost use Rattle.std.specs.List.{AllByRecursion};
     ghost use Rattle.std.specs.NonZero.{non_zero_u64_get};
     ghost use Rattle.journal_base.specs.Items.{items_of, Spells};
@@ -76,13 +76,14 @@ impl<F: Family, O: KeylessOperation, C: Backing<Item = O>, H: Hasher> Keyless<F,
         ensures joined { IfOk result (λ t. names_of t ≡ two_logs_and_map (C.config cfg.log).name
             (string_bytes cfg.merkle.nodes) (string_bytes cfg.merkle.metadata)) }
         ensures blob { IfOk result (λ t. t.tree.log.blob ≡ non_zero_u64_get cfg.merkle.items_per_blob) }
-        // For each list that the contents stood for, it is the journal of its first operations.
+        // For each list that the log stood for, and the tree with perhaps more operations behind it, it is the journal
+        // of the list's first operations.
         ensures listed { let old = V.state vol.old in let log = log_of (C.config cfg.log) old in
             let nodes = old.log (string_bytes cfg.merkle.nodes) in let map = old.map
             (string_bytes cfg.merkle.metadata) in
-            IfOk result (λ t. V.tells → (list : List O) (durable : ℕ) → Spells O.spelling list log →
-            length list ≤ 2 ^ 62 → TreeStands F.shape H.hash H.Digest.spelling
-            (leaves_of F.shape H.hash O.spelling list) durable log.start nodes map →
+            IfOk result (λ t. V.tells → (list rest : List O) (durable : ℕ) → Spells O.spelling list log →
+            length (list ++ rest) ≤ 2 ^ 62 → TreeStands F.shape H.hash H.Digest.spelling
+            (leaves_of F.shape H.hash O.spelling (list ++ rest)) durable log.start nodes map →
             IsOpenedOf F.shape H.hash H.Digest.spelling (H.Digest.Read.admits tt) O.spelling list t
             (present (V.state vol.new))) }
         ensures names { let names = two_logs_and_map (C.config cfg.log).name (string_bytes cfg.merkle.nodes)
@@ -298,13 +299,15 @@ impl<F: Family, O: KeylessOperation, C: Backing<Item = O>, H: Hasher> Keyless<F,
             (old.log (string_bytes cfg.merkle.nodes)) items O.meaning max_size) }
         // So it is whatever the volume tells.
         ensures errors { max_size ≢ Some 0 → IfErr result IsOfOpening }
-        // Where the contents stand for a list, the first commit is put, but for the outside.
+        // Where the log stands for a list, and the tree with perhaps more operations behind it, the first commit is
+        // put, but for the outside.
         ensures listed { let old = V.state vol.old in let view = C.config cfg.log in
             let nodes = old.log (string_bytes cfg.merkle.nodes) in let map = old.map
             (string_bytes cfg.merkle.metadata) in
-            V.tells → max_size ≢ Some 0 → (list : List O) (durable : ℕ) → Spells O.spelling list (log_of view old) →
-            length list ≤ 2 ^ 62 → TreeStands F.shape H.hash H.Digest.spelling
-            (leaves_of F.shape H.hash O.spelling list) durable (log_of view old).start nodes map →
+            V.tells → max_size ≢ Some 0 → (list rest : List O) (durable : ℕ) →
+            Spells O.spelling list (log_of view old) →
+            length (list ++ rest) ≤ 2 ^ 62 → TreeStands F.shape H.hash H.Digest.spelling
+            (leaves_of F.shape H.hash O.spelling (list ++ rest)) durable (log_of view old).start nodes map →
             IfErr result (NotListed V.tells H.Digest.spelling (H.Digest.Read.admits tt) F.shape map nodes
             (items_of O.spelling O.admits view old) O.meaning max_size) }
         ensures named { IfOk result
@@ -316,14 +319,17 @@ impl<F: Family, O: KeylessOperation, C: Backing<Item = O>, H: Hasher> Keyless<F,
             IfOk result (λ d. V.tells → (end : ℕ) × EndsAt items (IsSaidCommit O.meaning) max_size end
             × IsBuiltAt first end d
             × GoesOn (O.spelling first) end (cut_to items.log end) (log_of view (V.state vol.new))) }
-        // For each list that the contents stood for, whose operations may be such, it is held for the list up to a
-        // commit.
+        // Whatever the volume tells, it has an operation.
+        ensures some { IfOk result (λ d. 0 < d.state.size) }
+        // For each list that the log stood for, and the tree with perhaps more operations behind it, it is held for the
+        // list up to a commit, where its operations may be such.
         ensures held { let old = V.state vol.old in let view = C.config cfg.log in
             let nodes = old.log (string_bytes cfg.merkle.nodes) in let map = old.map
             (string_bytes cfg.merkle.metadata) in
-            IfOk result (λ d. V.tells → (list : List O) (durable : ℕ) → Spells O.spelling list (log_of view old) →
-            length list ≤ 2 ^ 62 → TreeStands F.shape H.hash H.Digest.spelling
-            (leaves_of F.shape H.hash O.spelling list) durable (log_of view old).start nodes map →
+            IfOk result (λ d. V.tells → (list rest : List O) (durable : ℕ) →
+            Spells O.spelling list (log_of view old) →
+            length (list ++ rest) ≤ 2 ^ 62 → TreeStands F.shape H.hash H.Digest.spelling
+            (leaves_of F.shape H.hash O.spelling (list ++ rest)) durable (log_of view old).start nodes map →
             AllByRecursion (O.admits view.codec) list →
             IsInitOf F.shape H.hash O.meaning H.Digest.spelling (H.Digest.Read.admits tt) O.spelling
             (items_of O.spelling O.admits view old) max_size list d (present (V.state vol.new))) }

@@ -1,4 +1,4 @@
-use Rattle.std.proofs.Common.{◌≡◌, ◌≤◌, inl, inr, ℕ, List, Option, Ok, Some, max, take, refl, sym, ◌∙◌, ap, subst, arith}
+use Rattle.std.proofs.Common.{◌≡◌, ◌≤◌, ◌^◌, ◌++◌, [], inl, inr, ℕ, List, Option, Ok, Some, length, max, take, refl, sym, ◌∙◌, ap, subst, arith}
 use Rattle.std.specs.Fn.{FnReturnsAt}
 use Rattle.std.specs.Prelude.{string_bytes, unwrap_or}
 use Rattle.volume_base.specs.Log.{Log, cut_to, Shrinks}
@@ -26,6 +26,7 @@ use Rattle.auth_journal.specs.Searching.{EndsAt}
 use Rattle.auth_journal.specs.Standing.{NamesStand, NamesKeepStanding}
 use Rattle.auth_journal.specs.declared.error.Error.TheVariants as joined
 use Rattle.auth_journal.proofs.AlignLemmas.{changes_same}
+use Rattle.auth_journal.proofs.ListLemmas.{append-nothing}
 use Rattle.auth_journal.proofs.OpeningLemmas.{seen_items, keeps_behind}
 use Rattle.auth_journal.proofs.SettledLemmas.{opened_settled, renamed_settles}
 use Rattle.auth_journal.specs.Errors.{IsLifted}
@@ -215,7 +216,7 @@ returns-clause-nodes g c told stored is =
     ∙ ap (λ (b : ℕ). max kept.start (blob_start blob (size s b))) at
 
 pub returns-clause-joined : goal.returns-clause-joined
-returns-clause-joined g c told list durable top run long stands =
+returns-clause-joined g c told list rest durable top run long stands =
     let tells = g.V.Volume.tells in
     let s = g.F.Family.shape in
     let h = g.H.Hasher.hash in
@@ -240,14 +241,15 @@ returns-clause-joined g c told list durable top run long stands =
     let within = did.within told in
     let end : t.items.end ≡ r.end = (did_finish.reached told within).0 in
     let same : s1.log first.name ≡ s0.log first.name = (did.log told).others.logs first.name c.requires.apart in
-    let Q = TreeStands s h digest (leaves_of s h spelling list) durable top in
-    let clock = did.still told (λ stored is. kept_standing s h digest (leaves_of s h spelling list) durable top (s0.log nodes) (s0.map metadata) stored stands is) in
+    let all = leaves_of s h spelling (list ++ rest) in
+    let Q = TreeStands s h digest all durable top in
+    let clock = did.still told (λ stored is. kept_standing s h digest all durable top (s0.log nodes) (s0.map metadata) stored stands is) in
     let still = did.changes.still told clock in
     let log = ap s1.log did.named.1.nodes_is ∙ still.logs nodes in
     let map_is = sym within.tree.read ∙ ap s1.map did.named.1.metadata_is ∙ still.maps metadata in
     let now = subst (λ (l : Log). Q l r.tree.read) (sym log) (subst (λ (m : Map). Q (s0.log nodes) m) (sym map_is) stands) in
     let here = subst (λ (l : Log). Spells spelling list l) (sym (ap s1.log name ∙ same)) run in
-    let whole = did_finish.joined told list durable top within here long now (did.list told list durable top stands) in
+    let whole = did_finish.joined told list rest durable top within here long now (did.list told (list ++ rest) durable top stands) in
     subst (λ n. IsJoinedOf s h digest admitted spelling (take n list) t (present s2)) (sym end) whole
 
 pub returns-clause-durable : goal.returns-clause-durable
@@ -604,7 +606,10 @@ returns-clause-settled g c told list marks low run long has =
     let stands = (has (present s0) (names_of_image names s0 s0.clock (present s0) (g.met.V.Volume.contents_left c.args.vol.now told))).tree in
     let here = now_after (NamesLeft names) (NamesStand s h digest spelling list marks first.name nodes metadata) s0 s2 (returns-clause-images g c told list marks low run long has) in
     let t = c.in_ok-opened.opened in
-    let joined = returns-clause-joined g c told list marks.node_durable (s0.log first.name).start run long stands in
+    let same : list ≡ list ++ [] = sym (append-nothing list) in
+    let start = (s0.log first.name).start in
+    let joined = returns-clause-joined g c told list [] marks.node_durable start run (subst (λ (l : List g.row.C-Item.Denot). length l ≤ 2 ^ 62) same long)
+    (subst (λ (l : List g.row.C-Item.Denot). TreeStands s h digest (leaves_of s h spelling l) marks.node_durable start (s0.log nodes) (s0.map metadata)) same stands) in
     let durable = returns-clause-durable g c told in
     let whole = opened_settled s h digest (g.H.Digest.Read.admits tt) spelling list marks t s2 g.met.F.Family.lawful (c.in_ok-opened.ensures {u = tt}).rests (returns-clause-whole g c) joined durable.0 durable.1 in
     let is = returns-clause-tree_named g c in

@@ -1,4 +1,4 @@
-use Rattle.std.proofs.Common.{◌≡◌, ◌≢◌, ◌≤◌, ◌^◌, ◌++◌, inl, ℕ, List, Ok, Err, max, take, drop, length, map, false, refl, sym, ◌∙◌, ap, subst, arith}
+use Rattle.std.proofs.Common.{◌≡◌, ◌≢◌, ◌≤◌, ◌^◌, ◌++◌, [], inl, ℕ, List, Ok, Err, max, take, drop, length, map, false, refl, sym, ◌∙◌, ap, subst, arith}
 use Rattle.volume_base.specs.Log.{Log, Shrinks, end_of, cut_to}
 use Rattle.volume_base.specs.Moments.{present, LogKeeps, NamesLeft, Now}
 use Rattle.volume_base.specs.Names.{log_alone, two_logs_and_map, NamesCall}
@@ -25,11 +25,13 @@ use Rattle.auth_journal.specs.Standing.{NamesStand, all_synced}
 use Rattle.auth_journal.specs.declared.error.Error.TheVariants as joined
 use Rattle.auth_journal.proofs.AlignLemmas.{outside_above, changes_above, changes_same}
 use Rattle.auth_journal.proofs.LeafLemmas.{all_digests, length-leaves_of}
+use Rattle.auth_journal.proofs.ListLemmas.{append-nothing}
+use Rattle.merkle_full.specs.Lists.{IsFullOf}
 use Rattle.auth_journal.proofs.OpenedLemmas.{Left, Stands, opened_as, cut_keeps, opened_keeps, caught_keeps, named_keeps, cut_at, leaves_split}
 use Rattle.auth_journal.proofs.ReadingLemmas.{run_end}
 use Rattle.auth_journal.proofs.SettledLemmas.{opened_settled, renamed_settles}
 use Rattle.auth_journal.proofs.StandingLemmas.{tree_beside}
-use Rattle.auth_journal.proofs.OpeningLemmas.{prepared_later, start_not, aligned_cut, readable_cut, names_of_tree, names_of_nodes, log_keeps_beside, keeps_cut, finish_joined, leaves_take}
+use Rattle.auth_journal.proofs.OpeningLemmas.{prepared_later, start_not, aligned_cut, readable_cut, names_of_tree, names_of_nodes, log_keeps_beside, keeps_cut, finish_joined, leaves_ahead, leaves_take}
 use Rattle.auth_journal.specs.Errors.{from_journal, from_tree, IsLifted}
 use Rattle.auth_journal.proofs.DurableLemmas.{err_and}
 use Rattle.auth_journal.proofs.OpenedLemmas.{log_lifted, tree_lifted}
@@ -265,7 +267,7 @@ returns-clause-nodes g c told held =
     (seat.start_is ∙ ap (λ (n : List ℕ). (s3.log n).start) last ∙ third ∙ ap (λ (l : Log). l.start) (opened.log told prepared).log ∙ ap (λ (l : Log). max l.start point) first)
 
 pub returns-clause-joined : goal.returns-clause-joined
-returns-clause-joined g c told list durable top held run long stands of =
+returns-clause-joined g c told list rest durable top held run long stands of =
     let tells = g.V.Volume.tells in
     let spelling = g.C.Item.Spelled.spelling in
     let s0 = g.V.Volume.state c.args.vol.now in
@@ -290,7 +292,8 @@ returns-clause-joined g c told list durable top held run long stands of =
     let h = g.H.Hasher.hash in
     let digest = g.H.Digest.Spelled.spelling in
     let admits = g.H.Digest.Read.admits tt in
-    let all = leaves_of s h spelling list in
+    let whole = list ++ rest in
+    let all = leaves_of s h spelling whole in
     let back = sym c.self.view_is in
     let ready : IsReadyIn r s0 = subst (λ (v : Readied g.row.H-Digest.Denot g.row.C-Item-Cfg.Denot). IsReadyIn v s0) (sym c.self.view_is) held in
     let prepared = prepared_later r.tree s0 s1 ((cut.call.log told).others.logs r.tree.log.name (λ e. sound.apart (sym e))) ((cut.call.log told).others.maps r.tree.metadata) ready.tree in
@@ -299,12 +302,14 @@ returns-clause-joined g c told list durable top held run long stands of =
     let third = (caught.names told).others.logs items.name ((λ e. apart (e ∙ node)), tt) in
     let run_r = subst (λ (v : Readied g.row.H-Digest.Denot g.row.C-Item-Cfg.Denot). Spells spelling list (log_of v.items s0)) back run in
     let stands_r = subst (λ (v : Readied g.row.H-Digest.Denot g.row.C-Item-Cfg.Denot). TreeStands s h digest all durable top (s0.log v.tree.log.name) v.tree.read) back stands in
-    let of_r = subst (λ (v : Readied g.row.H-Digest.Denot g.row.C-Item-Cfg.Denot). IsOf s h (leaves_of s h spelling (take v.tree.tree.leaves list)) v.tree.tree) back of in
+    let of_r = subst (λ (v : Readied g.row.H-Digest.Denot g.row.C-Item-Cfg.Denot). IsOf s h (leaves_of s h spelling (take v.tree.tree.leaves whole)) v.tree.tree) back of in
     let stands_1 = subst (λ (l : Log). TreeStands s h digest all durable top l r.tree.read) (sym ((cut.call.log told).others.logs r.tree.log.name (λ e. sound.apart (sym e)))) stands_r in
-    let few : length all ≤ 2 ^ 62 = omega (arith, long, length-leaves_of s h spelling list) in
-    let digests = all_digests s h admits (map spelling list) (λ m. g.met.H.Digest.Digest.allowed (h.digest m) (ap length (sym (g.met.H.Hasher.same_bytes (h.digest m))) ∙ g.met.H.Hasher.one_size m)) in
-    let of_front = subst (λ (ds : List g.row.H-Digest.Denot). IsOf s h ds r.tree.tree) (sym (leaves_take s h spelling r.tree.tree.leaves list)) of_r in
-    let full = opened.full told h all durable top prepared stands_1 few digests of_front in
+    let few : length all ≤ 2 ^ 62 = omega (arith, long, length-leaves_of s h spelling whole) in
+    let digests = all_digests s h admits (map spelling whole) (λ m. g.met.H.Digest.Digest.allowed (h.digest m) (ap length (sym (g.met.H.Hasher.same_bytes (h.digest m))) ∙ g.met.H.Hasher.one_size m)) in
+    let of_front = subst (λ (ds : List g.row.H-Digest.Denot). IsOf s h ds r.tree.tree) (sym (leaves_take s h spelling r.tree.tree.leaves whole)) of_r in
+    let within : r.tree.tree.leaves ≤ length list = omega (arith, ready.high, sound.within, ready.items.end_is, run_end spelling list (log_of r.items s0) run_r) in
+    let full = subst (λ (ds : List g.row.H-Digest.Denot). IsFullOf s h digest admits ds t (present s2)) (leaves_ahead s h spelling r.tree.tree.leaves list rest within)
+    (opened.full told h all durable top prepared stands_1 few digests of_front) in
     let is = finish_joined s h digest admits spelling list r j t s0 s1 s2 s3 sound ready run_r items_is held_one (cut.listed told list run_r) second third opened.from.leaves caught.aligned.leaves full (caught.full told) in
     subst (λ (v : Readied g.row.H-Digest.Denot g.row.C-Item-Cfg.Denot). IsJoinedOf s h digest admits spelling (take v.end list) j (present s3)) c.self.view_is is
 
@@ -828,7 +833,11 @@ returns-clause-settled g c told list marks ready run long of low_items low_nodes
     let j : Joined g.row.H-Digest.Denot g.row.C-Item-Cfg.Denot = record { items = g.C.Contiguous.view c.in_ok-journal.journal; tree = c.in_ok-merkle.merkle; bagging = c.self.inside.hasher; failed = false } in
     let from = returns-clause-from g c in
     let end : j.items.end ≡ r.end = (returns-clause-reached g c told ready).0 in
-    let joined = returns-clause-joined g c told list marks.node_durable (s0.log r.items.name).start ready run long stands of in
+    let same : list ≡ list ++ [] = sym (append-nothing list) in
+    let start = (s0.log r.items.name).start in
+    let joined = returns-clause-joined g c told list [] marks.node_durable start ready run (subst (λ (l : List g.row.C-Item.Denot). length l ≤ 2 ^ 62) same long)
+    (subst (λ (l : List g.row.C-Item.Denot). TreeStands s h digest (leaves_of s h spelling l) marks.node_durable start (s0.log r.tree.log.name) r.tree.read) same stands)
+    (subst (λ (l : List g.row.C-Item.Denot). IsOf s h (leaves_of s h spelling (take r.tree.tree.leaves l)) r.tree.tree) same of) in
     let at_end = subst (λ n. IsJoinedOf s h digest (g.H.Digest.Read.admits tt) spelling (take n list) j (present s3)) (sym end) joined in
     let durable = returns-clause-durable g c told in
     let item_name : j.items.name ≡ r.items.name = ap (λ (v : View g.row.C-Item-Cfg.Denot). v.name) from.items in

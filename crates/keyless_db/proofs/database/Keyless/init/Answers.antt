@@ -9,7 +9,7 @@ use Rattle.journal_base.specs.View.{View}
 use Rattle.volume_base.specs.Log.{Log, cut_to}
 use Rattle.chain_core.specs.declared.error.Error.TheVariants.{InvalidInitializationBound, Volume}
 use Rattle.keyless_db.specs.Opening.{EndsHere, GoesOn, IsSaidCommit}
-use Rattle.keyless_db.proofs.OpenLemmas.{empty_at, ends_here, if_err, if_ok, if_ok_both, init_of, init_refused, listed_refused, never_err}
+use Rattle.keyless_db.proofs.OpenLemmas.{built_some, empty_at, ends_here, if_err, if_ok, if_ok_both, init_of, init_refused, listed_refused, never_err}
 use Rattle.keyless_db.proofs.database.Keyless.init.Goals as goal
 
 pub returns-in-Ok-open_journal-clause-held : goal.returns-in-Ok-open_journal-clause-held
@@ -23,10 +23,10 @@ returns-in-Ok-open_journal-clause-held g c =
     let opened = c.in-Ok-open_journal.ensures in
     let items : Items g.row.O.Denot = items_of spelling g.O.Read.admits (g.C.Backing.config c.args.cfg.log) (g.V.Volume.state c.args.vol.now) in
     if_ok _ _ c.opened_from.result
-    (λ d held. λ tells list durable run few stands all.
+    (λ d held. λ tells list rest durable run few stands all.
     let codec = ap (λ (v : View g.row.O-Cfg.Denot). v.codec) opened.named.0 in
     let may = subst (λ (x : g.row.O-Cfg.Denot). AllByRecursion (g.O.Read.admits x) list) (sym codec) all in
-    init_of s h m digest admits spelling items c.args.max_size list c.in-Ok-open_journal.journal.items.end d _ (opened.found tells) (held tells list (opened.listed tells list durable run few stands) may))
+    init_of s h m digest admits spelling items c.args.max_size list c.in-Ok-open_journal.journal.items.end d _ (opened.found tells) (held tells list (opened.listed tells list rest durable run few stands) may))
     c.opened_from.ensures.held
 
 pub returns-in-Ok-open_journal-clause-changes : goal.returns-in-Ok-open_journal-clause-changes
@@ -123,7 +123,7 @@ returns-in-Ok-open_journal-clause-opens g c =
     c.opened_from.ensures.at c.opened_from.ensures.log
 
 pub returns-in-Ok-open_journal-clause-listed : goal.returns-in-Ok-open_journal-clause-listed
-returns-in-Ok-open_journal-clause-listed g c tells some list durable run few stands =
+returns-in-Ok-open_journal-clause-listed g c tells some list rest durable run few stands =
     let m = g.O.Logged.meaning in
     let spelling = g.O.Spelled.spelling in
     let digest = g.H.Digest.Spelled.spelling in
@@ -144,13 +144,18 @@ returns-in-Ok-open_journal-clause-listed g c tells some list durable run few sta
     (ends_here m items (mid.log j.items.name) c.args.max_size j.items.end cut found past) in
     listed_refused g.V.Volume.tells digest admits g.F.Family.shape (old.map (string_bytes c.args.cfg.merkle.metadata)) (old.log (string_bytes c.args.cfg.merkle.nodes)) items m c.args.max_size _ j.items.end
     (ap (λ (l : Log). l.start) cut) found c.opened_from.result
-    (λ none. c.opened_from.ensures.outside tells list (opened.listed tells list durable run few stands) none) (c.opened_from.ensures.refused tells at.1 ends)
+    (λ none. c.opened_from.ensures.outside tells list (opened.listed tells list rest durable run few stands) none) (c.opened_from.ensures.refused tells at.1 ends)
 
 pub returns-in-Err-open_journal-clause-listed : goal.returns-in-Err-open_journal-clause-listed
-returns-in-Err-open_journal-clause-listed g c tells some list durable run few stands = inr (inl (c.in-Err-open_journal.ensures.refused tells))
+returns-in-Err-open_journal-clause-listed g c tells some list rest durable run few stands = inr (inl (c.in-Err-open_journal.ensures.refused tells))
 
 pub returns-in-Err-open_journal-clause-errors : goal.returns-in-Err-open_journal-clause-errors
 returns-in-Err-open_journal-clause-errors g c some = c.in-Err-open_journal.ensures.errors
 
 pub returns-in-Ok-open_journal-clause-errors : goal.returns-in-Ok-open_journal-clause-errors
 returns-in-Ok-open_journal-clause-errors g c some = c.opened_from.ensures.errors
+
+pub returns-in-Ok-open_journal-clause-some : goal.returns-in-Ok-open_journal-clause-some
+returns-in-Ok-open_journal-clause-some g c =
+    let first = g.O.KeylessOperation.committed None 0 in
+    if_ok _ _ c.opened_from.result (λ d at. built_some first c.in-Ok-open_journal.journal.items.end d at) c.opened_from.ensures.at

@@ -1,4 +1,4 @@
-use Rattle.std.proofs.Common.{◌≡◌, ℕ, Some, None, Option, sym, ◌∙◌, ap, subst, arith, rules, inr}
+use Rattle.std.proofs.Common.{◌≡◌, ◌++◌, ℕ, Some, None, Option, sym, ◌∙◌, ap, subst, arith, rules, inr}
 use Rattle.std.specs.Prelude.{string_bytes}
 use Rattle.volume_base.specs.Log.{Log}
 use Rattle.journal_base.specs.Items.{Items, items_of}
@@ -19,18 +19,19 @@ returns-in-Ok-clause-found g c tells =
     (ends_as items _ (IsSaidCommit g.O.Logged.meaning) (Some c.as_u64.result) c.in-Ok.journal.items.end (λ x b k. search rules) (c.in-Ok.ensures.found tells))
 
 pub returns-in-Ok-clause-listed : goal.returns-in-Ok-clause-listed
-returns-in-Ok-clause-listed g c tells list durable run few stands =
+returns-in-Ok-clause-listed g c tells list rest durable run few stands =
     let s = g.F.Family.shape in
     let h = g.H.Hasher.hash in
     let view = g.C.Backing.config c.args.cfg.log in
     let old = g.V.Volume.state c.args.vol.now in
     let new = g.V.Volume.state c.init_at_most.new.vol in
     let t = c.in-Ok.journal in
-    let is = c.in-Ok.ensures.joined tells list durable (old.log view.name).start run few stands in
+    let is = c.in-Ok.ensures.joined tells list rest durable (old.log view.name).start run few stands in
     let opens = c.in-Ok.ensures.opens tells in
-    let all = leaves_of s h g.O.Spelled.spelling list in
+    let whole = list ++ rest in
+    let all = leaves_of s h g.O.Spelled.spelling whole in
     let low = opened_low g.row.F.Denot s h g.H.Digest.Spelled.spelling (g.H.Digest.Read.admits tt) all (old.map (string_bytes c.args.cfg.merkle.metadata)) (old.log (string_bytes c.args.cfg.merkle.nodes)) durable
-    (old.log view.name).start _ t.tree.boundary opens.leaves (omega (arith, few, length-leaves_of s h g.O.Spelled.spelling list)) stands opens.opens in
+    (old.log view.name).start _ t.tree.boundary opens.leaves (omega (arith, few, length-leaves_of s h g.O.Spelled.spelling whole)) stands opens.opens in
     let name = ap (λ (v : View g.row.O-Cfg.Denot). (new.log v.name).start) c.in-Ok.ensures.named.0 in
     let cut = ap (λ (l : Log). l.start) (c.in-Ok.ensures.cut tells).0 in
     record { joined = is; low = omega (arith, low, is.start_is, name, cut) }
@@ -43,18 +44,19 @@ returns-in-Ok-new-clause-found g c tells =
     (ends_as items _ (IsSaidCommit g.O.Logged.meaning) None c.in-Ok-new.journal.items.end (λ x b k. search rules) (c.in-Ok-new.ensures.found tells))
 
 pub returns-in-Ok-new-clause-listed : goal.returns-in-Ok-new-clause-listed
-returns-in-Ok-new-clause-listed g c tells list durable run few stands =
+returns-in-Ok-new-clause-listed g c tells list rest durable run few stands =
     let s = g.F.Family.shape in
     let h = g.H.Hasher.hash in
     let view = g.C.Backing.config c.args.cfg.log in
     let old = g.V.Volume.state c.args.vol.now in
     let new = g.V.Volume.state c.new.new.vol in
     let t = c.in-Ok-new.journal in
-    let is = c.in-Ok-new.ensures.joined tells list durable (old.log view.name).start run few stands in
+    let is = c.in-Ok-new.ensures.joined tells list rest durable (old.log view.name).start run few stands in
     let opens = c.in-Ok-new.ensures.opens tells in
-    let all = leaves_of s h g.O.Spelled.spelling list in
+    let whole = list ++ rest in
+    let all = leaves_of s h g.O.Spelled.spelling whole in
     let low = opened_low g.row.F.Denot s h g.H.Digest.Spelled.spelling (g.H.Digest.Read.admits tt) all (old.map (string_bytes c.args.cfg.merkle.metadata)) (old.log (string_bytes c.args.cfg.merkle.nodes)) durable
-    (old.log view.name).start _ t.tree.boundary opens.leaves (omega (arith, few, length-leaves_of s h g.O.Spelled.spelling list)) stands opens.opens in
+    (old.log view.name).start _ t.tree.boundary opens.leaves (omega (arith, few, length-leaves_of s h g.O.Spelled.spelling whole)) stands opens.opens in
     let name = ap (λ (v : View g.row.O-Cfg.Denot). (new.log v.name).start) c.in-Ok-new.ensures.named.0 in
     let cut = ap (λ (l : Log). l.start) (c.in-Ok-new.ensures.cut tells).0 in
     record { joined = is; low = omega (arith, low, is.start_is, name, cut) }
