@@ -9,7 +9,7 @@ use Rattle.std.proofs.lemmas.Bool.{eqb-false}
 use Rattle.std.proofs.lemmas.Fmt.{decimal_injective}
 use Rattle.std.proofs.lemmas.List.{append-nil, length-append}
 use Rattle.command_text.specs.declared.command.Command.{Command}
-use Rattle.command_text.specs.declared.command.Command.TheVariants.{New, Append, Seal, Apply, Hold, Release, Snapshot, Get, GetMany, BatchGet, BatchGetMany, Size, Metadata, Proof, Commit, Sync, StartSync, Prune}
+use Rattle.command_text.specs.declared.command.Command.TheVariants.{New, Append, Seal, Apply, Hold, Release, Snapshot, Get, GetMany, BatchGet, BatchGetMany, Size, Metadata, Proof, CommitProof, Commit, Sync, StartSync, Prune}
 use Rattle.line_text.specs.Lines.{words_of}
 use Rattle.line_text.specs.Said.{IsNumberWord, IsBytesWord, IsOptionalWord, IsSkipped}
 use Rattle.command_text.specs.declared.name.Name.{Name}
@@ -68,6 +68,7 @@ kind_of (BatchGetMany b ls) = name.BatchGetMany
 kind_of Size = name.Size
 kind_of Metadata = name.Metadata
 kind_of (Proof s l n) = name.Proof
+kind_of (CommitProof s) = name.CommitProof
 kind_of Commit = name.Commit
 kind_of Sync = name.Sync
 kind_of StartSync = name.StartSync
@@ -99,6 +100,7 @@ named words (BatchGetMany b ls) p = ap head_word p.2
 named words Size p = ap head_word p
 named words Metadata p = ap head_word p
 named words (Proof s l n) p = ap head_word p.3
+named words (CommitProof s) p = ap head_word p.1
 named words Commit p = ap head_word p
 named words Sync p = ap head_word p
 named words StartSync p = ap head_word p
@@ -232,6 +234,11 @@ one_command words (Proof s l m) (Proof t k n) p q =
     let size = one_number q.0 s t (rw numbers at p.4) q.4 in
     let start = one_number q.1 l k (rw nexts at p.5) q.5 in
     let count = one_count m n (one_number q.2 (non_zero_u64_get m) (non_zero_u64_get n) (rw lasts at p.6) q.6) in
+    cc
+one_command words (CommitProof a) (CommitProof b) p q =
+    let same = sym p.1 ∙ q.1 in
+    let numbers : p.0 ≡ q.0 = cc in
+    let number = one_number q.0 a b (rw numbers at p.2) q.2 in
     cc
 one_command words Commit Commit p q = refl
 one_command words Sync Sync p q = refl

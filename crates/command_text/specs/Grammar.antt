@@ -2,7 +2,7 @@
 use Rattle.std.specs.Prelude.{◌≡◌, ◌⊎◌, ℕ, List, [], ◌∷◌, Option, Some, None, codes}
 use Rattle.std.specs.NonZero.{non_zero_u64_get}
 use Rattle.command_text.specs.declared.command.Command.{Command}
-use Rattle.command_text.specs.declared.command.Command.TheVariants.{New, Append, Seal, Apply, Hold, Release, Snapshot, Get, GetMany, BatchGet, BatchGetMany, Size, Metadata, Proof, Commit, Sync, StartSync, Prune}
+use Rattle.command_text.specs.declared.command.Command.TheVariants.{New, Append, Seal, Apply, Hold, Release, Snapshot, Get, GetMany, BatchGet, BatchGetMany, Size, Metadata, Proof, CommitProof, Commit, Sync, StartSync, Prune}
 use Rattle.line_text.specs.Lines.{lines_of, words_of}
 use Rattle.line_text.specs.Said.{IsNumberWord, IsBytesWord, IsOptionalWord, IsSkipped}
 
@@ -30,6 +30,7 @@ WordsSay words (BatchGetMany b ls) = (number : List ℕ) × (numbers : List (Lis
 WordsSay words Size = words ≡ codes "size" ∷ []
 WordsSay words Metadata = words ≡ codes "metadata" ∷ []
 WordsSay words (Proof size start count) = (number : List ℕ) × (next : List ℕ) × (last : List ℕ) × (words ≡ codes "proof" ∷ number ∷ next ∷ last ∷ []) × IsNumberWord number size × IsNumberWord next start × IsNumberWord last (non_zero_u64_get count)
+WordsSay words (CommitProof size) = (number : List ℕ) × (words ≡ codes "commit-proof" ∷ number ∷ []) × IsNumberWord number size
 WordsSay words Commit = words ≡ codes "commit" ∷ []
 WordsSay words Sync = words ≡ codes "sync" ∷ []
 WordsSay words StartSync = words ≡ codes "start-sync" ∷ []

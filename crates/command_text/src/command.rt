@@ -38,6 +38,8 @@ pub enum Command {
     Metadata,
     /// Asks, at a size, for a proof of the operations from a location on, at most so many.
     Proof(u64, u64, NonZeroU64),
+    /// Asks for a proof of the commit that ends the list at a size.
+    CommitProof(u64),
     /// Makes the operations durable.
     Commit,
     /// Makes the operations and the nodes durable.

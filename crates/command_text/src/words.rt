@@ -149,6 +149,13 @@ fn read_proof(mut words: Words<'_>) -> Option<Command>
     Some(Command::Proof(size, start, count))
 }
 
+/// Reads the words behind `commit-proof`.
+fn read_commit_proof(words: Words<'_>) -> Option<Command>
+    ensures { IsReading (codes "commit-proof" ∷ words.entry) result }
+{
+    Some(Command::CommitProof(only_number(words)?))
+}
+
 /// Reads the words behind `prune`.
 fn read_prune(words: Words<'_>) -> Option<Command>
     ensures { IsReading (codes "prune" ∷ words.entry) result }
@@ -194,6 +201,7 @@ pub(crate) fn read_words(
         Name::Size => Ok(read_alone(words, Command::Size)),
         Name::Metadata => Ok(read_alone(words, Command::Metadata)),
         Name::Proof => Ok(read_proof(words)),
+        Name::CommitProof => Ok(read_commit_proof(words)),
         Name::Commit => Ok(read_alone(words, Command::Commit)),
         Name::Sync => Ok(read_alone(words, Command::Sync)),
         Name::StartSync => Ok(read_alone(words, Command::StartSync)),
