@@ -1,26 +1,73 @@
-//! A run with each call of the volume failing in turn.
+//! A run with each call of the volume failing in turn, and what is then left opened again.
 use crate::error::ScriptError;
-use crate::whole_run::{LOG, answers, text_of};
-use memory_volume::MemoryVolume;
+use crate::whole_run::{LOG, NODES, WITNESS, answers, text_of};
+use codec_base::Bytes;
+use command_text::Replies;
+use memory_volume::{LogChoice, MemoryVolume};
 use std::alloc::Global;
 use volume_base::Volume;
 
 /// More calls than any run makes.
 const MOST_CALLS: u64 = 1000;
 
-/// Where a run ends: after how many replies, and the bounds of the log of operations then.
+/// Where a run ends: after how many replies, and the bounds of both logs then; at which size what is left is opened,
+/// and at which where a crash left the least of each log.
 #[derive(PartialEq, Eq, Clone, Copy)]
 struct End {
     replies: u64,
     log: (u64, u64),
+    witness: (u64, u64),
+    opens: u64,
+    least: u64,
 }
 
-/// The bounds of the log of operations. Where the call that fails is still to come it is the first of these.
-fn log_bounds(volume: &mut MemoryVolume) -> Result<(u64, u64), ScriptError> {
-    match volume.log_bounds(LOG) {
-        Ok(bounds) => Ok(bounds),
-        Err(_) => Ok(volume.log_bounds(LOG)?),
+/// The size at which both databases are opened on this image of a volume.
+fn opening(
+    alloc: Global,
+    head: &str,
+    volume: &MemoryVolume,
+    choices: &[LogChoice],
+) -> Result<u64, ScriptError> {
+    let mut image = volume.crash(choices)?;
+    let Ok(replies) = answers(alloc, head, "", &mut image)? else {
+        return Err(ScriptError::Script);
+    };
+    match replies.as_slice().first() {
+        Some(opened) => Ok(opened.size),
+        None => Err(ScriptError::Script),
     }
+}
+
+/// The part of a log that ends first of those that a crash may leave.
+fn least(alloc: Global, name: &str) -> Result<LogChoice, ScriptError> {
+    Ok(LogChoice {
+        name: Bytes::from_slice(alloc, name.as_bytes())?,
+        version: 0,
+        start: 0,
+        end: 0,
+    })
+}
+
+/// Where a run that has made so many replies has left its volume.
+fn end_at(
+    alloc: Global,
+    head: &str,
+    replies: &Replies,
+    volume: &MemoryVolume,
+) -> Result<End, ScriptError> {
+    let mut present = volume.crash(&[])?;
+    let parts = [
+        least(alloc, LOG)?,
+        least(alloc, NODES)?,
+        least(alloc, WITNESS)?,
+    ];
+    Ok(End {
+        replies: replies.len(),
+        log: present.log_bounds(LOG)?,
+        witness: present.log_bounds(WITNESS)?,
+        opens: opening(alloc, head, volume, &[])?,
+        least: opening(alloc, head, volume, &parts)?,
+    })
 }
 
 /// Where the run ends with the call of this number failing, and the fault that stops it, or nothing where it isn't
@@ -44,11 +91,15 @@ fn end_of(
     if !whole.starts_with(text_of(alloc, &replies)?.as_str()) {
         return Err(ScriptError::Script);
     }
-    let end = End {
-        replies: replies.len(),
-        log: log_bounds(&mut volume)?,
-    };
-    Ok((end, fault))
+    Ok((end_at(alloc, head, &replies, &volume)?, fault))
+}
+
+/// Prints where a run ends.
+fn print_end(rt: &impl Print, end: End) -> Result<(), ScriptError> {
+    let ((start, size), (first, last)) = (end.log, end.witness);
+    print!(rt; "log {start} to {size}, witnesses {first} to {last}")?;
+    println!(rt; "; opens at {}, of the least at {}", end.opens, end.least)?;
+    Ok(())
 }
 
 /// Prints where the run ends with each call failing in turn, and then with none; of calls that end it alike, one after
@@ -63,16 +114,13 @@ fn print_ends(
     let mut last = None;
     for call in 1..MOST_CALLS {
         let (end, fault) = end_of(alloc, head, input, whole, call)?;
-        let (from, to) = end.log;
         let Some(fault) = fault else {
-            println!(rt; "done, log {from} to {to}")?;
-            return Ok(());
+            print!(rt; "done, ")?;
+            return print_end(rt, end);
         };
         if last != Some(end) {
-            println!(rt;
-                "stopped {fault} after {} replies, log {from} to {to}",
-                end.replies
-            )?;
+            print!(rt; "stopped {fault} after {} replies, ", end.replies)?;
+            print_end(rt, end)?;
         }
         last = Some(end);
     }

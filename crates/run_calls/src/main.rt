@@ -1,11 +1,15 @@
 //! Makes the runs of a script, and prints what each answers. A case is a line with its kind and settings, each a name
 //! and a value, behind it the lines of its input, and then the line `end`. Between cases a line that begins with `#`
 //! is printed as it is. A `run` is that of commands under a `limit` of values, and ends with the fault that stopped
-//! it; of `failing`, the run is made again with each call of the volume failing in turn; a `main` is the top call,
-//! and ends with its status. Of `lines` each is an input of its own, and so of `hex`, where each is told by its
-//! bytes.
+//! it; a line of its input that begins with `/` ends one run, and the next goes on with the volume as it is (`/again`),
+//! with what a crash may leave of its logs (`/crash NAME START END ..`), or with a log of other items (`/put NAME
+//! ITEM ..`). Of `failing`, the run is made again with each call of the volume failing in turn, and what is left is
+//! opened; a `main` is the top call with its `words`, and ends with its status. Of `lines` each is an input of its own,
+//! and so of `hex`, where each is told by its bytes. A `config` is that of its settings, or why these are refused.
 #![tactic(auto)]
 
+mod between;
+mod configs;
 mod error;
 mod failing;
 mod inputs;
@@ -14,6 +18,7 @@ mod top_call;
 mod volume;
 mod whole_run;
 
+use crate::configs::print_config;
 use crate::error::ScriptError;
 use crate::failing::print_failing;
 use crate::inputs::{print_hex, print_lines};
@@ -28,6 +33,7 @@ fn print_case(rt: &impl Print, alloc: Global, head: &str, input: &str) -> Result
         "run" => print_run(rt, alloc, head, input),
         "failing" => print_failing(rt, alloc, head, input),
         "main" => print_main(rt, alloc, head, input),
+        "config" => print_config(rt, alloc, head),
         "lines" => print_lines(rt, alloc, input),
         "hex" => print_hex(rt, alloc, input),
         _ => Err(ScriptError::Script),

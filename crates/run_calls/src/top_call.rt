@@ -8,12 +8,14 @@ use std::str;
 use stream_base::{MemorySink, MemorySource};
 use twin_run::{Status, twins_main};
 
-/// The words: one where `word` says it, and else none.
+/// The words that `words` says, with commas between them; none where it says nothing.
 fn words_of(alloc: Global, head: &str) -> Result<Vec<String>, ScriptError> {
     let mut words = Vec::new(alloc);
-    let word = setting(head, "word");
-    if !word.is_empty() {
-        words.push(String::from_str(alloc, word)?)?;
+    let said = setting(head, "words");
+    if !said.is_empty() {
+        for word in said.split(',') {
+            words.push(String::from_str(alloc, word)?)?;
+        }
     }
     Ok(words)
 }

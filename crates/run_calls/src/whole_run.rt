@@ -1,4 +1,5 @@
-//! A run of commands under a configuration of its own.
+//! Runs of commands under a configuration of their own.
+use crate::between::change;
 use crate::error::ScriptError;
 use crate::settings::number;
 use crate::volume::volume_of;
@@ -11,6 +12,10 @@ use twin_run::{Stopped, TwinConfig, run_twins};
 
 /// The name of the log of operations.
 pub(crate) const LOG: &str = "log";
+/// The name of the log of nodes.
+pub(crate) const NODES: &str = "nodes";
+/// The name of the log of witnesses.
+pub(crate) const WITNESS: &str = "witness";
 
 /// What the commands answer on a volume. The log of operations has blobs of 7, where `blob` doesn't say another number.
 pub(crate) fn answers(
@@ -24,8 +29,8 @@ pub(crate) fn answers(
         0 => 7,
         blob => blob,
     };
-    let (log, nodes, map, witness) = (LOG, "nodes", "metadata", "witness");
-    let config = TwinConfig::new(alloc, log, nodes, map, witness, blob, 11, 3, 4, limit)?;
+    let map = "metadata";
+    let config = TwinConfig::new(alloc, LOG, NODES, map, WITNESS, blob, 11, 3, 4, limit)?;
     let commands = parse_commands(alloc, input.as_bytes())?;
     Ok(run_twins(alloc, &config, volume, &commands))
 }
@@ -37,15 +42,15 @@ pub(crate) fn text_of(alloc: Global, replies: &Replies) -> Result<String, Script
     Ok(String::from_str(alloc, str::from_utf8(output.written())?)?)
 }
 
-/// Prints the replies, and the fault that stopped the run.
-pub(crate) fn print_run(
+/// Prints the replies of one run, and the fault that stopped it.
+fn print_answers(
     rt: &impl Print,
     alloc: Global,
     head: &str,
     input: &str,
+    volume: &mut MemoryVolume,
 ) -> Result<(), ScriptError> {
-    let mut volume = volume_of(alloc, head)?;
-    match answers(alloc, head, input, &mut volume)? {
+    match answers(alloc, head, input, volume)? {
         Ok(replies) => print!(rt; "{}", text_of(alloc, &replies)?)?,
         Err(stopped) => {
             print!(rt; "{}", text_of(alloc, &stopped.replies)?)?;
@@ -53,4 +58,26 @@ pub(crate) fn print_run(
         }
     }
     Ok(())
+}
+
+/// Prints the runs of a case, one after another on one volume.
+pub(crate) fn print_run(
+    rt: &impl Print,
+    alloc: Global,
+    head: &str,
+    input: &str,
+) -> Result<(), ScriptError> {
+    let mut volume = volume_of(alloc, head)?;
+    let mut commands = String::new(alloc);
+    for line in input.lines() {
+        if line.starts_with('/') {
+            print_answers(rt, alloc, head, commands.as_str(), &mut volume)?;
+            change(alloc, &mut volume, line)?;
+            commands = String::new(alloc);
+        } else {
+            commands.push_str(line)?;
+            commands.push('\n')?;
+        }
+    }
+    print_answers(rt, alloc, head, commands.as_str(), &mut volume)
 }

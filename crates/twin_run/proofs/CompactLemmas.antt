@@ -33,7 +33,7 @@ use Rattle.compact_db.specs.declared.database.WitnessLog.{WitnessLog}
 use Rattle.compact_db.specs.declared.database.WitnessLog.TheVariants.{Open, Import}
 use Rattle.compact_db.proofs.DbLemmas.{size_of_list}
 use Rattle.twin_run.specs.Operation.{Operation, meaning, sha}
-use Rattle.twin_run.specs.Kind.{Kept, with_list, IsKnown, sealing_of}
+use Rattle.twin_run.specs.Kind.{Kept, with_list, sealing_of}
 use Rattle.twin_run.specs.CompactKind.{CompactView, SealedView, UnsealedView, IsHeldAt, IsCompactOf, at_rest, held_over, compact_kind}
 
 -- ---- a list's last commit
@@ -127,10 +127,10 @@ same_sizes kept list le =
 
 module _ (db made : CompactView) (old new : State) (kept : Kept) (is : IsCompactOf kept (present old) db)
     (names : SameButBounds (seen_log db.log) (seen_log made.log)) where
-  was_held : IsHeldAt kept.ops kept.sizes db old
+  pub was_held : IsHeldAt kept.ops kept.sizes db old
   was_held = held_over kept.ops kept.sizes db (at_rest (present old)) old refl is.held
 
-  made_begins : (log_of (seen_log db.log) new).start ≡ (log_of (seen_log db.log) old).start → ((present new).log (seen_log made.log).name).start ≡ kept.wstart
+  pub made_begins : (log_of (seen_log db.log) new).start ≡ (log_of (seen_log db.log) old).start → ((present new).log (seen_log made.log).name).start ≡ kept.wstart
   made_begins start = ap (λ (name : List ℕ). (new.log name).start) (same_name (seen_log db.log) (seen_log made.log) names) ∙ start ∙ is.begins
 
   -- a longer list, with one witness more
@@ -183,16 +183,15 @@ module _ (tells : Type 0) (db : CompactView) (old new : State) (at : SealedView 
       → log_of (seen_log db.log) new ≡ log_of (seen_log db.log) old
 
   applied_one : (made : CompactView) → HoldsMore made → HoldsStill made → SameButBounds (seen_log db.log) (seen_log made.log) → IsWritten made → StaysIdle
-      → IsKnown compact_kind tells → (x : SealedView) → at x → (kept : Kept) (more : List Operation)
+      → tells → (x : SealedView) → at x → (kept : Kept) (more : List Operation)
       → IsCompactOf kept (present old) db → compact_kind.is_sealed (kept.ops ++ more) x → IsCompactOf (with_list kept (kept.ops ++ more)) (present new) made
-  applied_one made longer still names written idle (inl memory) x there kept more is sealed = absurd memory
-  applied_one made longer still names written idle (inr told) x there kept [] is sealed =
+  applied_one made longer still names written idle told x there kept [] is sealed =
       let held = was_held db made old new kept is names in
       let tip : x.bounds.tip.size ≡ length (kept.ops ++ []) = ap (λ (c : Commitment Mmr Sha256Digest). c.size) sealed.0.batch.bounds.tip in
       let now : db.tip.witness.size ≡ length kept.ops = size_of_list mmr sha meaning kept.ops db.tip db.tree db.commit held.list in
       let le : x.bounds.tip.size ≤ db.tip.witness.size = omega (arith, tip, now, length-append kept.ops []) in
       made_same db made old new kept is names [] (omega arith) (ap (λ (l : Log). l.start) (idle x there le held.opened)) (still told kept.ops kept.sizes x there le held)
-  applied_one made longer still names written idle (inr told) x there kept (op ∷ more) is sealed =
+  applied_one made longer still names written idle told x there kept (op ∷ more) is sealed =
       let held = was_held db made old new kept is names in
       let some : 0 < length (op ∷ more) = omega arith in
       let tip : x.bounds.tip.size ≡ length (kept.ops ++ (op ∷ more)) = ap (λ (c : Commitment Mmr Sha256Digest). c.size) sealed.0.batch.bounds.tip in
@@ -203,7 +202,7 @@ module _ (tells : Type 0) (db : CompactView) (old new : State) (at : SealedView 
 
   pub applied_list : (r : Result CompactView (Error Mmr)) → IfOk r HoldsMore → IfOk r HoldsStill → IfOk r (λ made. SameButBounds (seen_log db.log) (seen_log made.log))
       → IfOk r IsWritten → StaysIdle
-      → IfOk r (λ made. IsKnown compact_kind tells → (x : SealedView) → at x → (kept : Kept) (more : List Operation)
+      → IfOk r (λ made. tells → (x : SealedView) → at x → (kept : Kept) (more : List Operation)
       → compact_kind.is_of kept (present old) db → compact_kind.is_sealed (kept.ops ++ more) x → compact_kind.is_of (with_list kept (kept.ops ++ more)) (present new) made)
   applied_list (Ok made) longer still names written idle = applied_one made longer still names written idle
   applied_list (Err e) longer still names written idle = tt
@@ -217,10 +216,9 @@ module _ (db : CompactView) (at : SealedView → Type 0) (e : Error Mmr)
     (fits : e ≡ error.StaleBatch → (ops more : List Operation) (b : SealedView) → at b → IsOfList mmr sha meaning ops db
     → IsMerkleizedOf mmr sha meaning (ops ++ more) b → HasMarks b → StandsHere db b → ⊥) where
   failed_outside : (tells : Type 0) (old : State) → (tells → e ≡ error.Journal SizeOverflow → (b : SealedView) → at b → end_of (log_of (seen_log db.log) old) ≡ 2 ^ 64 - 1)
-      → IsKnown compact_kind tells → (x : SealedView) → at x → (kept : Kept) (more : List Operation) → IsCompactOf kept (present old) db
+      → tells → (x : SealedView) → at x → (kept : Kept) (more : List Operation) → IsCompactOf kept (present old) db
       → compact_kind.is_sealed (kept.ops ++ more) x → StandsHere db x → IsOutside e
-  failed_outside tells old full (inl memory) x there kept more is sealed stands = absurd memory
-  failed_outside tells old full (inr told) x there kept more is sealed stands = by cause
+  failed_outside tells old full told x there kept more is sealed stands = by cause
     where
       by : (e ≡ error.StaleBatch) ⊎ IsOutsideOrFull e → IsOutside e
       by (inl stale) = absurd (fits stale kept.ops more x there is.held.list sealed.0 sealed.1 stands)
@@ -234,7 +232,7 @@ module _ (db : CompactView) (at : SealedView → Type 0) where
       → (IsErrOf r error.StaleBatch → (ops more : List Operation) (b : SealedView) → at b → IsOfList mmr sha meaning ops db → IsMerkleizedOf mmr sha meaning (ops ++ more) b
       → HasMarks b → StandsHere db b → ⊥)
       → (tells → IsErrOf r (error.Journal SizeOverflow) → (b : SealedView) → at b → end_of (log_of (seen_log db.log) old) ≡ 2 ^ 64 - 1)
-      → IfErr r (λ e. IsKnown compact_kind tells → (x : SealedView) → at x → (kept : Kept) (more : List Operation) → compact_kind.is_of kept (present old) db
+      → IfErr r (λ e. tells → (x : SealedView) → at x → (kept : Kept) (more : List Operation) → compact_kind.is_of kept (present old) db
       → compact_kind.is_sealed (kept.ops ++ more) x → StandsHere db x → IsOutside e)
   applied_errors tells old (Ok made) cause fits full = tt
   applied_errors tells old (Err e) cause fits full = failed_outside db at e cause (λ stale. fits (ap Err stale)) tells old (λ told over. full told (ap Err over))

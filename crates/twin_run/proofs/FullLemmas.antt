@@ -1,12 +1,13 @@
 -- The full database as a database of the run: what its calls say, in the run's words.
-use Rattle.std.proofs.Common.{◌≡◌, inl, inr, ℕ, List, [], ◌∷◌, ◌++◌, Option, Some, None, Ok, Err, refl, sym, ◌∙◌, ap, subst}
+use Rattle.std.proofs.Common.{◌≡◌, inl, inr, ℕ, List, [], ◌∷◌, ◌++◌, Option, Some, None, Ok, Err, refl, sym, ◌∙◌, ap, subst, arith}
 use Rattle.std.specs.Prelude.{Result, IfOk, IfErr, OnOk, IsErrOf, IsSome, Contains}
 use Rattle.std.specs.Option.{option_map}
-use Rattle.volume_base.specs.Log.{Log, appended}
+use Rattle.volume_base.specs.Log.{Log, appended, end_of}
 use Rattle.volume_base.specs.Moments.{Image, present}
 use Rattle.volume_base.specs.Names.{log_alone, two_logs_and_map, NamesCall}
 use Rattle.volume_base.specs.Volume.{State}
 use Rattle.volume_base.specs.declared.error.JournalError.TheVariants.{SizeOverflow}
+use Rattle.journal_base.specs.Items.{Spells}
 use Rattle.journal_base.specs.View.{View, log_of, SameButBounds}
 use Rattle.codec_base.specs.declared.parts.LengthCfg.{LengthCfg}
 use Rattle.tree_shape.specs.Mmr.{mmr}
@@ -20,7 +21,6 @@ use Rattle.chain_core.specs.Answers.{IsOutside}
 use Rattle.chain_core.specs.Chains as chains
 use Rattle.chain_core.specs.Marks.{IsMarkedOn}
 use Rattle.chain_core.specs.Reached.{item_at}
-use Rattle.chain_core.specs.Sealing.{refusal_of}
 use Rattle.chain_core.specs.Slots.{slot_at, IsAlive}
 use Rattle.chain_core.specs.declared.bounds.Bounds.{Bounds}
 use Rattle.chain_core.specs.declared.commitment.Commitment.{Commitment}
@@ -30,8 +30,9 @@ use Rattle.chain_core.specs.declared.pool.HeldBatch.{HeldBatch}
 use Rattle.keyless_db.specs.Batches.{HasMarks, bounds_of, link_marks}
 use Rattle.keyless_db.specs.Errors.{IsOfApply}
 use Rattle.twin_run.specs.Operation.{Operation, meaning, sha}
-use Rattle.twin_run.specs.Kind.{Kept, with_list, IsKnown, sealing_of}
+use Rattle.twin_run.specs.Kind.{Kept, with_list, sealing_of}
 use Rattle.twin_run.specs.FullKind.{FullView, SealedView, UnsealedView, IsHeldIn, IsSealedBatchOf, IsUnsealedBatchOf, IsFullDbOf, full_kind}
+use Rattle.twin_run.proofs.NodeReach.{reach_later}
 
 -- ---- what is alive
 
@@ -103,20 +104,32 @@ module _ (tells : Type 0) (db : FullView) (old new : State) (at : SealedView →
   abbrev pub BeginsStill : Type 0
   BeginsStill = tells → (b : SealedView) → at b → (log_of db.journal.items new).start ≡ (log_of db.journal.items old).start
 
-  applied_one : (made : FullView) → HoldsList made → IsSameJoin db.journal made.journal → BeginsStill → IsKnown full_kind tells → (x : SealedView) → at x
+  applied_one : (made : FullView) → HoldsList made → IsSameJoin db.journal made.journal → BeginsStill
+      → (tells → NamesCall (log_alone db.journal.items.name) old new) → tells → (x : SealedView) → at x
       → (kept : Kept) (more : List Operation) → IsFullDbOf kept (present old) db → full_kind.is_sealed (kept.ops ++ more) x
       → IsFullDbOf (with_list kept (kept.ops ++ more)) (present new) made
-  applied_one made holds same begins (inl memory) x there kept more is sealed = absurd memory
-  applied_one made holds same begins (inr told) x there kept more is sealed = record {
-    held = holds told x there kept.ops more is.held sealed.0;
-    begins = ap (λ (name : List ℕ). (new.log name).start) (log_name db.journal.items made.journal.items same.items) ∙ begins told x there ∙ is.begins;
-  }
+  applied_one made holds same begins call told x there kept more is sealed =
+      let held = holds told x there kept.ops more is.held sealed.0 in
+      let items = log_name db.journal.items made.journal.items same.items in
+      let spelled = subst (λ (name : List ℕ). Spells meaning.encoding (kept.ops ++ more) (new.log name)) items
+      held.journal.items in
+      let before = is.reaches in
+      let later = reach_later db.journal.items.name db.journal.tree.log.name old new kept.ops more (call told)
+      is.held.journal.items spelled in
+      let nodes = ap (λ (name : List ℕ). end_of (new.log name))
+      (log_name db.journal.tree.log made.journal.tree.log same.log) in
+      record {
+        held = held;
+        begins = ap (λ (name : List ℕ). (new.log name).start) items ∙ begins told x there ∙ is.begins;
+        reaches = omega (arith, before, later, nodes);
+      }
 
   pub applied_list : (r : Result FullView (Error Mmr)) → IfOk r HoldsList → IfOk r (λ made. IsSameJoin db.journal made.journal) → OnOk r BeginsStill
-      → IfOk r (λ made. IsKnown full_kind tells → (x : SealedView) → at x → (kept : Kept) (more : List Operation)
+      → (tells → NamesCall (log_alone db.journal.items.name) old new)
+      → IfOk r (λ made. tells → (x : SealedView) → at x → (kept : Kept) (more : List Operation)
       → full_kind.is_of kept (present old) db → full_kind.is_sealed (kept.ops ++ more) x → full_kind.is_of (with_list kept (kept.ops ++ more)) (present new) made)
-  applied_list (Ok made) holds same begins = applied_one made holds same begins
-  applied_list (Err e) holds same begins = tt
+  applied_list (Ok made) holds same begins call = applied_one made holds same begins call
+  applied_list (Err e) holds same begins call = tt
 
 -- what is put behind a log leaves its start
 pub appended_begins : {A E : Type 0} (tells : Type 0) (db : FullView) (old new : State) (at : SealedView → Type 0) (r : Result A E) (items : SealedView → List (List ℕ))
@@ -129,30 +142,14 @@ appended_begins tells db old new at (Err e) items is = tt
 abbrev pub StandsHere : FullView → SealedView → Type 0
 StandsHere db x = Contains (x.bounds.db ∷ x.bounds.ancestors) db.state
 
--- a failure of the volume or want of memory is no refusal
-outside_unrefused : (e : Error Mmr) → IsOutside e → refusal_of e ≡ None
-outside_unrefused error.Volume is = refl
-outside_unrefused error.Memory is = refl
-outside_unrefused _ is = absurd is
-
 module _ (db : FullView) (at : SealedView → Type 0) (e : Error Mmr) (cause : IsOfApply e)
     (fits : e ≡ error.StaleBatch → (b : SealedView) → at b → (ops more : List Operation) (image : Image) → IsHeldIn ops db image → IsSealedBatchOf (ops ++ more) b
     → HasMarks b → StandsHere db b → ⊥) where
-  failed_unrefused : (x : SealedView) → at x → (kept : Kept) (image : Image) (more : List Operation) → IsFullDbOf kept image db
-      → full_kind.is_sealed (kept.ops ++ more) x → StandsHere db x → refusal_of e ≡ None
-  failed_unrefused x there kept image more is sealed stands = by cause
-    where
-      by : IsOfApply e → refusal_of e ≡ None
-      by (inl stale) = absurd (fits stale x there kept.ops more image is.held sealed.0 sealed.1 stands)
-      by (inr (inl outside)) = outside_unrefused e outside
-      by (inr (inr over)) = ap refusal_of over
-
   failed_outside : (tells : Type 0) (old : State)
       → (e ≡ error.Journal SizeOverflow → tells → (b : SealedView) → at b → (ops more : List Operation) → IsHeldIn ops db (present old) → IsSealedBatchOf (ops ++ more) b → ⊥)
-      → IsKnown full_kind tells → (x : SealedView) → at x → (kept : Kept) (more : List Operation) → IsFullDbOf kept (present old) db
+      → tells → (x : SealedView) → at x → (kept : Kept) (more : List Operation) → IsFullDbOf kept (present old) db
       → full_kind.is_sealed (kept.ops ++ more) x → StandsHere db x → IsOutside e
-  failed_outside tells old room (inl memory) x there kept more is sealed stands = absurd memory
-  failed_outside tells old room (inr told) x there kept more is sealed stands = by cause
+  failed_outside tells old room told x there kept more is sealed stands = by cause
     where
       by : IsOfApply e → IsOutside e
       by (inl stale) = absurd (fits stale x there kept.ops more (present old) is.held sealed.0 sealed.1 stands)
@@ -166,15 +163,9 @@ module _ (db : FullView) (at : SealedView → Type 0) where
       IsErrOf r error.StaleBatch → (b : SealedView) → at b → (ops more : List Operation) (image : Image) → IsHeldIn ops db image → IsSealedBatchOf (ops ++ more) b
       → HasMarks b → StandsHere db b → ⊥
 
-  pub applied_unrefused : (r : Result FullView (Error Mmr)) → IfErr r IsOfApply → FitsWhere r
-      → IfErr r (λ e. (x : SealedView) → at x → (kept : Kept) (image : Image) (more : List Operation) → full_kind.is_of kept image db
-      → full_kind.is_sealed (kept.ops ++ more) x → StandsHere db x → refusal_of e ≡ None)
-  applied_unrefused (Ok made) cause fits = tt
-  applied_unrefused (Err e) cause fits = failed_unrefused db at e cause (λ stale. fits (ap Err stale))
-
   pub applied_errors : (tells : Type 0) (old : State) (r : Result FullView (Error Mmr)) → IfErr r IsOfApply → FitsWhere r
       → (IsErrOf r (error.Journal SizeOverflow) → tells → (b : SealedView) → at b → (ops more : List Operation) → IsHeldIn ops db (present old) → IsSealedBatchOf (ops ++ more) b → ⊥)
-      → IfErr r (λ e. IsKnown full_kind tells → (x : SealedView) → at x → (kept : Kept) (more : List Operation) → full_kind.is_of kept (present old) db
+      → IfErr r (λ e. tells → (x : SealedView) → at x → (kept : Kept) (more : List Operation) → full_kind.is_of kept (present old) db
       → full_kind.is_sealed (kept.ops ++ more) x → StandsHere db x → IsOutside e)
   applied_errors tells old (Ok made) cause fits room = tt
   applied_errors tells old (Err e) cause fits room = failed_outside db at e cause (λ stale. fits (ap Err stale)) tells old (λ over. room (ap Err over))

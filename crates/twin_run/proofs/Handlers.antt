@@ -26,16 +26,15 @@ use Rattle.log_model.proofs.ReachLemmas.{lists_decide}
 use Rattle.op_codec.specs.declared.keyless.Operation.TheVariants.{Append}
 use Rattle.command_text.specs.declared.command.Answer.{Answer}
 use Rattle.command_text.specs.declared.command.Answer.TheVariants as answer
-use Rattle.command_text.specs.declared.command.Command.{Command}
 use Rattle.log_model.specs.declared.refusal.Refusal.TheVariants.{NoBatch, ValueTooLong, StaleBatch, LocationOverflow}
 use Rattle.twin_run.specs.Operation.{Operation, meaning, one_list, same_operation, operation_decide}
 use Rattle.twin_run.specs.Commitments.{same_state, AreBounds}
 use Rattle.twin_run.specs.Told.{IsTold}
 use Rattle.volume_base.specs.Moments.{Image}
-use Rattle.twin_run.specs.Kind.{Kind, Kept, kept_of, with_list, IsKnown, size_of, snapshot_of}
+use Rattle.twin_run.specs.Kind.{Kind, Kept, kept_of, with_list, size_of, snapshot_of}
 use Rattle.twin_run.specs.Config.{Config}
-use Rattle.twin_run.specs.Step.{Outcome, step, refused, metadata_length, sealed_or_lost, seal_refusal, begin, begin_on, append_to, seal, apply, hold, release, snapshot, size, metadata}
-use Rattle.twin_run.specs.StateOf.{HaveMarks, Likeness, LinkIs, IsUnsealedOf, IsItemOf, IsSealedOf, IsEntryOf, AreBatchesOf, AreFew, HasRoom, if_held, held_in, IsSealedAs, IsUnsealedAs, same_lists, any_lists, IsShaped, IsStateOf, Meets, AnyState, IsToldBy, Follows, FollowsCommand, Answers}
+use Rattle.twin_run.specs.Step.{Outcome, refused, refusal_in, metadata_length, sealed_or_lost, seal_refusal, begin, begin_on, append_to, seal, apply, hold, release, snapshot, size, metadata}
+use Rattle.twin_run.specs.StateOf.{HaveMarks, Likeness, LinkIs, IsUnsealedOf, IsItemOf, IsSealedOf, IsEntryOf, AreBatchesOf, AreFew, HasRoom, if_held, held_in, IsSealedAs, IsUnsealedAs, same_lists, any_lists, IsShaped, IsStateOf, Meets, AnyState, Follows, Answers, Takes}
 use Rattle.twin_run.specs.declared.numbers.Batch.{Batch}
 use Rattle.twin_run.specs.declared.numbers.Batch.TheVariants.{Unsealed, Sealed, Gone}
 use Rattle.twin_run.specs.declared.numbers.Holding.{Holding}
@@ -291,16 +290,6 @@ module _ {Db S U : Type 0} (k : Kind Db S U) where
         (subst (λ (d : Db). Meets k (f s) image d new a) (sym kept) ((answers image).follows s (told s by) is));
   }
 
-  -- and follows a command whose step is the same
-  pub follows_command : (of : State Operation → Type 0) (f : State Operation → Outcome) (limit : ℕ) (command : Command) (db made : Db) (old new : Numbers S U) (a : Answer) → Answers k of f db old new a
-      → ((s : State Operation) → IsTold s → of s) → made ≡ db → Image → ((config : Config) (s : State Operation) → config.value_limit ≡ limit → step config s command ≡ f s) → FollowsCommand k limit command db made old new
-  follows_command of f limit command db made old new a answers told kept any same = record {
-    shaped = (answers any).shaped;
-    follows = λ config image s limited by is.
-        subst (λ (o : Outcome). IsStateOf k image made new o.1) (sym (same config s limited))
-        (subst (λ (d : Db). IsStateOf k image d new (f s).1) (sym kept) ((answers image).follows s (told s by) is).1);
-  }
-
   module _ (db : Db) (old : Numbers S U) (sh : IsShaped k old) (new : Numbers S U) (taken : new.taken ≡ old.taken) where
     abbrev Old : List (Batch U)
     Old = old.batches.items
@@ -538,20 +527,33 @@ module _ {Db S U : Type 0} (k : Kind Db S U) where
 
   -- ---- an apply
 
-  module _ (image : Image) (db : Db) (old : Numbers S U) (sh : IsShaped k old) (b : ℕ) (j : Holding) (at : held_in old.batches.items b ≡ Some j) {A E : Type 0} (r : Result A E)
-      (stands : (x : S) → item_at old.pool j.id ≡ Some x → Decides (is_ok r) (Contains ((k.bounds x).db ∷ (k.bounds x).ancestors) (k.state db))) where
-    there_in : (s : State Operation) → IsStateOf k image db old s → Held (same_lists k) old.batches.items old.pool s.batches b j
+  -- a batch that a side may apply is the one that is held
+  pub taken_there : (db : Db) (n : Numbers S U) (b : ℕ) → Takes k db n b → (j : Holding)
+      → held_in n.batches.items b ≡ Some j → (x : S) → item_at n.pool j.id ≡ Some x
+      → Decides true (Contains ((k.bounds x).db ∷ (k.bounds x).ancestors) (k.state db))
+  taken_there db n b takes j at x there =
+      let same : takes.holding ≡ j = same_Some _ _ (sym takes.held ∙ at) in
+      (λ e. takes.stands x (subst (λ (h : Holding). item_at n.pool h.id ≡ Some x) (sym same) there), λ is. refl)
+
+  module _ (image : Image) (db : Db) (old : Numbers S U) (b : ℕ) (j : Holding)
+      (at : held_in old.batches.items b ≡ Some j) (may : Bool)
+      (stands : (x : S) → item_at old.pool j.id ≡ Some x
+      → Decides may (Contains ((k.bounds x).db ∷ (k.bounds x).ancestors) (k.state db))) where
+    there_in : (s : State Operation) → IsStateOf k image db old s
+        → Held (same_lists k) old.batches.items old.pool s.batches b j
     there_in s is = held_there (same_lists k) old.batches.items old.pool s.batches is.batches b j at
 
     -- what the pool keeps of it
-    item_in : (s : State Operation) (is : IsStateOf k image db old s) → (e : HeldBatch S) × (item_at old.pool j.id ≡ Some e.item) × IsSealedAs k e.item (there_in s is).batch
+    item_in : (s : State Operation) (is : IsStateOf k image db old s)
+        → (e : HeldBatch S) × (item_at old.pool j.id ≡ Some e.item) × IsSealedAs k e.item (there_in s is).batch
     item_in s is =
         let t = there_in s is in
         let e = held_item (same_lists k) old.batches.items old.pool s.batches is.batches b j t in
         (e.0, item_is (same_lists k) old.batches.items old.pool s.batches is.batches b j t e.0 e.1, e.2.is)
 
     -- where size and root tell the lists of the state, it may be applied where they say so
-    applies : (s : State Operation) → IsTold s → (is : IsStateOf k image db old s) → may_apply one_list s (there_in s is).batch ≡ is_ok r
+    applies : (s : State Operation) → IsTold s → (is : IsStateOf k image db old s)
+        → may_apply one_list s (there_in s is).batch ≡ may
     applies s told is =
         let t = there_in s is in
         let c : batches.SealedBatch Operation = t.batch in
@@ -559,56 +561,78 @@ module _ {Db S U : Type 0} (k : Kind Db S U) where
         let x : S = e.0.item in
         let fits = e.2 in
         let bounds : AreBounds c.list (k.bounds x) = k.bounded c.list x fits.list in
-        let here = stands x e.1 in
-        let now = subst (λ (d : Commitment Mmr Sha256Digest). Decides (is_ok r) (Contains ((k.bounds x).db ∷ (k.bounds x).ancestors) d)) (k.state_is (kept_of s) image db is.log) here in
-        let test = one_answer (is_ok r) (stands_on same_state s c.list (k.bounds x).db.size (sizes (k.bounds x).ancestors)) now (stands_decides s c.list (k.bounds x).db (k.bounds x).ancestors bounds.db bounds.ancestors) in
-        sym (test ∙ stands_same same_state s c.list c.list (k.bounds x).db.size c.boundary (sizes (k.bounds x).ancestors) c.tips refl (sym fits.boundary) (sym fits.tips) ∙ told.applies b c t.machine)
+        let now = subst (λ (d : Commitment Mmr Sha256Digest).
+        Decides may (Contains ((k.bounds x).db ∷ (k.bounds x).ancestors) d))
+        (k.state_is (kept_of s) image db is.log) (stands x e.1) in
+        let test = one_answer may
+        (stands_on same_state s c.list (k.bounds x).db.size (sizes (k.bounds x).ancestors)) now
+        (stands_decides s c.list (k.bounds x).db (k.bounds x).ancestors bounds.db bounds.ancestors) in
+        sym (test ∙ stands_same same_state s c.list c.list (k.bounds x).db.size c.boundary
+        (sizes (k.bounds x).ancestors) c.tips refl (sym fits.boundary) (sym fits.tips) ∙ told.applies b c t.machine)
 
-    pub apply_refused : (tells : Type 0) → is_ok r ≡ false → Follows k (IsToldBy k tells) (λ s. apply s b (batch_at s b)) image image db db old old (answer.Refused StaleBatch)
-    apply_refused tells unlike = record {
-      shaped = sh;
-      follows = λ s told is.
+    -- else it is stale
+    pub refusal_stale : may ≡ false → (s : State Operation) → IsTold s → IsStateOf k image db old s
+        → Some StaleBatch ≡ refusal_in (apply s b (batch_at s b)).0
+    refusal_stale unlike s told is =
+        let t = there_in s is in
+        let done : apply s b (batch_at s b) ≡ refused s StaleBatch = ap (apply s b) t.machine
+        ∙ apply_stale s b t.batch t.held (applies s told is ∙ unlike) in
+        sym (ap (λ (o : Outcome). refusal_in o.0) done)
+
+    module _ (alike : may ≡ true) where
+      done_here : (s : State Operation) → IsTold s → (is : IsStateOf k image db old s)
+          → apply s b (batch_at s b) ≡ (answer.Applied, applied s (there_in s is).batch)
+      done_here s told is =
           let t = there_in s is in
-          meets image db old (apply s b (batch_at s b)) (refused s StaleBatch) (answer.Refused StaleBatch) (ap (apply s b) t.machine ∙ apply_stale s b t.batch t.held (applies s told.1 is ∙ unlike)) refl is;
-    }
+          ap (apply s b) t.machine ∙ apply_done s b t.batch t.held (applies s told is ∙ alike)
 
-    module _ (alike : is_ok r ≡ true) where
+      -- nothing refuses it
+      pub refusal_none : (s : State Operation) → IsTold s → IsStateOf k image db old s
+          → None ≡ refusal_in (apply s b (batch_at s b)).0
+      refusal_none s told is = sym (ap (λ (o : Outcome). refusal_in o.0) (done_here s told is))
+
       -- its list begins with the present one
-      begins_here : (s : State Operation) → IsTold s → (is : IsStateOf k image db old s) → (more : List Operation) × ((there_in s is).batch.list ≡ s.ops ++ more)
-      begins_here s told is = let c = (there_in s is).batch in begins_where s c.list c.boundary c.tips (applies s told is ∙ alike)
+      begins_here : (s : State Operation) → IsTold s → (is : IsStateOf k image db old s)
+          → (more : List Operation) × ((there_in s is).batch.list ≡ s.ops ++ more)
+      begins_here s told is =
+          let c = (there_in s is).batch in
+          begins_where s c.list c.boundary c.tips (applies s told is ∙ alike)
 
-      sealed_here : (s : State Operation) (told : IsTold s) (is : IsStateOf k image db old s) → k.is_sealed (s.ops ++ (begins_here s told is).0) (item_in s is).0.item
-      sealed_here s told is = subst (λ (l : List Operation). k.is_sealed l (item_in s is).0.item) (begins_here s told is).1 (item_in s is).2.list
+      sealed_here : (s : State Operation) (told : IsTold s) (is : IsStateOf k image db old s)
+          → k.is_sealed (s.ops ++ (begins_here s told is).0) (item_in s is).0.item
+      sealed_here s told is = subst (λ (l : List Operation). k.is_sealed l (item_in s is).0.item)
+          (begins_here s told is).1 (item_in s is).2.list
 
-      pub apply_follows : (tells : Type 0) (after : Image) (made : Db)
-          → (IsKnown k tells → (x : S) → item_at old.pool j.id ≡ Some x → (kept : Kept) (more : List Operation) → k.is_of kept image db → k.is_sealed (kept.ops ++ more) x → k.is_of (with_list kept (kept.ops ++ more)) after made)
-          → Follows k (IsToldBy k tells) (λ s. apply s b (batch_at s b)) image after db made old old answer.Applied
-      apply_follows tells after made goes = record {
-        shaped = sh;
-        follows = λ s told is.
-            let t = there_in s is in
-            let c : batches.SealedBatch Operation = t.batch in
-            let e = item_in s is in
-            let more = begins_here s told.1 is in
-            let log : k.is_of (with_list (kept_of s) (s.ops ++ more.0)) after made = goes told.0 e.0.item e.1 (kept_of s) more.0 is.log (sealed_here s told.1 is) in
-            meets after made old (apply s b (batch_at s b)) (answer.Applied, applied s c) answer.Applied (ap (apply s b) t.machine ∙ apply_done s b c t.held (applies s told.1 is ∙ alike)) refl
-            (record { log = subst (λ (l : List Operation). k.is_of (with_list (kept_of s) l) after made) (sym more.1) log; batches = is.batches; marks = is.marks });
-      }
+      -- with a database of that list it stands for what the apply leaves
+      pub apply_state : (tells : Type 0) (after : Image) (made : Db)
+          → (tells → (x : S) → item_at old.pool j.id ≡ Some x → (kept : Kept) (more : List Operation)
+          → k.is_of kept image db → k.is_sealed (kept.ops ++ more) x
+          → k.is_of (with_list kept (kept.ops ++ more)) after made)
+          → tells → (s : State Operation) → IsTold s → IsStateOf k image db old s
+          → IsStateOf k after made old (apply s b (batch_at s b)).1
+      apply_state tells after made goes tell s told is =
+          let e = item_in s is in
+          let more = begins_here s told is in
+          let log : k.is_of (with_list (kept_of s) (s.ops ++ more.0)) after made =
+          goes tell e.0.item e.1 (kept_of s) more.0 is.log (sealed_here s told is) in
+          subst (λ (o : Outcome). IsStateOf k after made old o.1) (sym (done_here s told is))
+          (record {
+            log = subst (λ (l : List Operation). k.is_of (with_list (kept_of s) l) after made) (sym more.1) log;
+            batches = is.batches;
+            marks = is.marks;
+          })
 
-      pub apply_answers : (s : State Operation) → IsTold s → IsStateOf k image db old s → answer.Applied ≡ (apply s b (batch_at s b)).0
-      apply_answers s told is =
-          let t = there_in s is in
-          let done : apply s b (batch_at s b) ≡ (answer.Applied, applied s t.batch) = ap (apply s b) t.machine ∙ apply_done s b t.batch t.held (applies s told is ∙ alike) in
-          sym (ap (λ (o : Outcome). o.0) done)
-
+      -- what an error says of a batch that may be applied
       pub apply_fails : (tells P : Type 0)
-          → (IsKnown k tells → (x : S) → item_at old.pool j.id ≡ Some x → (kept : Kept) (more : List Operation) → k.is_of kept image db → k.is_sealed (kept.ops ++ more) x
+          → (tells → (x : S) → item_at old.pool j.id ≡ Some x → (kept : Kept) (more : List Operation)
+          → k.is_of kept image db → k.is_sealed (kept.ops ++ more) x
           → Contains ((k.bounds x).db ∷ (k.bounds x).ancestors) (k.state db) → P)
-          → (s : State Operation) → IsToldBy k tells s → IsStateOf k image db old s → P
-      apply_fails tells P fails = λ s told is.
+          → tells → (s : State Operation) → IsTold s → IsStateOf k image db old s → P
+      apply_fails tells P fails tell s told is =
           let x = item_in s is in
-          let more = begins_here s told.1 is in
-          fails told.0 x.0.item x.1 (kept_of s) more.0 is.log (sealed_here s told.1 is) ((stands x.0.item x.1).0 alike)
+          let more = begins_here s told is in
+          fails tell x.0.item x.1 (kept_of s) more.0 is.log (sealed_here s told is)
+          ((stands x.0.item x.1).0 alike)
 
   -- ---- a side of no batches
 

@@ -3,7 +3,7 @@ use Rattle.std.proofs.Common.{◌≡◌, ◌≢◌, ℕ, Bool, true, false, ◌|
 use Rattle.std.specs.Cmp.Lexicographic.{bytes_decides}
 use Rattle.twin_run.specs.ConfigNames.{same_name, are_names_same}
 
-told_apart : (a b : List ℕ) → same_name a b ≡ false → (a ≡ b → ⊥)
+pub told_apart : (a b : List ℕ) → same_name a b ≡ false → (a ≡ b → ⊥)
 told_apart a b e is = absurd (let never : false ≡ true = sym e ∙ (bytes_decides a b).1 is in cc)
 
 none : (a b c d e f : Bool) → (a || b || c || d || e || f) ≡ false → (a ≡ false) × (b ≡ false) × (c ≡ false) × (d ≡ false) × (e ≡ false) × (f ≡ false)

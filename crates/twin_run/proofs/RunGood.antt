@@ -1,12 +1,12 @@
 -- Each step keeps a state good.
 use Rattle.std.proofs.Common.{◌≡◌, ℕ, zero, suc, ◌+◌, ◌-◌, ◌<◌, ◌≤◌, false, List, [], ◌∷◌, length, drop, get_or, Option, Some, None, refl, sym, ◌∙◌, ap, subst, arith}
-use Rattle.std.specs.Prelude.{nat_lt, nat_le, slice_set, IfSome, Contains}
+use Rattle.std.specs.Prelude.{nat_lt, nat_le, slice_index_or, slice_set, IfSome, Contains}
 use Rattle.std.specs.List.{flat_map}
 use Rattle.std.proofs.lemmas.Bool.Decides.{nat_tests}
 use Rattle.std.proofs.lemmas.List.{drop_more}
 use Rattle.std.proofs.lemmas.List.Elements.{Contains-append_left, Contains-append_right}
 use Rattle.log_model.specs.StateBatches.{Batch, UnsealedBatch, SealedBatch, Unsealed, Sealed, Gone, size_of, appended, is_held}
-use Rattle.log_model.specs.Good.{AnyList, IsGood}
+use Rattle.log_model.specs.Good.{AnyList, IsGood, IsGoodBatch, HasParent}
 use Rattle.log_model.specs.Machine.{State, max_leaves, batch_at, with_batch, begun, fresh, applied, committed, synced, pruned, snapshot_taken, sealed_list, lists_here}
 use Rattle.log_model.specs.Operations.{floor_of}
 use Rattle.log_model.specs.Reach.{may_apply, sealed_here}
@@ -147,6 +147,7 @@ stay_good_among among config s (command.BatchGetMany b ls) known g = kept_good a
 stay_good_among among config s command.Size known g = g
 stay_good_among among config s command.Metadata known g = g
 stay_good_among among config s (command.Proof n a count) known g = kept_good among config.value_limit s g _ (unless_keeps s _ _)
+stay_good_among among config s (command.CommitProof n) known g = kept_good among config.value_limit s g _ (unless_keeps s _ _)
 stay_good_among among config s command.Commit known g = commit_good among config.value_limit s g
 stay_good_among among config s command.Sync known g = sync_good among config.value_limit s g
 stay_good_among among config s command.StartSync known g = sync_good among config.value_limit s g
@@ -209,12 +210,31 @@ pub record IsOnWay (config : Config) (first : State Operation) (all : List Comma
   pub good : IsGoodState (Contains (lists_passed config first all)) config.value_limit s
   pub known : (list : List Operation) → Contains (lists_passed config s left) list → Contains (lists_passed config first all) list
 
--- over a fresh volume it begins
-pub way_begins : (config : Config) (all : List Command) → IsOnWay config fresh_state all fresh_state all
-way_begins config all = record {
-  good = fresh_good_among (Contains (lists_passed config fresh_state all)) config.value_limit (here_passed config fresh_state all (plain_commit ∷ []) (0, omega arith, refl));
-  known = λ list has. has;
-}
+-- it begins in a good state without batches, whose one list is its own
+pub way_begins : (config : Config) (now : State Operation) (all : List Command)
+    → IsGoodState AnyList config.value_limit now → now.batches ≡ [] → IsOnWay config now all now all
+way_begins config now all g still =
+    let among = Contains (lists_passed config now all) in
+    let allowed = Allowed config.value_limit in record {
+      good = record {
+        good = record {
+          ops = record {
+            begins = g.good.ops.begins;
+            stand = (g.good.ops.stand.0, here_passed config now all now.ops (0, omega arith, refl));
+            few = g.good.ops.few;
+            values = g.good.ops.values;
+            floors = g.good.ops.floors;
+          };
+          log = g.good.log;
+          batches = λ b. subst (λ (bs : List (Batch Operation)). IsGoodBatch meaning among allowed plain_commit
+              (slice_index_or bs b Gone)) (sym still) tt;
+          parents = λ b. subst (λ (bs : List (Batch Operation)). HasParent now b (slice_index_or bs b Gone))
+              (sym still) tt;
+        };
+        some = g.some;
+      };
+      known = λ list has. has;
+    }
 
 module _ (config : Config) (first : State Operation) (all : List Command) (s : State Operation) where
   way_goes : (c : Command) (left : List Command) → IsOnWay config first all s (c ∷ left) → IsOnWay config first all (step config s c).1 left

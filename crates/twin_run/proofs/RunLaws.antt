@@ -62,6 +62,7 @@ questions_are_kept = record {
   size = λ config s. refl;
   metadata = λ config s. refl;
   proof = λ n a count config s. unless_keeps s _ _;
+  commit_proof = λ n config s. unless_keeps s _ _;
 }
 
 -- ---- durability
@@ -149,6 +150,7 @@ step_grows config s (command.BatchGetMany b ls) = keeps_grows s _ (batch_get_man
 step_grows config s command.Size = omega arith
 step_grows config s command.Metadata = omega arith
 step_grows config s (command.Proof n a count) = keeps_grows s _ (unless_keeps s _ _)
+step_grows config s (command.CommitProof n) = keeps_grows s _ (unless_keeps s _ _)
 step_grows config s command.Commit = omega arith
 step_grows config s command.Sync = omega arith
 step_grows config s command.StartSync = omega arith
@@ -294,6 +296,7 @@ keep config s (command.BatchGetMany b ls) r is = batch_get_many_keeps s b ls (ba
 keep config s command.Size r is = absurd (cc)
 keep config s command.Metadata r is = absurd (cc)
 keep config s (command.Proof n a count) r is = unless_keeps s _ _
+keep config s (command.CommitProof n) r is = unless_keeps s _ _
 keep config s command.Commit r is = absurd (cc)
 keep config s command.Sync r is = absurd (cc)
 keep config s command.StartSync r is = absurd (cc)

@@ -24,7 +24,7 @@ use Rattle.twin_run.specs.Commitments.{commitment_of, same_state}
 use Rattle.twin_run.specs.GoodRuns.{IsGoodState}
 use Rattle.twin_run.specs.Told.{StatesAreTold}
 
-abbrev Allowed : ℕ → List ℕ → Type 0
+abbrev pub Allowed : ℕ → List ℕ → Type 0
 Allowed limit v = length v ≤ limit
 
 -- ---- operations of a good list have one spelling
@@ -33,17 +33,17 @@ abbrev pub Admits : ℕ → Operation → Type 0
 Admits limit op = variable_admits (admits_bytes limit) (parts op)
 
 -- the operation at location i of a list that a tree can hold
-admits_one : (limit low i : ℕ) (op : Operation) → limit < 2 ^ 64 → i < 2 ^ 62 → IfSome (meaning.value op) (Allowed limit) → FloorFits low i (meaning.floor op) → Admits limit op
+pub admits_one : (limit low i : ℕ) (op : Operation) → limit < 2 ^ 64 → i < 2 ^ 62 → IfSome (meaning.value op) (Allowed limit) → FloorFits low i (meaning.floor op) → Admits limit op
 admits_one limit low i (Append v) small few value floor = (value, omega arith)
 admits_one limit low i (Commit None floor) small few value fits = (tt, (omega (arith, fits.1), omega (arith, fits.1)))
 admits_one limit low i (Commit (Some v) floor) small few value fits = ((value, omega arith), (omega (arith, fits.1), omega (arith, fits.1)))
 
-admits_all : (limit low i : ℕ) (ops : List Operation) → limit < 2 ^ 64 → i + length ops ≤ 2 ^ 62 → ValuesAre meaning (Allowed limit) ops → FloorsRise meaning low i ops → AllByRecursion (Admits limit) ops
+pub admits_all : (limit low i : ℕ) (ops : List Operation) → limit < 2 ^ 64 → i + length ops ≤ 2 ^ 62 → ValuesAre meaning (Allowed limit) ops → FloorsRise meaning low i ops → AllByRecursion (Admits limit) ops
 admits_all limit low i [] small few values floors = tt
 admits_all limit low i (op ∷ ops) small few values floors =
     (admits_one limit low i op small (omega arith) values.0 floors.0, admits_all limit (unwrap_or (meaning.floor op) low) (i + 1) ops small (omega arith) values.1 floors.1)
 
-all_take : (P : Operation → Type 0) (n : ℕ) (ops : List Operation) → AllByRecursion P ops → AllByRecursion P (take n ops)
+pub all_take : (P : Operation → Type 0) (n : ℕ) (ops : List Operation) → AllByRecursion P ops → AllByRecursion P (take n ops)
 all_take P zero ops all = tt
 all_take P (suc n) [] all = tt
 all_take P (suc n) (op ∷ ops) all = (all.0, all_take P n ops all.1)

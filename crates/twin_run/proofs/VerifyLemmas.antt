@@ -20,7 +20,7 @@ abbrev pub AnswersVerify : Type 0
 AnswersVerify = (ops : List Operation) (start n a most : ℕ) → length ops ≤ 2 ^ 62 → 0 < most → proof_refusal meaning ops start n a ≡ None
     → Checks mmr sha ForwardFold (proof_answer mmr sha meaning {F = Mmr} ops n a (proof_end n a most)).0 a (map meaning.encoding (proof_answer mmr sha meaning {F = Mmr} ops n a (proof_end n a most)).1) (root_of mmr sha meaning (take n ops))
 
-some_count : (count : NonZeroU64) → 0 < non_zero_u64_get count
+pub some_count : (count : NonZeroU64) → 0 < non_zero_u64_get count
 some_count count = omega (arith, count.ok)
 
 module _ (s : State Operation) (n a : ℕ) (count : NonZeroU64) (p : ProofAnswer) (few : length s.ops ≤ 2 ^ 62) (law : AnswersVerify) where

@@ -22,6 +22,7 @@ use Rattle.compact_db.specs.DbView.{DbView, commitment_in, floor_in, seen_log}
 use Rattle.compact_db.specs.Held.{IsHeldFor, IsSizeOf}
 use Rattle.compact_db.specs.WitnessOf.{witness_of}
 use Rattle.compact_db.proofs.DbLemmas.{state_of_list, floor_of_list}
+use Rattle.twin_run.specs.Config.{Config}
 use Rattle.twin_run.specs.Operation.{Operation, meaning, sha}
 use Rattle.twin_run.specs.Kind.{Kind, Kept}
 use Rattle.twin_run.specs.Step.{plain_commit}
@@ -53,12 +54,17 @@ at_rest image = record {
 abbrev pub IsHeldAt : List Operation → List ℕ → CompactView → State → Type 0
 IsHeldAt ops sizes db state = IsHeldFor mmr sha meaning bytes_of IsDigest ops sizes db state
 
--- The log has the witnesses of what is kept, from where they are kept, and the database is the list's. There are no more
--- sizes than operations.
+-- The log has the witnesses of what is kept, from where they are kept, and the database is the list's. There are no
+-- more sizes than operations.
 pub record IsCompactOf (kept : Kept) (image : Image) (db : CompactView) : Type 0 where
   pub held : IsHeldAt kept.ops kept.sizes db (at_rest image)
   pub few : length kept.sizes ≤ length kept.ops
   pub begins : (image.log (seen_log db.log).name).start ≡ kept.wstart
+
+-- The blobs of its log have so many witnesses, and values that are read have at most this length.
+pub record IsCompactUnder (config : Config) (db : CompactView) : Type 0 where
+  pub blob : (seen_log db.log).blob ≡ config.witness_blob
+  pub codec : db.codec ≡ record { max = config.value_limit }
 
 -- What is kept of a list up to a size, which is the last of so many, from these places on.
 abbrev pub kept_to : List Operation → List ℕ → (count size start wstart : ℕ) → Kept
@@ -67,10 +73,11 @@ kept_to ops sizes count size start wstart = record {
   sizes = take count sizes;
   start = start;
   wstart = wstart;
+  leaves = size;
 }
 
--- What stands on the volume of a state can be opened: its list begins with the first commit, a tree can hold it, and each
--- operation is allowed and has less than 2^64 bytes.
+-- What stands on the volume of a state can be opened: its list begins with the first commit, a tree can hold it, and
+-- each operation is allowed and has less than 2^64 bytes.
 pub record IsOpenable (allowed : Operation → Type 0) (s : run.State Operation) : Type 0 where
   pub log : IsGoodLog meaning s
   pub begins : take 1 s.ops ≡ plain_commit ∷ []
@@ -97,8 +104,8 @@ held_over ops sizes db was is same held = record {
   last = held.last;
 }
 
--- A sealed batch is of its list, and has a mark at each state of its chain; the marks of an unsealed one are those of its
--- segments. It keeps its log of witnesses on a volume.
+-- A sealed batch is of its list, and has a mark at each state of its chain; the marks of an unsealed one are those of
+-- its segments. It keeps its log of witnesses on a volume.
 abbrev pub compact_kind : Kind CompactView SealedView UnsealedView
 compact_kind = record {
   is_of = IsCompactOf;
@@ -111,13 +118,11 @@ compact_kind = record {
   base = λ u. u.base;
   pending = λ u. u.pending;
   parent = λ u. u.parent;
-  is_under = λ config db. (seen_log db.log).blob ≡ config.witness_blob;
+  is_under = λ config db. IsCompactUnder config db;
   is_sound = λ db. (seen_log db.log).failed ≡ false;
   is_durable = λ db state. IsDurable (seen_log db.log) state;
   is_synced = λ db state. IsDurable (seen_log db.log) state;
   names = λ db. log_alone (seen_log db.log).name;
-  in_memory = ⊥;
-  nothing = λ memory db. absurd memory;
   state_is = λ kept image db is.
       state_of_list mmr sha meaning kept.ops db.tip db.tree db.commit is.held.list (commitment_in db) refl refl;
   floor_is = λ kept image db is.

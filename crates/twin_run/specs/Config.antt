@@ -4,7 +4,8 @@ use Rattle.twin_run.specs.ConfigNames.{are_names_same}
 use Rattle.twin_run.specs.declared.config.ConfigError.{ConfigError}
 use Rattle.twin_run.specs.declared.config.ConfigError.TheVariants.{ZeroBlob, ZeroBatch, SameName, ValueLimit}
 
--- the names of the operation log, the node log, the map and the witness log; how many items a blob of each log has; how many items are replayed at a time; the greatest length of a value
+-- the names of the operation log, the node log, the map and the witness log; how many items a blob of each log has; how
+-- many items are replayed at a time; the greatest length of a value
 pub record Config : Type 0 where
   pub log : List ℕ
   pub nodes : List ℕ

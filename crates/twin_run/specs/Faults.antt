@@ -1,28 +1,99 @@
--- Which fault an error of a database is.
+-- Which fault an error of a database is, and which one it is where both databases of a run differ.
+use Rattle.std.specs.Prelude.{◌≡◌, ◌≢◌, ◌⊎◌, ℕ, List, Option, Some, None, Result}
 use Rattle.chain_core.specs.Answers.{IsOutside}
+use Rattle.chain_core.specs.declared.commitment.Commitment.{Commitment}
 use Rattle.chain_core.specs.declared.error.Error.{Error}
 use Rattle.chain_core.specs.declared.error.Error.TheVariants as error
+use Rattle.codec_base.specs.Combine.{through_at}
+use Rattle.codec_base.specs.Parts.{byte_list_at, whole}
+use Rattle.codec_base.specs.declared.error.CodecError.{CodecError}
+use Rattle.op_codec.specs.Keyless.{of_parts, variable_at}
+use Rattle.compact_db.specs.Opening.{IsOpeningFault}
+use Rattle.keyless_db.specs.Opening.{IsOfOpening}
+use Rattle.log_model.specs.declared.refusal.Refusal.{Refusal}
+use Rattle.log_model.specs.declared.refusal.Refusal.TheVariants as refusal
+use Rattle.tree_shape.specs.Mmr.{mmr}
 use Rattle.tree_shape.specs.declared.mmr.Mmr.{Mmr}
+use Rattle.tree_shape.specs.declared.sha256.Sha256Digest.{Sha256Digest}
+use Rattle.tree_store.specs.declared.error.Error.TheVariants as tree_error
+use Rattle.twin_run.specs.Config.{Config}
+use Rattle.twin_run.specs.Operation.{Operation, meaning}
 use Rattle.twin_run.specs.declared.ending.Fault.{Fault}
-use Rattle.twin_run.specs.declared.ending.Fault.TheVariants.{Volume, Corrupt, NotFresh, Memory}
-use Rattle.twin_run.specs.declared.ending.CorruptAt.TheVariants.{Full}
+use Rattle.twin_run.specs.declared.ending.Fault.TheVariants.{Volume, Corrupt, Memory}
+use Rattle.twin_run.specs.declared.ending.CorruptAt.TheVariants.{Full, Compact, Sizes, Roots}
 
 -- The fault that an error of the full database is: what doesn't come from outside lies in the contents.
-abbrev pub fault_of : Error Mmr → Fault
-fault_of error.Volume = Volume
-fault_of error.Memory = Memory
-fault_of e = Corrupt (Full e)
+abbrev pub full_fault : Error Mmr → Fault
+full_fault error.Volume = Volume
+full_fault error.Memory = Memory
+full_fault e = Corrupt (Full e)
+
+-- The fault that an error of the compact database is.
+abbrev pub compact_fault : Error Mmr → Fault
+compact_fault error.Volume = Volume
+compact_fault error.Memory = Memory
+compact_fault e = Corrupt (Compact e)
 
 -- The volume holds no valid state.
 abbrev pub IsCorrupt : Fault → Type 0
 IsCorrupt (Corrupt at) = Unit {0}
 IsCorrupt Volume = ⊥
-IsCorrupt NotFresh = ⊥
 IsCorrupt Memory = ⊥
 
--- The error that is told of contents, where one is, is none of the volume and no want of memory.
+-- Where a fault is told of contents, its error is none of the volume and no want of memory, and its sizes or roots
+-- differ.
 abbrev pub IsOwnFault : Fault → Type 0
 IsOwnFault (Corrupt (Full e)) = IsOutside e → ⊥
+IsOwnFault (Corrupt (Compact e)) = IsOutside e → ⊥
+IsOwnFault (Corrupt (Sizes full compact)) = full ≢ compact
+IsOwnFault (Corrupt (Roots full compact)) = full ≢ compact
 IsOwnFault Volume = Unit {0}
-IsOwnFault NotFresh = Unit {0}
 IsOwnFault Memory = Unit {0}
+
+-- ---- openings
+
+-- The operation of which these are the bytes, whose value has at most this length; or why they are none's.
+abbrev pub decoded_under : ℕ → List ℕ → Result Operation CodecError
+decoded_under limit bytes = whole (through_at of_parts (variable_at (byte_list_at limit)) bytes)
+
+-- An error of an opening of the full database under a cap, or none, whatever the volume holds: one of its journal's, or
+-- that the last operation is no commit; or a cap of 0.
+abbrev pub IsOfFullOpening : Option ℕ → Error Mmr → Type 0
+IsOfFullOpening cap e = IsOfOpening e ⊎ ((cap ≡ Some 0) × (e ≡ error.InvalidInitializationBound))
+
+-- An error of an opening of the compact database under a configuration, and a cap other than 0, whatever the volume
+-- holds.
+abbrev pub IsOfCompactOpening : Config → Option ℕ → Error Mmr → Type 0
+IsOfCompactOpening config cap e = IsOpeningFault Sha256Digest mmr meaning (decoded_under config.value_limit) cap e
+
+-- Where an opening of both databases ends with what a database keeps, the error is one of that database's opening; of
+-- the full one's under a cap of 0 only where the volume doesn't tell its contents.
+pub record IsOfOpenings (tells : Type 0) (config : Config) (fault : Fault) : Type 0 where
+  pub full : (e : Error Mmr) → fault ≡ Corrupt (Full e)
+      → (cap : Option ℕ) × (tells → cap ≢ Some 0) × IsOfFullOpening cap e
+  pub compact : (e : Error Mmr) → fault ≡ Corrupt (Compact e)
+      → (cap : Option ℕ) × (cap ≢ Some 0) × IsOfCompactOpening config cap e
+
+-- ---- both databases
+
+-- The error that a refusal of a command on batches or of a prune is; of one that no database has, that a batch doesn't
+-- fit.
+abbrev pub error_of : Refusal → Error Mmr
+error_of (refusal.LocationOverflow size) = error.Merkle (tree_error.LocationOverflow size)
+error_of (refusal.FloorRegressed floor below) = error.FloorRegressed floor below
+error_of (refusal.FloorBeyondSize floor location) = error.FloorBeyondSize floor location
+error_of (refusal.PruneBeyondMinRequired location floor) = error.PruneBeyondMinRequired location floor
+error_of _ = error.StaleBatch
+
+-- The fault where one database refuses, and the other doesn't.
+abbrev pub fault_alone : (full compact : Option Refusal) → Option Fault
+fault_alone (Some why) None = Some (Corrupt (Full (error_of why)))
+fault_alone None (Some why) = Some (Corrupt (Compact (error_of why)))
+fault_alone None None = None
+fault_alone (Some why) (Some other) = None
+
+-- A fault tells of two states that their sizes differ, or where these are one their roots.
+abbrev pub TellsUnlike : (full compact : Commitment Mmr Sha256Digest) → Fault → Type 0
+TellsUnlike full compact fault =
+    ((fault ≡ Corrupt (Sizes full.size compact.size)) × (full.size ≢ compact.size))
+    ⊎ ((fault ≡ Corrupt (Roots full.root compact.root)) × (full.size ≡ compact.size) × (full.root ≢ compact.root))

@@ -1,15 +1,20 @@
 -- What the full database and its batches stand for.
-use Rattle.std.specs.Prelude.{◌≡◌, ℕ, List, false}
+use Rattle.std.specs.Prelude.{◌≡◌, ◌⊎◌, ℕ, zero, suc, ◌<◌, ◌≤◌, ◌^◌, List, [], ◌∷◌, ◌++◌, length, take, slice_get, Option, Some, false}
 use Rattle.std.proofs.Common.{ap, sym, ◌∙◌, subst}
 use Rattle.volume_base.specs.Log.{Log, end_of}
 use Rattle.volume_base.specs.Moments.{Image}
+use Rattle.volume_base.specs.Volume.{Map}
 use Rattle.journal_base.specs.Items.{Spells}
-use Rattle.journal_base.specs.View.{IsDurable}
+use Rattle.journal_base.specs.View.{IsDurable, capped}
 use Rattle.tree_shape.specs.Mmr.{mmr}
 use Rattle.tree_shape.specs.Sha256Codec.{bytes_of, IsDigest}
 use Rattle.tree_shape.specs.declared.mmr.Mmr.{Mmr}
 use Rattle.tree_shape.specs.declared.sha256.Sha256Digest.{Sha256Digest}
+use Rattle.codec_base.specs.Parts.{admits_bytes}
 use Rattle.codec_base.specs.declared.parts.LengthCfg.{LengthCfg}
+use Rattle.tree_store.specs.Stored.{TreeStands, size}
+use Rattle.op_codec.specs.Keyless.{parts, variable_admits}
+use Rattle.log_model.specs.Opening.{last_commit}
 use Rattle.merkle_full.proofs.FullLemmas.{full_later}
 use Rattle.auth_journal.specs.Joined.{leaves_of}
 use Rattle.auth_journal.specs.Standing.{names_of}
@@ -19,6 +24,7 @@ use Rattle.keyless_db.proofs.DbLemmas.{floor_of_list}
 use Rattle.twin_run.specs.Config.{Config}
 use Rattle.twin_run.specs.Operation.{Operation, meaning, sha}
 use Rattle.twin_run.specs.Kind.{Kind, Kept}
+use Rattle.twin_run.specs.Step.{plain_commit}
 
 -- The full database of the run, its sealed batches, and those that take appends.
 abbrev pub FullView : Type 0
@@ -41,10 +47,12 @@ IsSealedBatchOf list x = IsMerkleizedOf mmr sha meaning meaning.encoding list x
 abbrev pub IsUnsealedBatchOf : List Operation → UnsealedView → Type 0
 IsUnsealedBatchOf list u = IsUnmerkleizedOf mmr sha meaning meaning.encoding list u
 
--- The log has what is kept of the list, from where it is kept, and the database is the list's.
+-- The log has what is kept of the list, from where it is kept, and the database is the list's. The node log reaches the
+-- end of the nodes that are kept.
 pub record IsFullDbOf (kept : Kept) (image : Image) (db : FullView) : Type 0 where
   pub held : IsHeldIn kept.ops db image
   pub begins : (image.log db.journal.items.name).start ≡ kept.start
+  pub reaches : size mmr kept.leaves ≤ end_of (image.log db.journal.tree.log.name)
 
 -- The blobs of its logs have so many operations and nodes, and values that are read have at most this length.
 pub record IsFullUnder (config : Config) (db : FullView) : Type 0 where
@@ -52,9 +60,50 @@ pub record IsFullUnder (config : Config) (db : FullView) : Type 0 where
   pub nodes : db.journal.tree.log.blob ≡ config.node_blob
   pub codec : db.journal.items.codec ≡ record { max = config.value_limit }
 
--- What is kept of a log that is opened.
+-- What is kept of a log that is opened: the nodes of all its operations.
 abbrev pub kept_full : List Operation → List ℕ → (start wstart : ℕ) → Kept
-kept_full ops sizes start wstart = record { ops = ops; sizes = sizes; start = start; wstart = wstart }
+kept_full ops sizes start wstart = record {
+  ops = ops;
+  sizes = sizes;
+  start = start;
+  wstart = wstart;
+  leaves = length ops;
+}
+
+-- ---- what it is opened from
+
+-- The size up to which a list is opened: the end of its last commit within a cap, or of the last of all; 0 where there
+-- is none.
+abbrev pub full_end : Option ℕ → List Operation → ℕ
+full_end cap list = last_commit meaning (capped cap (length list)) list
+
+-- What is opened of a list up to this size; at 0 it is the first commit alone.
+abbrev pub opened_list : ℕ → List Operation → List Operation
+opened_list zero list = plain_commit ∷ []
+opened_list (suc n) list = take (suc n) list
+
+-- Under a cap, or none, logs and a map stand for a list: the first log has its operations up to the list's end, and
+-- values of at most this length; node log and map stand for its leaves, and perhaps for more behind them, under no
+-- boundary past the first log's start. The last commit within the cap is kept; or the log begins at 0, and there is
+-- none. So many leaves' nodes are durable: those before the log's start at least, and none past that commit.
+pub record HasFullStart (limit : ℕ) (log nodes : Log) (pins : Map) (cap : Option ℕ)
+    (list : List Operation) : Type 0 where
+  pub rest : List Operation
+  pub durable : ℕ
+  pub spelled : Spells meaning.encoding list log
+  pub few : length (list ++ rest) ≤ 2 ^ 62
+  pub allowed : (i : ℕ) (op : Operation) → slice_get list i ≡ Some op
+      → variable_admits (admits_bytes limit) (parts op)
+  pub tree : TreeStands mmr sha bytes_of (leaves_of mmr sha meaning.encoding (list ++ rest)) durable log.start nodes
+      pins
+  pub low : log.start ≤ durable
+  pub reached : durable ≤ full_end cap list
+  pub some : (log.start < full_end cap list) ⊎ ((full_end cap list ≡ 0) × (log.start ≡ 0))
+
+-- So it is of the contents of a volume, by the names and the limit of a configuration.
+abbrev pub IsFullStart : Config → Image → Option ℕ → List Operation → Type 0
+IsFullStart config image cap list =
+    HasFullStart config.value_limit (image.log config.log) (image.log config.nodes) (image.map config.metadata) cap list
 
 -- It reads no more of a volume than its two logs and its map.
 pub held_over : (ops : List Operation) (db : FullView) (was is : Image)
@@ -92,8 +141,6 @@ full_kind = record {
   is_durable = λ db state. IsDurable db.journal.items state;
   is_synced = λ db state. IsDurable db.journal.items state × IsDurable db.journal.tree.log state;
   names = λ db. names_of db.journal;
-  in_memory = ⊥;
-  nothing = λ memory db. absurd memory;
   state_is = λ kept image db is. is.held.db_of.state_is;
   floor_is = λ kept image db is. floor_of_list mmr sha meaning meaning.encoding kept.ops db is.held.db_of;
   bounded = λ list x is. is.0.batch.bounds;
@@ -101,5 +148,6 @@ full_kind = record {
   framed = λ kept image other db logs maps is. record {
     held = held_over kept.ops db image other logs.0 logs.1.0 maps.0 is.held;
     begins = ap (λ (l : Log). l.start) logs.0 ∙ is.begins;
+    reaches = subst (λ (l : Log). size mmr kept.leaves ≤ end_of l) (sym logs.1.0) is.reaches;
   };
 }

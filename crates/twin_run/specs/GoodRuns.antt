@@ -9,7 +9,8 @@ use Rattle.command_text.specs.declared.command.Command.{Command}
 use Rattle.twin_run.specs.Step.{Outcome, plain_commit, begin, append_to, seal, apply, hold, release, snapshot, get, get_many, batch_get, batch_get_many, size, metadata, prove, prove_commit, commit, sync, start_sync, prune}
 use Rattle.twin_run.specs.Trace.{state_after, fresh_state}
 
--- A good state of which something is durable, and whose values and metadata have at most this length; the log's list, each batch's, and each up to a base, a boundary or a tip are among these lists.
+-- A good state of which something is durable, and whose values and metadata have at most this length; the log's list,
+-- each batch's, and each up to a base, a boundary or a tip are among these lists.
 abbrev pub IsGoodState : (List Operation → Type 0) → ℕ → State Operation → Type 0
 IsGoodState among limit s = good.IsGoodState meaning among (λ (v : List ℕ). length v ≤ limit) plain_commit s
 

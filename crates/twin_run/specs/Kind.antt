@@ -15,29 +15,42 @@ use Rattle.twin_run.specs.Config.{Config}
 use Rattle.twin_run.specs.Operation.{Operation, meaning}
 use Rattle.twin_run.specs.Commitments.{commitment_of, AreBounds}
 
--- What a database may keep of a state: the list, the sizes at which it stood, and from where on its operations and its witnesses are kept.
+-- What a database may keep of a state: the list, the sizes at which it stood, from where on its operations and its
+-- witnesses are kept, and of how many operations the tree's nodes are kept.
 pub record Kept : Type 0 where
   pub ops : List Operation
   pub sizes : List ℕ
   pub start : ℕ
   pub wstart : ℕ
+  pub leaves : ℕ
 
 abbrev pub kept_of : State Operation → Kept
-kept_of s = record { ops = s.ops; sizes = s.sizes; start = s.start; wstart = s.wstart }
+kept_of s = record {
+  ops = s.ops;
+  sizes = s.sizes;
+  start = s.start;
+  wstart = s.wstart;
+  leaves = s.node_durable;
+}
 
 -- The same with another list, whose length is one more size where it is longer.
 abbrev pub with_list : Kept → List Operation → Kept
 with_list kept list = record kept { ops = list; sizes = sizes_with kept.sizes (length kept.ops) (length list) }
 
--- The same, pruned to a location under a configuration.
+-- The same, with the nodes of all operations.
+abbrev pub kept_synced : Kept → Kept
+kept_synced kept = record kept { leaves = length kept.ops }
+
+-- So it is, pruned to a location under a configuration.
 abbrev pub kept_pruned : Config → Kept → ℕ → Kept
-kept_pruned c kept l = record kept {
+kept_pruned c kept l = record (kept_synced kept) {
   start = max kept.start (by_blobs c.log_blob l);
   wstart = max kept.wstart (by_blobs c.witness_blob (first_at_least l kept.sizes));
 }
 
--- A database is, with these contents of a volume, of what it keeps, and has a state and a floor. A sealed batch is of a list, and carries its
--- states. An unsealed one stands on a list, has appends behind it, and names its parent in the pool; its chain has marks at these sizes.
+-- A database is, with these contents of a volume, of what it keeps, and has a state and a floor. A sealed batch is of a
+-- list, and carries its states. An unsealed one stands on a list, has appends behind it, and names its parent in the
+-- pool; its chain has marks at these sizes.
 pub record Kind (Db Sealed Unsealed : Type 0) : Type 1 where
   pub is_of : Kept → Image → Db → Type 0
   pub is_sealed : List Operation → Sealed → Type 0
@@ -58,9 +71,6 @@ pub record Kind (Db Sealed Unsealed : Type 0) : Type 1 where
   pub is_synced : Db → volume.State → Type 0
   -- the logs and maps that it keeps on a volume
   pub names : Db → Names
-  -- it keeps nothing on a volume
-  pub in_memory : Type 0
-  pub nothing : in_memory → (db : Db) → names db ≡ record { logs = []; maps = [] }
   -- the states and the floor are the lists'
   pub state_is : (kept : Kept) (image : Image) (db : Db) → is_of kept image db → state db ≡ commitment_of kept.ops
   pub floor_is : (kept : Kept) (image : Image) (db : Db) → is_of kept image db → floor db ≡ floor_of meaning kept.ops
@@ -73,10 +83,6 @@ pub record Kind (Db Sealed Unsealed : Type 0) : Type 1 where
       → is_of kept image db → is_of kept other db
 
 module _ {Db S U : Type 0} (k : Kind Db S U) where
-  -- What it says of contents is known: it keeps none, or the volume tells them.
-  abbrev pub IsKnown : Type 0 → Type 0
-  IsKnown tells = k.in_memory ⊎ tells
-
   -- How many operations an unsealed batch has, with its appends.
   abbrev pub size_of : U → ℕ
   size_of u = (k.base u).size + length (k.pending u)

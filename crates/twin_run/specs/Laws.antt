@@ -1,13 +1,14 @@
 -- Laws of whole runs, and of a refusal.
-use Rattle.std.specs.Prelude.{◌≡◌, ℕ, Bool, true, false, List, ◌++◌, length, take, slice_get, Some, if◌then◌else◌}
+use Rattle.std.specs.Prelude.{◌≡◌, ℕ, ◌-◌, ◌<◌, Bool, true, false, List, [], ◌++◌, length, take, slice_get, Some, if◌then◌else◌}
 use Rattle.std.specs.List.Sorted.{IsNonDecreasingBy}
+use Rattle.volume_base.specs.Moments.{Image}
 use Rattle.std.specs.declared.num.NonZeroU64.{NonZeroU64}
 use Rattle.tree_shape.specs.Mmr.{mmr}
 use Rattle.tree_shape.specs.declared.bagging.Bagging.TheVariants.{ForwardFold}
 use Rattle.tree_proof.specs.Check.{Checks}
 use Rattle.log_model.specs.Good.{AnyList}
 use Rattle.log_model.specs.StateBatches.{Gone}
-use Rattle.log_model.specs.Machine.{State, with_batch}
+use Rattle.log_model.specs.Machine.{State, with_batch, synced}
 use Rattle.twin_run.specs.Config.{Config}
 use Rattle.twin_run.specs.Operation.{Operation, sha}
 use Rattle.command_text.specs.declared.command.Command.{Command}
@@ -19,12 +20,14 @@ use Rattle.command_text.specs.declared.command.ProofAnswer.{ProofAnswer}
 use Rattle.command_text.specs.declared.command.Reply.{Reply}
 use Rattle.twin_run.specs.Step.{step, root_of_list}
 use Rattle.twin_run.specs.GoodRuns.{IsGoodState}
+use Rattle.twin_run.specs.Starts.{HoldsLog, HoldsWitnesses, opened_from}
 use Rattle.twin_run.specs.Trace.{trace, replies_from, state_after}
 
 -- The sizes in the replies of a run never fall.
 abbrev pub SizesNeverFall : Type 0
 SizesNeverFall =
-    (config : Config) (s : State Operation) (cs : List Command) → IsNonDecreasingBy (λ (r : Reply). r.size) (trace config s cs)
+    (config : Config) (s : State Operation) (cs : List Command)
+    → IsNonDecreasingBy (λ (r : Reply). r.size) (trace config s cs)
 
 -- A reply tells the size and the root of a list.
 pub record TellsList (r : Reply) (list : List Operation) : Type 0 where
@@ -55,9 +58,11 @@ abbrev pub after_refusal : State Operation → Command → Refusal → State Ope
 after_refusal s (command.Seal b metadata floor) r = if loses_batch r then with_batch s b Gone else s
 after_refusal s _ r = s
 
--- A refused command changes nothing; a seal that is refused as stale, for its location or for its floor loses its batch.
+-- A refused command changes nothing; a seal that is refused as stale, for its location or for its floor loses its
+-- batch.
 abbrev pub RefusalsKeep : Type 0
-RefusalsKeep = (config : Config) (s : State Operation) (c : Command) (r : Refusal) → (step config s c).0 ≡ answer.Refused r
+RefusalsKeep = (config : Config) (s : State Operation) (c : Command) (r : Refusal)
+    → (step config s c).0 ≡ answer.Refused r
     → (step config s c).1 ≡ after_refusal s c r
 
 -- Of two states both have the list, its applied sizes and the batches.
@@ -86,6 +91,7 @@ pub record QuestionsKeep : Type 0 where
   pub size : KeepsStates command.Size
   pub metadata : KeepsStates command.Metadata
   pub proof : (n a : ℕ) (count : NonZeroU64) → KeepsStates (command.Proof n a count)
+  pub commit_proof : (n : ℕ) → KeepsStates (command.CommitProof n)
 
 -- A proof that is answered begins at the location that was asked for, and shows its operations in the tree with the
 -- root that the list had at the size.
@@ -93,3 +99,25 @@ abbrev pub ProofsVerify : Type 0
 ProofsVerify = (config : Config) (s : State Operation) (n a : ℕ) (count : NonZeroU64) (p : ProofAnswer)
     → IsGoodState AnyList config.value_limit s → (step config s (command.Proof n a count)).0 ≡ answer.Proof p
     → (p.start ≡ a) × Checks mmr sha ForwardFold p.proof a p.operations (root_of_list (take n s.ops))
+
+-- So does a proof of the commit that ends a size.
+abbrev pub CommitProofsVerify : Type 0
+CommitProofsVerify = (config : Config) (s : State Operation) (n : ℕ) (p : ProofAnswer)
+    → IsGoodState AnyList config.value_limit s → (step config s (command.CommitProof n)).0 ≡ answer.Proof p
+    → (p.start ≡ n - 1) × Checks mmr sha ForwardFold p.proof (n - 1) p.operations (root_of_list (take n s.ops))
+
+-- Where the commit is kept in the operation log, it is what a proof from the commit on answers.
+abbrev pub CommitProofsAreProofs : Type 0
+CommitProofsAreProofs = (config : Config) (s : State Operation) (n : ℕ) (count : NonZeroU64) (p : ProofAnswer)
+    → IsGoodState AnyList config.value_limit s → s.start < n
+    → (step config s (command.CommitProof n)).0 ≡ answer.Proof p
+    → (step config s (command.Proof n (n - 1) count)).0 ≡ answer.Proof p
+
+-- The state in which a run that ended in this one is opened again: all is durable, and there are no batches.
+abbrev pub last_state : State Operation → State Operation
+last_state s = record (synced s) { batches = [] }
+
+-- What is opened of logs that hold what is kept of a good state, as a whole run leaves them, is that state.
+abbrev pub LeftStatesReopen : Type 0
+LeftStatesReopen = (config : Config) (s : State Operation) (image : Image) → IsGoodState AnyList config.value_limit s
+    → HoldsLog config image s → HoldsWitnesses config image s → opened_from config s image ≡ last_state s

@@ -1,90 +1,136 @@
 -- What has happened where the program ends.
-use Rattle.std.specs.Prelude.{◌≡◌, ◌⊎◌, ℕ, ◌<◌, ◌≤◌, List, length, Option, Some, IfSome}
+use Rattle.std.specs.Prelude.{◌≡◌, ◌⊎◌, ℕ, ◌+◌, ◌<◌, ◌≤◌, List, length, Option, Some, IfSome}
 use Rattle.std.specs.Io.KnownBytes.{Appends, IsAtEnd}
 use Rattle.codec_base.specs.Causes.{Rose}
 use Rattle.stream_base.specs.Writing.{WritesFront}
 use Rattle.volume_base.specs.Moments.{Image}
+use Rattle.log_model.specs.Machine.{State}
 use Rattle.command_text.specs.declared.command.Command.{Command}
 use Rattle.command_text.specs.declared.command.Reply.{Reply}
 use Rattle.twin_run.specs.declared.ending.Fault.{Fault}
 use Rattle.twin_run.specs.declared.ending.Fault.TheVariants as fault
 use Rattle.twin_run.specs.declared.ending.Status.{Status}
-use Rattle.twin_run.specs.declared.ending.Status.TheVariants.{BadWords, BadLine, ReadFault, TooLong, Volume, Corrupt, NotFresh, Done, WriteFault, Memory}
+use Rattle.twin_run.specs.declared.ending.Status.TheVariants.{BadWords, BadLine, ReadFault, TooLong, Volume, Corrupt, Done, WriteFault, Memory}
+use Rattle.twin_run.specs.declared.words.Task.{Task}
+use Rattle.twin_run.specs.declared.words.Task.TheVariants.{Commands, Generate}
 use Rattle.twin_run.specs.Config.{standard_config}
 use Rattle.line_text.specs.Lines.{lines_of}
 use Rattle.command_text.specs.Grammar.{InputSays}
 use Rattle.command_text.specs.Bad.{IsFirstBad}
 use Rattle.command_text.specs.Text.{text_of}
-use Rattle.twin_run.specs.Trace.{trace, state_after, fresh_state, HasNoClash, IsBegun}
-use Rattle.twin_run.specs.Twins.{HoldsLog}
+use Rattle.twin_run.specs.Generator.{generated, summary_of}
+use Rattle.twin_run.specs.Operation.{Operation}
+use Rattle.twin_run.specs.Starts.{OfEachStart, IsLeft}
+use Rattle.twin_run.specs.Trace.{trace, state_after, IsBegun, TellOneRoot}
+use Rattle.twin_run.specs.Words.{WordsSay}
 
--- the input was read to its end, and isn't too long
+-- The input was read to its end, and isn't too long.
 pub record IsWhole (old new : Option (List ℕ)) : Type 0 where
   pub ended : IsAtEnd new
   pub within : IfSome old (λ bytes. length bytes ≤ 16777216)
 
--- there are no words, and the input, which isn't too long, says commands
-pub record IsValid {W : Type 0} (words : List W) (left : Option (List ℕ)) : Type 0 where
-  pub no_words : length words ≡ 0
-  pub bytes : List ℕ
-  pub commands : List Command
-  pub there : left ≡ Some bytes
-  pub within : length bytes ≤ 16777216
-  pub said : InputSays bytes commands
-
--- the input was read to its end, and says these commands
+-- The input was read to its end, and says these commands.
 pub record IsInput (old new : Option (List ℕ)) (commands : List Command) : Type 0 where
   pub whole : IsWhole old new
   pub said : IfSome old (λ bytes. InputSays bytes commands)
 
--- the replies of a run of these commands over a fresh volume, under the program's configuration
-abbrev pub replies_to : List Command → List Reply
-replies_to commands = trace standard_config fresh_state commands
+-- A task runs these commands: those that the input says, or those that are generated, for which none is read.
+abbrev pub Runs : Task → Option (List ℕ) → Option (List ℕ) → List Command → Type 0
+Runs Commands old new commands = IsInput old new commands
+Runs (Generate number count) old new commands = (new ≡ old) × (commands ≡ generated number count)
 
--- nothing clashes that is hashed for the lists of a run of these commands
-abbrev pub IsClear : List Command → Type 0
-IsClear commands = HasNoClash standard_config fresh_state commands
+-- The words say this task, which runs these commands.
+pub record IsAsked (words : List (List ℕ)) (left left' : Option (List ℕ)) (task : Task)
+    (commands : List Command) : Type 0 where
+  pub said : WordsSay words task
+  pub runs : Runs task left left' commands
 
--- the input says commands, and something clashes that is hashed for the lists of a run of these
-pub record HasClash (left left' : Option (List ℕ)) : Type 0 where
-  pub commands : List Command
-  pub input : IsInput left left' commands
-  pub clash : IsClear commands → ⊥
+-- The words have a form, and these are the commands to run: generated ones, or those that the input says, which isn't
+-- too long.
+abbrev pub AreToRun : Task → Option (List ℕ) → List Command → Type 0
+AreToRun Commands left commands =
+    (bytes : List ℕ) × (left ≡ Some bytes) × (length bytes ≤ 16777216) × InputSays bytes commands
+AreToRun (Generate number count) left commands = commands ≡ generated number count
 
--- the input says commands, and where nothing clashes the operation log holds what is kept of the list after these
-pub record HasLeft (left left' : Option (List ℕ)) (image : Image) : Type 0 where
-  pub commands : List Command
-  pub input : IsInput left left' commands
-  pub holds : IsClear commands → HoldsLog standard_config image (state_after standard_config fresh_state commands)
+pub record IsValid (words : List (List ℕ)) (left : Option (List ℕ)) (commands : List Command) : Type 0 where
+  pub task : Task
+  pub said : WordsSay words task
+  pub to_run : AreToRun task left commands
 
--- the text of the first of these replies, which are not all, was written, or a front of it where the sink failed
-pub record WritesSoFar (old new : Option (List ℕ)) (faults faults' : ℕ) (replies : List Reply) : Type 0 where
-  pub so_far : List Reply
-  pub begun : IsBegun so_far replies
-  pub wrote : Appends old new (text_of so_far) ⊎ (Rose faults faults' × WritesFront old new (text_of so_far))
+-- What a task writes: the text of its replies, or the summary of the generated commands' run.
+abbrev pub output_of : Task → List Reply → List ℕ
+output_of Commands replies = text_of replies
+output_of (Generate number count) replies = summary_of count replies
 
--- What was written where the input says commands. It is known where the volume tells what it holds and nothing
--- clashes.
-module _ (tells : Type 0) (left left' written written' : Option (List ℕ)) where
-  -- the text of all replies to them
+-- The replies of a run that opens in a state, under the program's configuration.
+abbrev pub replies_to : State Operation → List Command → List Reply
+replies_to now commands = trace standard_config now commands
+
+-- What a run of these commands has said that began on these contents. It is known where the volume tells what it holds,
+-- and that stands for a good state without batches, and nothing clashes.
+module _ (tells : Type 0) (image : Image) (commands : List Command) (said : List Reply) where
+  -- all replies, one to the opening and one to each command; in each the roots of both databases are one
+  pub record AreReplies : Type 0 where
+    pub count : length said ≡ length commands + 1
+    pub one_root : TellOneRoot said
+    pub told : tells → OfEachStart standard_config image commands (λ now. said ≡ replies_to now commands)
+
+  -- the first ones, and not all
+  pub record AreBegun : Type 0 where
+    pub fewer : length said ≤ length commands
+    pub one_root : TellOneRoot said
+    pub told : tells → OfEachStart standard_config image commands (λ now. IsBegun said (replies_to now commands))
+
+-- A text was written, or a front of it where the sink failed.
+abbrev pub WritesOrFails : Option (List ℕ) → Option (List ℕ) → ℕ → ℕ → List ℕ → Type 0
+WritesOrFails old new faults faults' text = Appends old new text ⊎ (Rose faults faults' × WritesFront old new text)
+
+-- What was written for the words where the run began on these contents.
+module _ (tells : Type 0) (image : Image) (words : List (List ℕ)) (left left' written written' : Option (List ℕ)) where
+  -- the output of all replies
   pub record IsAnswered : Type 0 where
+    pub task : Task
     pub commands : List Command
-    pub input : IsInput left left' commands
-    pub wrote : tells → IsClear commands → Appends written written' (text_of (replies_to commands))
+    pub asked : IsAsked words left left' task commands
+    pub said : List Reply
+    pub replies : AreReplies tells image commands said
+    pub wrote : Appends written written' (output_of task said)
 
-  -- a front of that text
+  -- a front of it
   pub record IsCutOff : Type 0 where
+    pub task : Task
     pub commands : List Command
-    pub input : IsInput left left' commands
-    pub wrote : tells → IsClear commands → WritesFront written written' (text_of (replies_to commands))
+    pub asked : IsAsked words left left' task commands
+    pub said : List Reply
+    pub replies : AreReplies tells image commands said
+    pub wrote : WritesFront written written' (output_of task said)
 
-  -- the text of the first replies to them, or a front of it where the sink failed
+  -- the output of the first replies, or a front of it where the sink failed
   pub record IsStopped (faults faults' : ℕ) : Type 0 where
+    pub task : Task
     pub commands : List Command
-    pub input : IsInput left left' commands
-    pub wrote : tells → IsClear commands → WritesSoFar written written' faults faults' (replies_to commands)
+    pub asked : IsAsked words left left' task commands
+    pub said : List Reply
+    pub replies : AreBegun tells image commands said
+    pub wrote : WritesOrFails written written' faults faults' (output_of task said)
 
--- the program ends before its run
+module _ (image : Image) (words : List (List ℕ)) (left left' : Option (List ℕ)) where
+  -- From no good state without batches, for which these contents stand, the run is without a clash.
+  pub record IsAtFault : Type 0 where
+    pub task : Task
+    pub commands : List Command
+    pub asked : IsAsked words left left' task commands
+    pub fault : OfEachStart standard_config image commands (λ now. ⊥)
+
+  -- Where such a run began, both logs hold what is kept of the state after it.
+  pub record HasLeft (image' : Image) : Type 0 where
+    pub task : Task
+    pub commands : List Command
+    pub asked : IsAsked words left left' task commands
+    pub left_so : OfEachStart standard_config image commands
+        (λ now. IsLeft standard_config image' (state_after standard_config now commands))
+
+-- The program ends before its run.
 abbrev pub IsEarly : Status → Type 0
 IsEarly BadWords = Unit {0}
 IsEarly (BadLine n) = Unit {0}
@@ -94,10 +140,9 @@ IsEarly Done = ⊥
 IsEarly WriteFault = ⊥
 IsEarly Volume = ⊥
 IsEarly Corrupt = ⊥
-IsEarly NotFresh = ⊥
 IsEarly Memory = ⊥
 
--- why the input isn't read as commands; want of memory may come at any time
+-- Why the input isn't read as commands; want of memory may come at any time.
 abbrev pub IsReadStatus : Option (List ℕ) → Option (List ℕ) → ℕ → ℕ → Status → Type 0
 IsReadStatus left left' faults faults' (BadLine n) =
     IsWhole left left' × IfSome left (λ bytes. IsFirstBad (lines_of bytes) n)
@@ -109,30 +154,30 @@ IsReadStatus left left' faults faults' Done = ⊥
 IsReadStatus left left' faults faults' WriteFault = ⊥
 IsReadStatus left left' faults faults' Volume = ⊥
 IsReadStatus left left' faults faults' Corrupt = ⊥
-IsReadStatus left left' faults faults' NotFresh = ⊥
 
--- what a run of these commands has left in a sink, and why it didn't end otherwise
-module _ (tells : Type 0) (commands : List Command) (written written' : Option (List ℕ))
+-- What a run of these commands has left in a sink, and why it didn't end otherwise.
+module _ (tells : Type 0) (image : Image) (task : Task) (commands : List Command) (written written' : Option (List ℕ))
     (faults faults' volume volume' : ℕ) where
   abbrev pub HasWrittenSoFar : Type 0
-  HasWrittenSoFar = tells → IsClear commands → WritesSoFar written written' faults faults' (replies_to commands)
+  HasWrittenSoFar =
+      (said : List Reply) × AreBegun tells image commands said
+      × WritesOrFails written written' faults faults' (output_of task said)
 
   abbrev pub IsRunStatus : Status → Type 0
-  IsRunStatus Done = tells → IsClear commands → Appends written written' (text_of (replies_to commands))
-  IsRunStatus WriteFault =
-      Rose faults faults' × (tells → IsClear commands → WritesFront written written' (text_of (replies_to commands)))
+  IsRunStatus Done =
+      (said : List Reply) × AreReplies tells image commands said × Appends written written' (output_of task said)
+  IsRunStatus WriteFault = Rose faults faults' × ((said : List Reply) × AreReplies tells image commands said
+      × WritesFront written written' (output_of task said))
   IsRunStatus Volume = Rose volume volume' × HasWrittenSoFar
-  IsRunStatus Corrupt = (tells → IsClear commands → ⊥) × HasWrittenSoFar
-  IsRunStatus NotFresh = HasWrittenSoFar
+  IsRunStatus Corrupt = (tells → OfEachStart standard_config image commands (λ now. ⊥)) × HasWrittenSoFar
   IsRunStatus Memory = HasWrittenSoFar
   IsRunStatus BadWords = ⊥
   IsRunStatus (BadLine n) = ⊥
   IsRunStatus ReadFault = ⊥
   IsRunStatus TooLong = ⊥
 
--- how the program ends after a fault of its run
+-- How the program ends after a fault of its run.
 abbrev pub fault_status : Fault → Status
 fault_status fault.Volume = Volume
 fault_status (fault.Corrupt at) = Corrupt
-fault_status fault.NotFresh = NotFresh
 fault_status fault.Memory = Memory

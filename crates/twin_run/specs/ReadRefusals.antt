@@ -13,7 +13,8 @@ use Rattle.command_text.specs.declared.command.Answer.TheVariants as answer
 -- Why a location of a list of so many operations isn't read that is kept from a start on: it is at or past the end,
 -- or isn't kept.
 abbrev pub kept_refusal : (size start l : ℕ) → Option Refusal
-kept_refusal size start l = or_else (refuse_if (nat_le size l) (refusal.LocationOutOfBounds l size)) (below_start start l)
+kept_refusal size start l =
+    or_else (refuse_if (nat_le size l) (refusal.LocationOutOfBounds l size)) (below_start start l)
 
 -- Why several aren't: two don't rise, the last is at or past the end, or the first isn't kept.
 abbrev pub kept_refusals : (size start : ℕ) → List ℕ → Option Refusal

@@ -1,7 +1,7 @@
 -- The exit code of the program and its line on standard error, by status.
 use Rattle.std.specs.Prelude.{ℕ, List, [], ◌++◌, codes, decimal}
 use Rattle.twin_run.specs.declared.ending.Status.{Status}
-use Rattle.twin_run.specs.declared.ending.Status.TheVariants.{Done, BadWords, BadLine, ReadFault, WriteFault, Volume, Corrupt, NotFresh, Memory, TooLong}
+use Rattle.twin_run.specs.declared.ending.Status.TheVariants.{Done, BadWords, BadLine, ReadFault, WriteFault, Volume, Corrupt, Memory, TooLong}
 
 abbrev pub exit_code : Status → ℕ
 exit_code Done = 0
@@ -13,7 +13,6 @@ exit_code Volume = 6
 exit_code Corrupt = 7
 exit_code Memory = 8
 exit_code TooLong = 9
-exit_code NotFresh = 10
 
 -- the line, without its end; none where all is done
 abbrev pub status_text : Status → List ℕ
@@ -24,6 +23,5 @@ status_text ReadFault = codes "twins: cannot read input"
 status_text WriteFault = codes "twins: cannot write output"
 status_text Volume = codes "twins: volume failed"
 status_text Corrupt = codes "twins: volume holds no valid state"
-status_text NotFresh = codes "twins: volume is not fresh"
 status_text Memory = codes "twins: out of memory"
 status_text TooLong = codes "twins: input longer than 16777216 bytes"

@@ -85,7 +85,8 @@ FirstBatch = answers fresh_state (first_batch ++ (get 1 ∷ get 3 ∷ get 4 ∷ 
     ≡ Batch 0 ∷ Done ∷ Done ∷ Sealed 4 (root_of_list two_appends) ∷ Applied ∷ Value (Some (97 ∷ [])) ∷ Value None
     ∷ Refused (LocationOutOfBounds 4 4) ∷ Size 4 0 0 ∷ []
 
--- A batch on a batch, applied at once: one size is added, and neither a proof at an append nor one of a commit without witness is given.
+-- A batch on a batch, applied at once: one size is added, and neither a proof at an append nor one of a commit without
+-- witness is given.
 abbrev pub two_batches : State Operation
 two_batches = after fresh_state (new ∷ append 0 97 ∷ seal 0 0 ∷ new_on 0 ∷ append 1 98 ∷ seal 1 0 ∷ apply 1 ∷ [])
 
@@ -198,7 +199,8 @@ PruneAboveFloor =
     (prune 5 floor_of_four ≡ (Refused (PruneBeyondMinRequired 5 4), floor_of_four))
     × ((prune 4 floor_of_four).0 ≡ Pruned 0)
 
--- Batches of three appends, each of which has its own commit's location as floor: n of them, from number b on, on so many operations.
+-- Batches of three appends, each of which has its own commit's location as floor: n of them, from number b on, on so
+-- many operations.
 abbrev pub three_each : ℕ → ℕ → ℕ → List Step
 three_each zero b size = []
 three_each (suc n) b size =

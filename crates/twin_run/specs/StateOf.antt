@@ -1,5 +1,5 @@
 -- What a side of the run keeps in memory, and what it means.
-use Rattle.std.specs.Prelude.{◌≡◌, ℕ, ◌+◌, ◌^◌, ◌<◌, ◌≤◌, nat_lt, List, length, slice_index_or, Option, Some, None, if◌then◌else◌}
+use Rattle.std.specs.Prelude.{◌≡◌, ℕ, ◌+◌, ◌^◌, ◌<◌, ◌≤◌, nat_lt, List, ◌∷◌, length, slice_index_or, Option, Some, None, Contains, if◌then◌else◌}
 use Rattle.std.specs.List.{count_by}
 use Rattle.volume_base.specs.Moments.{Image}
 use Rattle.log_model.specs.StateBatches as batches
@@ -9,13 +9,14 @@ use Rattle.log_model.specs.Reach.{is_child, link_bound}
 use Rattle.twin_run.specs.Operation.{Operation}
 use Rattle.chain_core.specs.MarkedPool.{AreMarked}
 use Rattle.chain_core.specs.Marks.{IsMarkedOn}
+use Rattle.chain_core.specs.Reached.{item_at}
 use Rattle.chain_core.specs.Slots.{slot_at, holds_of}
 use Rattle.chain_core.specs.States.{sizes}
 use Rattle.chain_core.specs.declared.pool.HeldBatch.{HeldBatch}
 use Rattle.command_text.specs.declared.command.Answer.{Answer}
 use Rattle.command_text.specs.declared.command.Command.{Command}
 use Rattle.command_text.specs.declared.command.Reply.{Reply}
-use Rattle.twin_run.specs.Kind.{Kind, kept_of, IsKnown}
+use Rattle.twin_run.specs.Kind.{Kind, kept_of}
 use Rattle.twin_run.specs.Step.{Outcome, step, reply}
 use Rattle.twin_run.specs.Config.{Config}
 use Rattle.twin_run.specs.GoodRuns.{IsGoodState}
@@ -77,7 +78,8 @@ module _ {S U : Type 0} (like : Likeness S U) where
     pub is : like.sealed e.item c
     pub link : LinkIs bs b e.parent c.parent
 
-  -- A sealed batch for the caller, and the list machine's. Its unsealed children and the caller hold it in the pool. The list machine keeps the fields of one that is dead too.
+  -- A sealed batch for the caller, and the list machine's. Its unsealed children and the caller hold it in the pool.
+  -- The list machine keeps the fields of one that is dead too.
   pub record IsSealedOf (bs : List (Batch U)) (pool : List (Option (HeldBatch S)))
       (all : List (batches.Batch Operation)) (b : ℕ) (k : Holding) (c : batches.SealedBatch Operation) : Type 0 where
     pub holds : c.holds ≡ k.holds
@@ -125,7 +127,8 @@ pub record HasRoom {S U : Type 0} (n : Numbers S U) : Type 0 where
   pub holds : (id : ℕ) → holds_of n.pool id < n.taken
 
 module _ {Db S U : Type 0} (k : Kind Db S U) where
-  -- A sealed batch has the list, the sizes and the floor of the list machine's; and an unsealed one has the list and the appends.
+  -- A sealed batch has the list, the sizes and the floor of the list machine's; and an unsealed one has the list and
+  -- the appends.
   pub record IsSealedAs (x : S) (c : batches.SealedBatch Operation) : Type 0 where
     pub list : k.is_sealed c.list x
     pub base : c.base ≡ (k.bounds x).base.size
@@ -144,7 +147,8 @@ module _ {Db S U : Type 0} (k : Kind Db S U) where
   abbrev pub any_lists : Likeness S U
   any_lists = record { parent = k.parent; sealed = λ x c. Unit {0}; unsealed = λ u w. Unit {0} }
 
-  -- What a side keeps over any contents: its batches have the phases, the links and the holds of some batches, whatever their lists. No number is drawn and no batch is held more often than steps were taken.
+  -- What a side keeps over any contents: its batches have the phases, the links and the holds of some batches, whatever
+  -- their lists. No number is drawn and no batch is held more often than steps were taken.
   pub record IsShaped (n : Numbers S U) : Type 0 where
     pub all : List (batches.Batch Operation)
     pub batches : AreBatchesOf any_lists n.batches.items n.pool all
@@ -161,8 +165,8 @@ module _ {Db S U : Type 0} (k : Kind Db S U) where
     pub sealed : AreMarked k.bounds pool
     pub unsealed : (b : ℕ) (u : U) → slice_index_or bs b Gone ≡ Unsealed u → HasMarks pool u
 
-  -- With these contents of a volume a side stands for a state of the list machine: its database is what is kept of the state, and its batches are
-  -- the state's, and have their marks.
+  -- With these contents of a volume a side stands for a state of the list machine: its database is what is kept of the
+  -- state, and its batches are the state's, and have their marks.
   pub record IsStateOf (image : Image) (db : Db) (n : Numbers S U) (s : State Operation) : Type 0 where
     pub log : k.is_of (kept_of s) image db
     pub batches : AreBatchesOf same_lists n.batches.items n.pool s.batches
@@ -170,7 +174,8 @@ module _ {Db S U : Type 0} (k : Kind Db S U) where
 
   -- With these contents a side stands for a good state, which size and root tell, under the configuration that its
   -- database was opened under.
-  pub record StandsGood (config : Config) (image : Image) (db : Db) (n : Numbers S U) (s : State Operation) : Type 0 where
+  pub record StandsGood (config : Config) (image : Image) (db : Db) (n : Numbers S U) (s : State Operation)
+      : Type 0 where
     pub told : IsTold s
     pub good : IsGoodState AnyList config.value_limit s
     pub under : k.is_under config db
@@ -185,25 +190,22 @@ module _ {Db S U : Type 0} (k : Kind Db S U) where
   abbrev pub RepliesAs : Outcome → Image → Db → Numbers S U → Reply → Type 0
   RepliesAs o image db n r = (r ≡ reply o) × IsStateOf image db n o.1
 
-  -- A step keeps the shape; and for whatever state of these the side stood, its answer and what it left are what the list machine makes of that
-  -- state.
+  -- A step keeps the shape; and for whatever state of these the side stood, its answer and what it left are what the
+  -- list machine makes of that state.
   pub record Follows (of : State Operation → Type 0) (step : State Operation → Outcome) (was is : Image) (db made : Db)
       (old new : Numbers S U) (a : Answer) : Type 0 where
     pub shaped : IsShaped new
     pub follows : (s : State Operation) → of s → IsStateOf was db old s → Meets (step s) is made new a
 
-  -- A command was followed under each configuration that has this limit: the shape is kept, and for whatever told state
-  -- the side stood, over any contents, it stands for the state that the command leaves.
-  pub record FollowsCommand (limit : ℕ) (command : Command) (db made : Db) (old new : Numbers S U) : Type 0 where
-    pub shaped : IsShaped new
-    pub follows : (config : Config) (image : Image) (s : State Operation) → config.value_limit ≡ limit → IsTold s
-        → IsStateOf image db old s → IsStateOf image made new (step config s command).1
-
   -- So over any contents, where neither these nor the database are touched.
-  abbrev pub Answers : (State Operation → Type 0) → (State Operation → Outcome) → Db → Numbers S U → Numbers S U → Answer
-      → Type 0
+  abbrev pub Answers : (State Operation → Type 0) → (State Operation → Outcome) → Db → Numbers S U → Numbers S U
+      → Answer → Type 0
   Answers of step db old new a = (image : Image) → Follows of step image image db db old new a
 
-  -- Size and root tell the lists of a state, and what is said of contents is known.
-  abbrev pub IsToldBy : Type 0 → State Operation → Type 0
-  IsToldBy tells s = IsKnown k tells × IsTold s
+  -- A side may apply batch b: the caller holds it, and the database stands at its boundary or at the tip of an
+  -- ancestor.
+  pub record Takes (db : Db) (n : Numbers S U) (b : ℕ) : Type 0 where
+    pub holding : Holding
+    pub held : held_in n.batches.items b ≡ Some holding
+    pub stands : (x : S) → item_at n.pool holding.id ≡ Some x
+        → Contains ((k.bounds x).db ∷ (k.bounds x).ancestors) (k.state db)

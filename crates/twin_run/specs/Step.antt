@@ -1,4 +1,5 @@
--- The list machine's step: what each command answers, and the state that it leaves. Lists are compared by their operations.
+-- The list machine's step: what each command answers, and the state that it leaves. Lists are compared by their
+-- operations.
 use Rattle.std.specs.Prelude.{ℕ, ◌+◌, ◌-◌, nat_lt, nat_le, List, length, map, drop, Option, Some, None, Result, Ok, Err, if◌then◌else◌}
 use Rattle.std.specs.NonZero.{non_zero_u64_get}
 use Rattle.tree_shape.specs.declared.sha256.Sha256Digest.{Sha256Digest}
@@ -38,6 +39,11 @@ Outcome = Answer × State Operation
 -- A refusal that changes nothing.
 abbrev pub refused : State Operation → Refusal → Outcome
 refused s r = (answer.Refused r, s)
+
+-- The refusal that an answer is, where it is one.
+abbrev pub refusal_in : Answer → Option Refusal
+refusal_in (answer.Refused r) = Some r
+refusal_in _ = None
 
 -- A refusal that loses batch b.
 abbrev pub lost : State Operation → ℕ → Refusal → Outcome
@@ -84,7 +90,8 @@ abbrev pub sealed_or_lost : State Operation → ℕ → UnsealedBatch Operation 
 sealed_or_lost s b u metadata floor (Some refusal) = lost s b refusal
 sealed_or_lost s b u metadata floor None = done_sealing s b (sealed_here s u (Commit metadata floor) floor)
 
--- A commit ends batch b, where nothing refuses it. Metadata that is too long leaves the batch; each other refusal loses it.
+-- A commit ends batch b, where nothing refuses it. Metadata that is too long leaves the batch; each other refusal loses
+-- it.
 abbrev pub seal : ℕ → State Operation → ℕ → Option (List ℕ) → ℕ → Batch Operation → Outcome
 seal limit s b metadata floor (Unsealed u) =
     if nat_lt limit (metadata_length metadata) then refused s (ValueTooLong (metadata_length metadata))
@@ -222,6 +229,7 @@ step c s (command.BatchGetMany b ls) = batch_get_many s b ls (batch_at s b)
 step c s command.Size = size s
 step c s command.Metadata = metadata s
 step c s (command.Proof n a count) = prove s n a (non_zero_u64_get count)
+step c s (command.CommitProof n) = prove_commit s n
 step c s command.Commit = commit s
 step c s command.Sync = sync s
 step c s command.StartSync = start_sync s

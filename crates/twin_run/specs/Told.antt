@@ -10,7 +10,8 @@ use Rattle.twin_run.specs.Operation.{Operation, meaning, sha, one_list}
 use Rattle.twin_run.specs.Commitments.{same_state}
 use Rattle.twin_run.specs.GoodRuns.{IsGoodState}
 
--- By size and root, each batch of a state may be sealed, applied and read exactly where it may by operations; and it stands on its parent's list.
+-- By size and root, each batch of a state may be sealed, applied and read exactly where it may by operations; and it
+-- stands on its parent's list.
 pub record IsTold (s : State Operation) : Type 0 where
   pub seals : (b : ℕ) (u : UnsealedBatch Operation) → batch_at s b ≡ Unsealed u
       → may_seal same_state s u ≡ may_seal one_list s u

@@ -1,13 +1,10 @@
 -- The replies of a whole run.
-use Rattle.std.specs.Prelude.{◌≡◌, ◌<◌, ℕ, List, [], ◌∷◌, ◌++◌, length, map, take}
-use Rattle.std.specs.FinMap as finmap
-use Rattle.volume_base.specs.Log.{Log, end_of}
-use Rattle.volume_base.specs.Volume.{Map}
+use Rattle.std.specs.Prelude.{◌≡◌, ◌<◌, List, [], ◌∷◌, ◌++◌, length, take}
+use Rattle.std.specs.List.{AllByRecursion}
 use Rattle.twin_run.specs.Config.{Config}
 use Rattle.log_model.specs.Machine.{State, fresh, synced, lists_here}
 use Rattle.log_model.specs.Hashed.{NoClash}
 use Rattle.tree_shape.specs.Mmr.{mmr}
-use Rattle.tree_shape.specs.declared.sha256.Sha256Digest.{Sha256Digest}
 use Rattle.twin_run.specs.Operation.{Operation, meaning, sha}
 use Rattle.command_text.specs.declared.command.Command.{Command}
 use Rattle.command_text.specs.declared.command.Answer.TheVariants as answer
@@ -37,9 +34,9 @@ fresh_state = synced (fresh plain_commit)
 unfoldable pub trace : Config → State Operation → List Command → List Reply
 trace config s cs = reply (answer.Opened (length s.ops) s.start, s) ∷ replies_from config s cs
 
--- The roots of the second kind in replies, in their order.
-abbrev pub compact_roots : List Reply → List Sha256Digest
-compact_roots replies = map (λ (r : Reply). r.compact_root) replies
+-- Each of these replies tells one root of both databases.
+abbrev pub TellOneRoot : List Reply → Type 0
+TellOneRoot replies = AllByRecursion (λ (r : Reply). r.full_root ≡ r.compact_root) replies
 
 -- Nothing clashes that is hashed for the lists of a run that opens in a state: the log's, and those of the batches
 -- that it seals.
@@ -50,15 +47,3 @@ HasNoClash config s cs = NoClash mmr sha meaning (lists_passed config s cs)
 pub record IsBegun (some all : List Reply) : Type 0 where
   pub front : some ≡ take (length some) all
   pub fewer : length some < length all
-
--- A log holds nothing and begins at 0.
-pub record IsFreshLog (log : Log) : Type 0 where
-  pub start : log.start ≡ 0
-  pub end : end_of log ≡ 0
-
--- The logs and the map that a configuration names hold nothing.
-pub record IsFresh (config : Config) (logs : List ℕ → Log) (maps : List ℕ → Map) : Type 0 where
-  pub log : IsFreshLog (logs config.log)
-  pub nodes : IsFreshLog (logs config.nodes)
-  pub witness : IsFreshLog (logs config.witness)
-  pub metadata : maps config.metadata ≡ finmap.empty

@@ -1,6 +1,6 @@
 //! What commands are about.
 ghost use Rattle.std.specs.Prelude.{◌≡◌};
-ghost use Rattle.twin_run.specs.Twins.{about_of};
+ghost use Rattle.twin_run.specs.About.{about_of};
 
 use command_text::Command;
 
@@ -11,10 +11,14 @@ pub enum Topic {
     Batches,
     /// A batch that becomes the list.
     Apply(u64),
-    /// What there is. Nothing changes.
+    /// What the full database has. Nothing changes.
     Question,
-    /// What the volume keeps of the list.
+    /// The commit that ends the list at a size, of which the compact database has a proof.
+    CommitProof(u64),
+    /// What is durable.
     Storage,
+    /// What lies below a location.
+    Prune(u64),
 }
 
 /// What a command is about.
@@ -36,6 +40,8 @@ pub fn topic_of(command: &Command) -> Topic
         | Command::Size
         | Command::Metadata
         | Command::Proof(_, _, _) => Topic::Question,
-        Command::Commit | Command::Sync | Command::StartSync | Command::Prune(_) => Topic::Storage,
+        Command::CommitProof(n) => Topic::CommitProof(*n),
+        Command::Commit | Command::Sync | Command::StartSync => Topic::Storage,
+        Command::Prune(l) => Topic::Prune(*l),
     }
 }

@@ -1,5 +1,6 @@
 //! The compact database, which keeps a witness of each applied state on a volume, as a database of the run.
 ghost use Rattle.std.specs.Prelude.{◌≡◌, ◌≢◌, ◌-◌, ◌≤◌, ℕ, List, Some, IfOk, IfErr, IsErrOf, slice_get, string_bytes};
+ghost use Rattle.std.specs.NonZero.{non_zero_u64_get};
 ghost use Rattle.codec_base.specs.Parts.{whole};
 ghost use Rattle.volume_base.specs.Log.{no_log};
 ghost use Rattle.volume_base.specs.Moments.{present, LogHas, LogKeeps};
@@ -14,11 +15,13 @@ ghost use Rattle.log_model.specs.Opening.{last_kept, opened_at};
 ghost use Rattle.log_model.specs.Stored.{DatabaseNames, CompactStands};
 ghost use Rattle.tree_shape.specs.declared.sha256.Sha256Digest.{Sha256Digest};
 ghost use Rattle.chain_core.specs.Answers.{IsOutside};
+ghost use Rattle.compact_db.specs.DbView.{seen_log};
 ghost use Rattle.compact_db.specs.Held.{HasStates};
 ghost use Rattle.compact_db.specs.Opening.{IsLatest, IsOpeningFault, witnesses_in};
 ghost use Rattle.twin_run.specs.CompactKind.{IsCompactOf, IsOpenable, compact_kind, kept_to};
 ghost use Rattle.twin_run.specs.Kind.{kept_of};
 ghost use Rattle.twin_run.specs.Operation.{Operation, meaning, sha};
+ghost use Rattle.twin_run.specs.Reopening.{KeepsWitnesses};
 ghost use Rattle.twin_run.specs.Trace.{fresh_state};
 
 use crate::database::Database;
@@ -29,6 +32,9 @@ use compact_db::{CompactConfig, CompactDb, MerkleizedBatch, UnmerkleizedBatch};
 use std::alloc::Global;
 use tree_shape::{Location, Mmr, Sha256Digest, Sha256Hasher};
 use volume_base::Volume;
+
+/// The compact database of the run.
+pub type Compact = CompactDb<Mmr, Operation, Sha256Hasher>;
 
 impl Database for CompactDb<Mmr, Operation, Sha256Hasher> {
     type Sealed = MerkleizedBatch<Mmr, Operation, Sha256Digest>;
@@ -160,6 +166,9 @@ pub fn open_compact<V: Volume>(
     // Over whatever volume it fails by one of these alone.
     ensures errors { cap ≢ Some 0 → IfErr result (IsOpeningFault Sha256Digest mmr meaning
         (λ bytes. whole (⟦<Operation as Read>⟧.reads cfg.commit_codec bytes)) cap) }
+    // Its log keeps a front that ends with a witness; or it was empty from 0 on, and gets the first commit's.
+    ensures witnesses { cap ≢ Some 0 → let name = string_bytes cfg.witness in IfOk result (λ db. V.tells →
+        KeepsWitnesses cap db.tip.witness.size ((V.state volume.old).log name) ((V.state volume.new).log name)) }
     // Under such a cap, where each log that a crash leaves stands for the state, so it does at each moment of the call.
     ensures images { V.tells → let name = string_bytes cfg.witness in (s : State Operation) (most : ℕ) →
         cap ≡ Some most → 1 ≤ most → s.durable ≤ most →
@@ -167,6 +176,10 @@ pub fn open_compact<V: Volume>(
         let stands = CompactStands mmr sha bytes_of meaning s.ops s.sizes s.prune s.durable in
         stands ((V.state volume.old).log name) → LogHas (V.state volume.old) name stands →
         LogKeeps name stands (V.state volume.old) (V.state volume.new) }
+    // Whatever the volume holds, its log has the configuration's blobs and codec, and it keeps no failed sync.
+    ensures under { cap ≢ Some 0 → IfOk result (λ db.
+        ((seen_log db.log).blob ≡ non_zero_u64_get cfg.items_per_blob) × (db.codec ≡ cfg.commit_codec)) }
+    ensures sound { cap ≢ Some 0 → IfOk result (λ db. compact_kind.is_sound db) }
     // After it a crash leaves the log as it is.
     ensures durable { cap ≢ Some 0 → V.tells → let name = string_bytes cfg.witness in
         let state = V.state volume.new in

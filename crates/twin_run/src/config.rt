@@ -5,22 +5,28 @@ ghost use Rattle.twin_run.specs.declared.config.ConfigError.TheVariants.{Memory}
 use std::alloc::{AllocError, Global};
 use std::marker::Model;
 use std::num::NonZeroU64;
+use thiserror::Error;
 
 /// The greatest length of a value under the program's configuration.
 pub const VALUE_LIMIT: u64 = 1048576;
 
 /// Why a configuration is refused.
-#[derive(Clone, Copy, Debug, PartialEq, Eq)]
+#[derive(Clone, Copy, Debug, PartialEq, Eq, Error)]
 pub enum ConfigError {
     /// A blob would hold nothing.
+    #[error("zero blob size")]
     ZeroBlob,
     /// Nothing would be replayed at a time.
+    #[error("zero apply batch")]
     ZeroBatch,
     /// Two of the names are one.
+    #[error("two equal names")]
     SameName,
     /// This limit is above 16777216.
+    #[error("value limit {0} above 16777216")]
     ValueLimit(u64),
     /// There is no memory.
+    #[error("out of memory")]
     Memory,
 }
 
@@ -32,8 +38,8 @@ impl From<AllocError> for ConfigError {
     }
 }
 
-/// The names of the logs (operations, nodes of the tree, witnesses) and of the map, how many items a blob of each log has, how many
-/// operations are replayed at a time, and the greatest length of a value in bytes.
+/// The names of the logs (operations, nodes of the tree, witnesses) and of the map, how many items a blob of each log
+/// has, how many operations are replayed at a time, and the greatest length of a value in bytes.
 #[derive(Drop)]
 pub struct TwinConfig {
     log: String,
@@ -171,6 +177,13 @@ impl TwinConfig {
     /// No two of the four names are one.
     pub fn names_apart(&self)
         ensures { AreNamesApart self.now }
+    {
+        let _limit = self.value_limit;
+    }
+
+    /// Values have at most 16777216 bytes.
+    pub fn limit_within(&self)
+        ensures { self.now.value_limit ≤ 16777216 }
     {
         let _limit = self.value_limit;
     }

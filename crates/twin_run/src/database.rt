@@ -6,7 +6,6 @@ ghost use Rattle.chain_core.specs.Answers.{IsOutside};
 ghost use Rattle.chain_core.specs.Chains.{IsPoolOf, IsSealedAt, WhyUnsealed};
 ghost use Rattle.chain_core.specs.Marks.{marks_of, IsMarkedOn};
 ghost use Rattle.chain_core.specs.Reached.{item_at};
-ghost use Rattle.chain_core.specs.Sealing.{refusal_of};
 ghost use Rattle.chain_core.specs.Slots.{IsAlive, holds_of, link_held, link_released};
 ghost use Rattle.op_codec.specs.declared.keyless.Operation.TheVariants.{Append, Commit};
 ghost use Rattle.tree_shape.specs.Mmr.{mmr};
@@ -16,15 +15,15 @@ ghost use Rattle.volume_base.specs.Names.{NamesCall};
 ghost use Rattle.volume_base.specs.Volume.{Writes};
 ghost use Rattle.twin_run.specs.Config.{Config};
 ghost use Rattle.twin_run.specs.Operation.{Operation, meaning, sha};
-ghost use Rattle.twin_run.specs.Kind.{Kind, Kept, with_list, IsKnown, size_of, sealing_of, snapshot_of};
+ghost use Rattle.twin_run.specs.Kind.{Kind, Kept, with_list, size_of, sealing_of, snapshot_of};
 
 use chain_core::{BatchId, Bounds, Commitment, Error, Pool};
 use codec_base::Bytes;
 use tree_shape::{Mmr, Sha256Digest};
 use volume_base::Volume;
 
-/// A database of the run with its batches. No call asks what is stored, so each is total over any contents; what it answers is said where the
-/// database is that of a list.
+/// A database of the run with its batches. No call asks what is stored, so each is total over any contents; what it
+/// answers is said where the database is that of a list.
 pub trait Database: Drop + Sized {
     type Sealed: Drop;
 
@@ -93,8 +92,9 @@ pub trait Database: Drop + Sized {
         requires { ForSome (kind.parent batch) (IsAlive pool.old) }
         ensures { pool.new ≡ link_released pool.old (kind.parent batch) };
 
-    /// Seals a batch by a commit, and puts it into the pool. Its hold on its parent ends, whatever is answered. Refuses, in this order:
-    /// `StaleBatch`, `Merkle(LocationOverflow)`, `FloorRegressed`, `FloorBeyondSize`; or with `Memory`.
+    /// Seals a batch by a commit, and puts it into the pool. Its hold on its parent ends, whatever is answered.
+    /// Refuses, in this order: `StaleBatch`, `Merkle(LocationOverflow)`, `FloorRegressed`, `FloorBeyondSize`; or with
+    /// `Memory`.
     fn seal(
         &self,
         batch: Self::Unsealed,
@@ -108,8 +108,8 @@ pub trait Database: Drop + Sized {
         ensures inserted { OnOk result ((x : Self.Sealed)
             × (pool.new ≡ link_released pool.old (kind.parent batch) ++
             Some (record { item = x; parent = kind.parent batch; holds = 1 }) ∷ [])
-            × IsSealedAt kind.bounds bytes_of pool.old (sealing_of kind batch) (kind.state self.now) (kind.floor self.now) floor
-            (kind.bounds x)
+            × IsSealedAt kind.bounds bytes_of pool.old (sealing_of kind batch) (kind.state self.now)
+            (kind.floor self.now) floor (kind.bounds x)
             × ((list : List Operation) (marks : List ℕ) → kind.is_unsealed list batch → kind.is_marked marks batch →
             IsPoolOf kind.bounds mmr sha meaning pool.old (kind.parent batch) list →
             IsMarkedOn kind.bounds pool.old (kind.parent batch) (kind.base batch) marks →
@@ -133,14 +133,15 @@ pub trait Database: Drop + Sized {
         ensures err { OnErr result (pool.new ≡ pool.old) }
         ensures memory { IsOkUnless result Error.Memory };
 
-    /// Whether a sealed batch may be applied here: at its boundary, or at the tip of an ancestor. It refuses with `StaleBatch`.
+    /// Whether a sealed batch may be applied here: at its boundary, or at the tip of an ancestor. It refuses with
+    /// `StaleBatch`.
     fn validate(&self, pool: &Pool<Self::Sealed>, id: BatchId) -> Result<(), Error<Mmr>>
         requires { IsAlive pool.now id }
         ensures stands { (x : Self.Sealed) → item_at pool.now id ≡ Some x →
             (IsOk result ↔ Contains ((kind.bounds x).db ∷ (kind.bounds x).ancestors) (kind.state self.now)) }
         ensures stale { IsOkUnless result Error.StaleBatch };
 
-    /// The database whose list is that of a sealed batch. Of contents it says something where it keeps none, or where the volume tells them.
+    /// The database whose list is that of a sealed batch. Of contents it says something where the volume tells them.
     fn apply<V: Volume>(
         self,
         volume: &mut V,
@@ -149,27 +150,20 @@ pub trait Database: Drop + Sized {
     ) -> Result<Self, Error<Mmr>>
         requires { IsAlive pool.now id }
         // Of a batch of a list that begins with the database's it makes that list's database, which keeps what it kept.
-        ensures list { IfOk result (λ made. IsKnown kind V.tells → (x : Self.Sealed) → item_at pool.now id ≡ Some x →
+        ensures list { IfOk result (λ made. V.tells → (x : Self.Sealed) → item_at pool.now id ≡ Some x →
             (kept : Kept) (more : List Operation) → kind.is_of kept (present (V.state volume.old)) self →
             kind.is_sealed (kept.ops ++ more) x →
             kind.is_of (with_list kept (kept.ops ++ more)) (present (V.state volume.new)) made) }
         // Of such a batch, where it may be applied, it fails by the volume or for want of memory alone.
-        ensures errors { IfErr result (λ e. IsKnown kind V.tells → (x : Self.Sealed) → item_at pool.now id ≡ Some x →
+        ensures errors { IfErr result (λ e. V.tells → (x : Self.Sealed) → item_at pool.now id ≡ Some x →
             (kept : Kept) (more : List Operation) → kind.is_of kept (present (V.state volume.old)) self →
             kind.is_sealed (kept.ops ++ more) x →
             Contains ((kind.bounds x).db ∷ (kind.bounds x).ancestors) (kind.state self) → IsOutside e) }
-        // Over any contents it refuses no such batch.
-        ensures unrefused { IfErr result (λ e. (x : Self.Sealed) → item_at pool.now id ≡ Some x →
-            (kept : Kept) (image : Image) (more : List Operation) → kind.is_of kept image self →
-            kind.is_sealed (kept.ops ++ more) x →
-            Contains ((kind.bounds x).db ∷ (kind.bounds x).ancestors) (kind.state self) → refusal_of e ≡ None) }
         // Whatever it answers, it touches its own logs and maps alone.
         ensures names { V.tells → NamesCall (kind.names self) (V.state volume.old) (V.state volume.new) }
         ensures same_names { IfOk result (λ made. kind.names made ≡ kind.names self) }
         ensures sound { IfOk result (λ made. kind.is_sound self → kind.is_sound made) }
         ensures under { IfOk result (λ made. (config : Config) → kind.is_under config self →
             kind.is_under config made) }
-        ensures writes { Writes V.tells Error.Volume (V.state volume.old) (V.state volume.new) result }
-        ensures still { kind.in_memory → volume.new ≡ volume.old }
-        ensures memory { kind.in_memory → IsOkUnless result Error.Memory };
+        ensures writes { Writes V.tells Error.Volume (V.state volume.old) (V.state volume.new) result };
 }

@@ -1,13 +1,14 @@
 //! A database of the run that is made durable and gives up old operations.
-ghost use Rattle.std.specs.Prelude.{◌≡◌, ◌≤◌, length, IfOk, IfErr};
+ghost use Rattle.std.specs.Prelude.{◌≤◌, length, IfOk, IfErr};
+ghost use Rattle.log_model.specs.AppliedSizes.{AreSizes};
 ghost use Rattle.log_model.specs.Operations.{floor_of};
 ghost use Rattle.chain_core.specs.Answers.{IsOutside};
-ghost use Rattle.volume_base.specs.Moments.{Image, present};
+ghost use Rattle.volume_base.specs.Moments.{present};
 ghost use Rattle.volume_base.specs.Names.{NamesCall};
 ghost use Rattle.volume_base.specs.Volume.{Writes, Changes};
 ghost use Rattle.twin_run.specs.Config.{Config};
 ghost use Rattle.twin_run.specs.Durability.{IsSettled};
-ghost use Rattle.twin_run.specs.Kind.{Kept, kept_pruned};
+ghost use Rattle.twin_run.specs.Kind.{Kept, kept_pruned, kept_synced};
 ghost use Rattle.twin_run.specs.Operation.{meaning};
 
 use crate::database::Database;
@@ -18,10 +19,6 @@ use volume_base::Volume;
 /// A database of the run that is made durable. Where it keeps no failed sync and is that of a list, each call fails by
 /// the volume or for want of memory alone.
 pub trait Durable: Database {
-    /// The first location that is kept.
-    fn start(&self) -> u64
-        ensures { (kept : Kept) (image : Image) → Self.kind.is_of kept image self.now → result ≡ kept.start };
-
     /// Makes the operations durable.
     fn commit<V: Volume>(self, volume: &mut V) -> Result<Self, Error<Mmr>>
         requires { Self.kind.is_sound self }
@@ -40,7 +37,7 @@ pub trait Durable: Database {
         requires { Self.kind.is_sound self }
         ensures list { IfOk result (λ made. V.tells → (kept : Kept) →
             Self.kind.is_of kept (present (V.state volume.old)) self →
-            Self.kind.is_of kept (present (V.state volume.new)) made) }
+            Self.kind.is_of (kept_synced kept) (present (V.state volume.new)) made) }
         ensures settled { IfOk result (IsSettled Self.kind self) }
         ensures durable { IfOk result (λ made. V.tells → Self.kind.is_synced made (V.state volume.new)) }
         ensures errors { IfErr result (λ e. V.tells → (kept : Kept) →
@@ -54,7 +51,7 @@ pub trait Durable: Database {
         requires { Self.kind.is_sound self }
         ensures list { IfOk result (λ made. V.tells → (kept : Kept) →
             Self.kind.is_of kept (present (V.state volume.old)) self →
-            Self.kind.is_of kept (present (V.state volume.new)) made) }
+            Self.kind.is_of (kept_synced kept) (present (V.state volume.new)) made) }
         ensures settled { IfOk result (IsSettled Self.kind self) }
         ensures durable { IfOk result (λ made. V.tells → Self.kind.is_synced made (V.state volume.new)) }
         ensures errors { IfErr result (λ e. V.tells → (kept : Kept) →
@@ -69,7 +66,7 @@ pub trait Durable: Database {
         // It stays the database of its list, pruned under each configuration that it was opened under.
         ensures list { IfOk result (λ made. V.tells → (kept : Kept) (config : Config) →
             Self.kind.is_of kept (present (V.state volume.old)) self → Self.kind.is_under config self →
-            floor_of meaning kept.ops ≤ length kept.ops →
+            AreSizes (length kept.ops) kept.sizes → floor_of meaning kept.ops ≤ length kept.ops →
             Self.kind.is_of (kept_pruned config kept location) (present (V.state volume.new)) made) }
         ensures settled { IfOk result (IsSettled Self.kind self) }
         ensures durable { IfOk result (λ made. V.tells → (kept : Kept) →

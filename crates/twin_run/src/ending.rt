@@ -1,15 +1,21 @@
 ghost use Rattle.std.specs.Prelude.{◌≡◌};
-ghost use Rattle.twin_run.specs.Faults.{fault_of};
+ghost use Rattle.twin_run.specs.Faults.{full_fault, compact_fault};
 
 use chain_core::Error;
 use command_text::Replies;
-use tree_shape::Mmr;
+use tree_shape::{Mmr, Sha256Digest};
 
 /// What of a volume's contents is no state of the log.
 #[derive(Debug, PartialEq, Eq, Drop)]
 pub enum CorruptAt {
     /// What the full database keeps, by its error.
     Full(Error<Mmr>),
+    /// What the compact database keeps, by its error.
+    Compact(Error<Mmr>),
+    /// The sizes of the full and of the compact database, which differ.
+    Sizes(u64, u64),
+    /// The roots of the full and of the compact database, which differ.
+    Roots(Sha256Digest, Sha256Digest),
 }
 
 /// What ends a run.
@@ -19,20 +25,29 @@ pub enum Fault {
     Volume,
     /// The volume holds no valid state.
     Corrupt(CorruptAt),
-    /// A log isn't 0..0, or the map isn't empty.
-    NotFresh,
     /// There is no memory.
     Memory,
 }
 
 /// The fault that an error of the full database is: what comes from outside, or what lies in the contents.
-pub fn fault_of(error: Error<Mmr>) -> Fault
-    ensures { result ≡ fault_of error }
+pub(crate) fn full_fault(error: Error<Mmr>) -> Fault
+    ensures { result ≡ full_fault error }
 {
     match error {
         Error::Volume => Fault::Volume,
         Error::Memory => Fault::Memory,
         other => Fault::Corrupt(CorruptAt::Full(other)),
+    }
+}
+
+/// The fault that an error of the compact database is.
+pub(crate) fn compact_fault(error: Error<Mmr>) -> Fault
+    ensures { result ≡ compact_fault error }
+{
+    match error {
+        Error::Volume => Fault::Volume,
+        Error::Memory => Fault::Memory,
+        other => Fault::Corrupt(CorruptAt::Compact(other)),
     }
 }
 
@@ -60,8 +75,6 @@ pub enum Status {
     Volume,
     /// The volume holds no valid state.
     Corrupt,
-    /// A log isn't 0..0, or the map isn't empty.
-    NotFresh,
     /// There is no memory.
     Memory,
     /// The input is too long.

@@ -1,17 +1,21 @@
 //! How the full side of the run is opened.
-ghost use Rattle.std.specs.Prelude.{◌≡◌, IfOk, IfErr, string_bytes};
+ghost use Rattle.std.specs.Prelude.{◌≡◌, ◌≢◌, ◌<◌, ℕ, List, Some, IfOk, IfErr, IsErr, string_bytes};
 ghost use Rattle.std.specs.NonZero.{non_zero_u64_get};
 ghost use Rattle.chain_core.specs.Answers.{IsOutside};
+ghost use Rattle.twin_run.specs.Faults.{IsOfFullOpening};
 ghost use Rattle.volume_base.specs.Moments.{present};
-ghost use Rattle.volume_base.specs.Names.{two_logs_and_map, NamesCall};
+ghost use Rattle.volume_base.specs.Names.{NamesCall};
 ghost use Rattle.volume_base.specs.Volume.{Changes};
-ghost use Rattle.twin_run.specs.FullKind.{full_kind};
-ghost use Rattle.twin_run.specs.StateOf.{IsShaped, IsStateOf};
-ghost use Rattle.twin_run.specs.Trace.{fresh_state, IsFresh};
+ghost use Rattle.tree_shape.specs.Mmr.{mmr};
+ghost use Rattle.merkle_full.specs.Full.{Rests};
+ghost use Rattle.twin_run.specs.FullKind.{IsFullDbOf, IsFullStart, full_end, full_kind, kept_full, opened_list};
+ghost use Rattle.twin_run.specs.Operation.{Operation};
+ghost use Rattle.twin_run.specs.Reopening.{KeepsOperations};
+ghost use Rattle.twin_run.specs.Starts.{full_names};
 
+use crate::compact_opening::cap_of;
 use crate::config::TwinConfig;
 use crate::full_side::{Full, open_full};
-use crate::side::Side;
 use chain_core::Error;
 use codec_base::LengthCfg;
 use journal_base::JournalConfig;
@@ -53,39 +57,46 @@ fn full_config(
     })
 }
 
-impl Side<Full> {
-    /// The full database under a configuration, without batches. On a fresh volume it is that of the first commit, and
-    /// is refused by the volume or for want of memory alone. What is there is durable.
-    pub fn open<V: Volume>(
-        alloc: Global,
-        config: &TwinConfig,
-        volume: &mut V,
-    ) -> Result<Self, Error<Mmr>>
-        ensures opened { IfOk result (λ side. V.tells →
-            IsFresh config.now (V.state volume.old).log (V.state volume.old).map →
-            IsStateOf full_kind (present (V.state volume.new)) side.db side.numbers fresh_state) }
-        // Whatever the volume holds.
-        ensures under { IfOk result (λ side. full_kind.is_under config.now side.db) }
-        ensures sound { IfOk result (λ side. full_kind.is_sound side.db) }
-        ensures durable { IfOk result (λ side. V.tells → full_kind.is_synced side.db (V.state volume.new)) }
-        ensures shaped { IfOk result (λ side. IsShaped full_kind side.numbers) }
-        ensures limit { IfOk result (λ side. side.limit ≡ config.now.value_limit) }
-        ensures taken { IfOk result (λ side. side.numbers.taken ≡ 0) }
-        ensures errors { IfErr result (λ e. V.tells →
-            IsFresh config.now (V.state volume.old).log (V.state volume.old).map → IsOutside e) }
-        ensures names { let names = two_logs_and_map config.now.log config.now.nodes config.now.metadata in
-            V.tells → NamesCall names (V.state volume.old) (V.state volume.new) }
-        ensures same_names { IfOk result (λ side. full_kind.names side.db ≡
-            two_logs_and_map config.now.log config.now.nodes config.now.metadata) }
-        ensures changes { Changes V.tells Error.Volume (V.state volume.old) (V.state volume.new) result }
-    {
-        let Ok(cfg) = full_config(alloc, config) else {
-            return Err(Error::Memory);
-        };
-        config.names_apart();
-        match open_full(alloc, volume, cfg, None) {
-            Ok(db) => Ok(Side::of(db, alloc, config.value_limit())),
-            Err(error) => Err(error),
-        }
-    }
+/// The full database under a configuration, at the last commit within a cap; or at the last of all. A log that holds
+/// nothing gets the first commit. It refuses as `Keyless::init`, a cap of 0 with `InvalidInitializationBound` among it.
+pub(crate) fn open_full_under<V: Volume>(
+    alloc: Global,
+    config: &TwinConfig,
+    volume: &mut V,
+    cap: Option<u64>,
+) -> Result<Full, Error<Mmr>>
+    // A cap of 0 is refused, and leaves the volume.
+    ensures bound { cap ≡ Some 0 → IsErr result × (volume.new ≡ volume.old) }
+    // Of contents that stand for a list, it is the list's up to the last commit within the cap; where there is none,
+    // that of the first commit alone. The log begins where it did.
+    ensures opened { let old = present (V.state volume.old) in
+        IfOk result (λ db. V.tells → (list : List Operation) (sizes : List ℕ) (wstart : ℕ) →
+        IsFullStart config.now old cap list →
+        let start = (old.log config.now.log).start in
+        IsFullDbOf (kept_full (opened_list (full_end cap list) list) sizes start wstart)
+        (present (V.state volume.new)) db) }
+    // And it is refused by the volume or for want of memory alone.
+    ensures standing { cap ≢ Some 0 → let old = present (V.state volume.old) in
+        IfErr result (λ e. V.tells → (list : List Operation) → IsFullStart config.now old cap list → IsOutside e) }
+    // Whatever the volume holds, it fails by one of these alone; the log of operations keeps a front of what it has, or
+    // begins at 0 and gets the first commit.
+    ensures errors { IfErr result (IsOfFullOpening cap) }
+    ensures operations { IfOk result (λ db. V.tells → KeepsOperations config.now.value_limit cap db.state.size
+        ((V.state volume.old).log config.now.log) ((V.state volume.new).log config.now.log)) }
+    // It has the configuration's blobs and limit, keeps no failed sync, has an operation, its memory is at rest, and
+    // what is there is durable.
+    ensures under { IfOk result (λ db. full_kind.is_under config.now db) }
+    ensures sound { IfOk result (λ db. full_kind.is_sound db) }
+    ensures some { IfOk result (λ db. 0 < db.state.size) }
+    ensures rests { IfOk result (λ db. Rests mmr db.journal.tree) }
+    ensures durable { IfOk result (λ db. V.tells → full_kind.is_synced db (V.state volume.new)) }
+    ensures names { V.tells → NamesCall (full_names config.now) (V.state volume.old) (V.state volume.new) }
+    ensures same_names { IfOk result (λ db. full_kind.names db ≡ full_names config.now) }
+    ensures changes { Changes V.tells Error.Volume (V.state volume.old) (V.state volume.new) result }
+{
+    let Ok(cfg) = full_config(alloc, config) else {
+        return Err(Error::Memory);
+    };
+    config.names_apart();
+    open_full(alloc, volume, cfg, cap_of(cap))
 }

@@ -1,5 +1,5 @@
 //! Proofs of the operations of the side that has the full database.
-ghost use Rattle.std.specs.Prelude.{◌≡◌, ℕ, map, Option, Some, None, Ok, IfOk, IfErr, IsOkUnless};
+ghost use Rattle.std.specs.Prelude.{◌≡◌, ℕ, Option, Some, None, Ok, IfOk, IfErr};
 ghost use Rattle.std.specs.NonZero.{non_zero_u64_get};
 ghost use Rattle.std.specs.Option.{option_map};
 ghost use Rattle.volume_base.specs.Moments.{present};
@@ -11,18 +11,17 @@ ghost use Rattle.keyless_db.specs.Reading.{late_refusal};
 ghost use Rattle.command_text.specs.declared.command.Answer.TheVariants as answer;
 ghost use Rattle.twin_run.specs.Config.{Config};
 ghost use Rattle.twin_run.specs.FullKind.{full_kind};
-ghost use Rattle.twin_run.specs.Operation.{Operation, meaning};
+ghost use Rattle.twin_run.specs.Operation.{Operation};
 ghost use Rattle.twin_run.specs.Proving.{known_refusal, says_no_commit, shown};
 ghost use Rattle.twin_run.specs.StateOf.{StandsGood};
 ghost use Rattle.twin_run.specs.Step.{prove};
 
+use crate::encoded_proof::proof_answer;
 use crate::full_side::Full;
 use crate::operation::Operation;
 use crate::side::Side;
 use chain_core::Error;
-use codec_base::{CodecError, ListOf, encode};
-use command_text::{Answer, OpList, ProofAnswer, Refusal};
-use std::alloc::Global;
+use command_text::{Answer, Refusal};
 use std::num::NonZeroU64;
 use tree_proof::Proof;
 use tree_shape::{Location, Mmr, Sha256Digest};
@@ -59,38 +58,6 @@ fn says_no_commit(error: &Error<Mmr>) -> bool
     ensures { result ≡ says_no_commit error.now }
 {
     matches!(error, Error::HistoricalFloorPruned(_))
-}
-
-/// The encodings of operations, in their order.
-fn encoded(alloc: Global, operations: &[Operation]) -> Result<OpList, CodecError>
-    ensures list { IfOk result (λ list. list ≡ map meaning.encoding operations.now) }
-    ensures memory { IsOkUnless result CodecError.Memory }
-{
-    let mut list = ListOf::new(alloc);
-    for operation in operations {
-        list.push(encode(alloc, operation)?)?;
-    }
-    Ok(list)
-}
-
-/// The answer of a proof, with the location from which on it shows operations, and these.
-fn proof_answer(
-    proof: Proof<Mmr, Sha256Digest>,
-    start: u64,
-    operations: Vec<Operation>,
-) -> Result<Answer, Error<Mmr>>
-    ensures answer { IfOk result (λ made. made ≡
-        answer.Proof (record { proof = proof; start = start; operations = map meaning.encoding operations.items })) }
-    ensures memory { IsOkUnless result Error.Memory }
-{
-    match encoded(*operations.allocator(), &operations) {
-        Ok(operations) => Ok(Answer::Proof(ProofAnswer {
-            proof,
-            start,
-            operations,
-        })),
-        Err(_) => Err(Error::Memory),
-    }
 }
 
 impl Side<Full> {
@@ -144,7 +111,9 @@ impl Side<Full> {
         ensures reads { Reads V.tells Error.Volume (V.state volume.old) (V.state volume.new) result }
     {
         match self.shown(volume, s, a, n) {
-            Ok(Some((proof, operations))) => proof_answer(proof, a, operations),
+            Ok(Some((proof, operations))) => {
+                proof_answer(*operations.allocator(), proof, a, &operations)
+            }
             Ok(None) => Ok(Answer::Refused(Refusal::HistoricalFloorPruned(s))),
             Err(error) => Err(error),
         }
@@ -175,8 +144,8 @@ impl Side<Full> {
     }
 
     /// The proof of the operations from `a` on, at most `n`, in the first `s` of the log, with their encodings. It
-    /// refuses, in this order: a size of 0 or past the end, one whose last operation isn't kept, one that no commit ends,
-    /// a location at or past the size, and one whose operation isn't kept.
+    /// refuses, in this order: a size of 0 or past the end, one whose last operation isn't kept, one that no commit
+    /// ends, a location at or past the size, and one whose operation isn't kept.
     pub fn prove<V: Volume>(
         &self,
         volume: &mut V,

@@ -1,23 +1,16 @@
 //! The full database, which keeps each operation and their tree on a volume, as a database of the run.
-ghost use Rattle.std.specs.Prelude.{◌≡◌, ◌≢◌, ◌<◌, ◌≤◌, ◌^◌, ◌∷◌, [], ℕ, List, Some, Err, length, take, slice_get, IfOk, IfErr, string_bytes};
-ghost use Rattle.std.specs.FinMap as map;
+ghost use Rattle.std.specs.Prelude.{◌≡◌, ◌≢◌, ◌<◌, ℕ, List, Some, Err, IfOk, IfErr, string_bytes};
 ghost use Rattle.std.specs.NonZero.{non_zero_u64_get};
 ghost use Rattle.volume_base.specs.Moments.{present};
 ghost use Rattle.volume_base.specs.Names.{two_logs_and_map, NamesCall};
 ghost use Rattle.volume_base.specs.Volume.{Changes};
-ghost use Rattle.journal_base.specs.Items.{Spells};
-ghost use Rattle.journal_base.specs.View.{capped};
 ghost use Rattle.tree_shape.specs.Mmr.{mmr};
-ghost use Rattle.tree_shape.specs.Sha256Codec.{bytes_of};
-ghost use Rattle.tree_store.specs.Stored.{TreeStands};
-ghost use Rattle.auth_journal.specs.Joined.{leaves_of};
-ghost use Rattle.log_model.specs.Opening.{last_commit};
+ghost use Rattle.merkle_full.specs.Full.{Rests};
 ghost use Rattle.chain_core.specs.Answers.{IsOutside};
-ghost use Rattle.twin_run.specs.FullKind.{IsFullDbOf, full_kind, kept_full};
-ghost use Rattle.twin_run.specs.Kind.{kept_of};
-ghost use Rattle.twin_run.specs.Operation.{Operation, meaning, sha};
-ghost use Rattle.twin_run.specs.Step.{plain_commit};
-ghost use Rattle.twin_run.specs.Trace.{fresh_state, IsFreshLog};
+ghost use Rattle.twin_run.specs.Faults.{IsOfFullOpening};
+ghost use Rattle.twin_run.specs.FullKind.{HasFullStart, IsFullDbOf, full_end, full_kind, kept_full, opened_list};
+ghost use Rattle.twin_run.specs.Operation.{Operation};
+ghost use Rattle.twin_run.specs.Reopening.{KeepsOperations};
 
 use crate::database::Database;
 use crate::operation::Operation;
@@ -133,35 +126,36 @@ pub fn open_full<V: Volume>(
 ) -> Result<Full, Error<Mmr>>
     requires { string_bytes cfg.log.name ≢ string_bytes cfg.merkle.nodes }
     ensures bound { cap ≡ Some 0 → (result ≡ Err Error.InvalidInitializationBound) × (volume.new ≡ volume.old) }
-    // Of a log with a list's operations, beside the list's tree, it is the list's up to the last commit within the cap;
-    // where there is none, that of the first commit alone. The log begins where it did.
-    ensures held { V.tells → let log = (V.state volume.old).log (string_bytes cfg.log.name) in
-        let nodes = (V.state volume.old).log (string_bytes cfg.merkle.nodes) in
-        let pins = (V.state volume.old).map (string_bytes cfg.merkle.metadata) in
-        IfOk result (λ db. (ops : List Operation) (durable wstart : ℕ) (sizes : List ℕ) →
-        Spells meaning.encoding ops log → length ops ≤ 2 ^ 62 →
-        TreeStands mmr sha bytes_of (leaves_of mmr sha meaning.encoding ops) durable log.start nodes pins →
-        ((i : ℕ) (op : Operation) → slice_get ops i ≡ Some op → ⟦<Operation as Read>⟧.admits cfg.log.codec op) →
-        let size = last_commit meaning (capped cap (length ops)) ops in
-        (0 < size → IsFullDbOf (kept_full (take size ops) sizes log.start wstart) (present (V.state volume.new)) db)
-        × (size ≡ 0 →
-        IsFullDbOf (kept_full (plain_commit ∷ []) sizes log.start wstart) (present (V.state volume.new)) db)) }
-    // Of logs and a map that hold nothing it is the database of the state in which a fresh volume is opened; and there
-    // it is refused by the volume or for want of memory alone.
-    ensures fresh { V.tells → let old = V.state volume.old in IsFreshLog (old.log (string_bytes cfg.log.name)) →
-        IsFreshLog (old.log (string_bytes cfg.merkle.nodes)) →
-        old.map (string_bytes cfg.merkle.metadata) ≡ map.empty →
-        IfOk result (IsFullDbOf (kept_of fresh_state) (present (V.state volume.new))) }
-    ensures fresh_refused { cap ≢ Some 0 → V.tells → let old = V.state volume.old in
-        IsFreshLog (old.log (string_bytes cfg.log.name)) → IsFreshLog (old.log (string_bytes cfg.merkle.nodes)) →
-        old.map (string_bytes cfg.merkle.metadata) ≡ map.empty → IfErr result IsOutside }
-    // Whatever the volume holds, its logs have the configuration's blobs and codec, it keeps no failed sync, and what
-    // is there is durable.
+    // Of contents that stand for a list, it is the list's up to the last commit within the cap; where there is none,
+    // that of the first commit alone. The log begins where it did.
+    ensures held { let old = V.state volume.old in let log = old.log (string_bytes cfg.log.name) in
+        let nodes = old.log (string_bytes cfg.merkle.nodes) in
+        let pins = old.map (string_bytes cfg.merkle.metadata) in
+        IfOk result (λ db. V.tells → (list : List Operation) (sizes : List ℕ) (wstart : ℕ) →
+        HasFullStart cfg.log.codec.max log nodes pins cap list →
+        IsFullDbOf (kept_full (opened_list (full_end cap list) list) sizes log.start wstart)
+        (present (V.state volume.new)) db) }
+    // And it is refused by the volume or for want of memory alone.
+    ensures standing { cap ≢ Some 0 → let old = V.state volume.old in let log = old.log (string_bytes cfg.log.name) in
+        let nodes = old.log (string_bytes cfg.merkle.nodes) in
+        let pins = old.map (string_bytes cfg.merkle.metadata) in
+        IfErr result (λ e. V.tells → (list : List Operation) →
+        HasFullStart cfg.log.codec.max log nodes pins cap list → IsOutside e) }
+    // Whatever the volume holds, it fails by one of these alone; the log of operations keeps a front of what it has, or
+    // begins at 0 and gets the first commit.
+    ensures errors { IfErr result (IsOfFullOpening cap) }
+    ensures operations { let name = string_bytes cfg.log.name in IfOk result (λ db. V.tells →
+        KeepsOperations cfg.log.codec.max cap db.state.size ((V.state volume.old).log name)
+        ((V.state volume.new).log name)) }
+    // Its logs have the configuration's blobs and codec, it keeps no failed sync, and what is there is durable.
     ensures under { IfOk result (λ db. (db.journal.items.blob ≡ non_zero_u64_get cfg.log.items_per_blob)
         × (db.journal.tree.log.blob ≡ non_zero_u64_get cfg.merkle.items_per_blob)
         × (db.journal.items.codec ≡ cfg.log.codec)) }
     ensures sound { IfOk result (λ db. full_kind.is_sound db) }
     ensures durable { IfOk result (λ db. V.tells → full_kind.is_synced db (V.state volume.new)) }
+    // It has an operation, and the tree's memory is at rest.
+    ensures some { IfOk result (λ db. 0 < db.state.size) }
+    ensures rests { IfOk result (λ db. Rests mmr db.journal.tree) }
     ensures names { let names = two_logs_and_map (string_bytes cfg.log.name) (string_bytes cfg.merkle.nodes)
         (string_bytes cfg.merkle.metadata) in V.tells → NamesCall names (V.state volume.old) (V.state volume.new) }
     ensures same_names { IfOk result (λ db. full_kind.names db ≡ two_logs_and_map (string_bytes cfg.log.name)

@@ -1,6 +1,7 @@
 //! Laws of the definitions that the run is stated by.
 ghost use Rattle.twin_run.specs.GoodRuns.{StepsStayGood, RunsAreGood};
-ghost use Rattle.twin_run.specs.Laws.{SizesNeverFall, RepliesTellLists, RunsContinue, RefusalsKeep, StorageKeepsLists, QuestionsKeep, ProofsVerify};
+ghost use Rattle.twin_run.specs.Laws.{SizesNeverFall, RepliesTellLists, RunsContinue, RefusalsKeep, StorageKeepsLists, QuestionsKeep, ProofsVerify, CommitProofsVerify, CommitProofsAreProofs, LeftStatesReopen};
+ghost use Rattle.twin_run.specs.Openings.{EmptyOpensFresh, OpeningsAreGood};
 ghost use Rattle.twin_run.specs.Told.{StatesAreTold};
 
 use crate::operation::Operation;
@@ -24,7 +25,8 @@ pub fn runs_continue()
     ensures { RunsContinue }
 {}
 
-/// A refused command changes nothing; a seal that is refused as stale, for its location or for its floor loses its batch.
+/// A refused command changes nothing; a seal that is refused as stale, for its location or for its floor loses its
+/// batch.
 pub fn refusals_keep()
     ensures { RefusalsKeep }
 {}
@@ -46,6 +48,18 @@ pub fn proofs_verify()
     answers_verify_law::<Mmr, Sha256Hasher, Operation>();
 }
 
+/// A proof of a commit that is answered verifies, whether the operation log keeps the commit or not.
+pub fn commit_proofs_verify()
+    ensures { CommitProofsVerify }
+{
+    answers_verify_law::<Mmr, Sha256Hasher, Operation>();
+}
+
+/// A proof of a commit that the operation log keeps is what a proof from the commit on answers.
+pub fn commit_proofs_are_proofs()
+    ensures { CommitProofsAreProofs }
+{}
+
 /// Each kind of step makes a good state of a good state.
 pub fn steps_stay_good()
     ensures { StepsStayGood }
@@ -56,9 +70,22 @@ pub fn runs_are_good()
     ensures { RunsAreGood }
 {}
 
-/// Where nothing clashes that is hashed for the lists of a good state, size and root tell where its batches may be sealed, applied and read.
+/// Where nothing clashes that is hashed for the lists of a good state, size and root tell where its batches may be
+/// sealed, applied and read.
 pub fn states_are_told(limit: u64)
     ensures { StatesAreTold limit }
 {
     no_clash_law::<Mmr, Sha256Hasher, Operation>(&LengthCfg { max: limit });
 }
+
+/// What is opened of logs that hold what is kept of a good state, as a whole run leaves them, is that state.
+pub fn left_states_reopen()
+    ensures { LeftStatesReopen }
+{}
+
+/// Contents that stand for a good state without batches open in a good state, at an applied size that is at or past the
+/// durable one. Where the logs and the map hold nothing, they open in the state of the first commit alone.
+pub fn openings()
+    ensures good { OpeningsAreGood }
+    ensures empty { EmptyOpensFresh }
+{}

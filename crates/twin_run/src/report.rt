@@ -19,7 +19,6 @@ impl Status {
             Status::Corrupt => 7,
             Status::Memory => 8,
             Status::TooLong => 9,
-            Status::NotFresh => 10,
         }
     }
 }
@@ -39,7 +38,6 @@ impl fmt::Display for Status {
             Status::WriteFault => f.write_str("twins: cannot write output"),
             Status::Volume => f.write_str("twins: volume failed"),
             Status::Corrupt => f.write_str("twins: volume holds no valid state"),
-            Status::NotFresh => f.write_str("twins: volume is not fresh"),
             Status::Memory => f.write_str("twins: out of memory"),
             Status::TooLong => f.write_str("twins: input longer than 16777216 bytes"),
         }

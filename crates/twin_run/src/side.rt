@@ -1,20 +1,20 @@
 //! One side of the run: a database, and the batches of the run's numbers.
-ghost use Rattle.std.specs.Prelude.{◌≡◌, ◌<◌, ◌≤◌, [], length, slice_index_or, None, IfOk, IfErr, IsOkUnless};
+ghost use Rattle.std.specs.Prelude.{◌≡◌, ◌⊎◌, ◌<◌, ◌≤◌, [], length, slice_index_or, None, IfOk, IfErr, IsOkUnless};
 ghost use Rattle.log_model.specs.StateBatches as batches;
 ghost use Rattle.log_model.specs.Machine.{State, batch_at, with_batch};
-ghost use Rattle.chain_core.specs.Answers.{IsOutside};
-ghost use Rattle.chain_core.specs.Sealing.{refusal_of};
-ghost use Rattle.command_text.specs.declared.command.Answer.TheVariants as answer;
 ghost use Rattle.log_model.specs.declared.refusal.Refusal.{Refusal};
+ghost use Rattle.command_text.specs.declared.command.Answer.TheVariants as answer;
+ghost use Rattle.chain_core.specs.Answers.{IsOutside};
 ghost use Rattle.volume_base.specs.Moments.{Image, present};
 ghost use Rattle.volume_base.specs.Names.{NamesCall};
 ghost use Rattle.volume_base.specs.Volume.{Writes};
 ghost use Rattle.twin_run.specs.Config.{Config};
 ghost use Rattle.twin_run.specs.Kind.{kept_of};
+ghost use Rattle.twin_run.specs.Leaving.{KeepsBatches, LosesBatch};
 ghost use Rattle.twin_run.specs.Operation.{Operation};
-ghost use Rattle.twin_run.specs.Step.{begin, append_to, metadata_length, seal, apply, hold, release, snapshot, size, metadata};
+ghost use Rattle.twin_run.specs.Step.{refusal_in, begin, append_to, metadata_length, seal, apply, hold, release, snapshot, size, metadata};
 ghost use Rattle.twin_run.specs.Told.{IsTold};
-ghost use Rattle.twin_run.specs.StateOf.{IsShaped, HasRoom, IsStateOf, AnyState, IsToldBy, Follows, Answers};
+ghost use Rattle.twin_run.specs.StateOf.{IsShaped, HasRoom, IsStateOf, AnyState, Answers, Takes};
 ghost use Rattle.twin_run.specs.declared.numbers.Batch.TheVariants.{Unsealed, Gone};
 
 use crate::database::Database;
@@ -69,6 +69,9 @@ impl<D: Database> Side<D> {
         requires room { HasRoom self.old.numbers }
         ensures ok { IfOk result
             (λ a. Answers D.kind AnyState (λ s. begin s parent) self.old.db self.old.numbers self.new.numbers a) }
+        // Over any contents a refusal leaves each batch.
+        ensures refused { IfOk result (λ a. (why : Refusal) → a ≡ answer.Refused why →
+            KeepsBatches self.old.numbers self.new.numbers) }
         ensures db { self.new.db ≡ self.old.db }
         ensures limit { self.new.limit ≡ self.old.limit }
         ensures taken { self.new.numbers.taken ≡ self.old.numbers.taken }
@@ -94,6 +97,9 @@ impl<D: Database> Side<D> {
         ensures ok { IfOk result
             (λ a. Answers D.kind AnyState (λ s. append_to self.old.limit s b value.now (batch_at s b)) self.old.db
             self.old.numbers self.new.numbers a) }
+        // Over any contents a refusal leaves each batch.
+        ensures refused { IfOk result (λ a. (why : Refusal) → a ≡ answer.Refused why →
+            KeepsBatches self.old.numbers self.new.numbers) }
         ensures db { self.new.db ≡ self.old.db }
         ensures limit { self.new.limit ≡ self.old.limit }
         ensures taken { self.new.numbers.taken ≡ self.old.numbers.taken }
@@ -128,6 +134,9 @@ impl<D: Database> Side<D> {
         ensures ok { IfOk result
             (λ a. Answers D.kind IsTold (λ s. seal self.old.limit s b metadata floor (batch_at s b)) self.old.db
             self.old.numbers self.new.numbers a) }
+        // Over any contents a refusal leaves each batch, or this one alone is lost.
+        ensures refused { IfOk result (λ a. (why : Refusal) → a ≡ answer.Refused why →
+            KeepsBatches self.old.numbers self.new.numbers ⊎ LosesBatch D.kind b self.old.numbers self.new.numbers) }
         ensures db { self.new.db ≡ self.old.db }
         ensures limit { self.new.limit ≡ self.old.limit }
         ensures taken { self.new.numbers.taken ≡ self.old.numbers.taken }
@@ -165,6 +174,9 @@ impl<D: Database> Side<D> {
         ensures ok { IfOk result
             (λ a. Answers D.kind IsTold (λ s. seal self.old.limit s b metadata.now floor (batch_at s b)) self.old.db
             self.old.numbers self.new.numbers a) }
+        // Over any contents a refusal leaves each batch, or this one alone is lost.
+        ensures refused { IfOk result (λ a. (why : Refusal) → a ≡ answer.Refused why →
+            KeepsBatches self.old.numbers self.new.numbers ⊎ LosesBatch D.kind b self.old.numbers self.new.numbers) }
         ensures db { self.new.db ≡ self.old.db }
         ensures limit { self.new.limit ≡ self.old.limit }
         ensures taken { self.new.numbers.taken ≡ self.old.numbers.taken }
@@ -186,47 +198,51 @@ impl<D: Database> Side<D> {
         self.end(b, metadata, floor)
     }
 
-    /// Makes the list that of a sealed batch. Where it fails there is no side any more.
-    pub fn apply<V: Volume>(self, volume: &mut V, b: u64) -> Result<(Self, Answer), Error<Mmr>>
-        requires { IsShaped D.kind self.numbers }
-        ensures ok { IfOk result (λ r. Follows D.kind (IsToldBy D.kind V.tells) (λ s. apply s b (batch_at s b))
-            (present (V.state volume.old)) (present (V.state volume.new)) self.db r.0.db self.numbers r.0.numbers r.1) }
-        // Over any contents it answers as the list machine, and fails by no refusal.
-        ensures answers { IfOk result (λ r. (image : Image) (s : State Operation) → IsTold s →
-            IsStateOf D.kind image self.db self.numbers s → r.1 ≡ (apply s b (batch_at s b)).0) }
-        ensures unrefused { IfErr result (λ e. (image : Image) (s : State Operation) → IsTold s →
-            IsStateOf D.kind image self.db self.numbers s → refusal_of e ≡ None) }
-        ensures numbers { IfOk result (λ r. r.0.numbers ≡ self.numbers) }
-        // A refusal leaves the side and the volume.
-        ensures refused { IfOk result (λ r. (why : Refusal) → r.1 ≡ answer.Refused why →
-            (r.0 ≡ self) × (volume.new ≡ volume.old)) }
-        // Of a state for which it stands it fails by the volume or for want of memory alone.
-        ensures errors { IfErr result (λ e. (s : State Operation) → IsToldBy D.kind V.tells s →
-            IsStateOf D.kind (present (V.state volume.old)) self.db self.numbers s → IsOutside e) }
-        ensures names { V.tells → NamesCall (D.kind.names self.db) (V.state volume.old) (V.state volume.new) }
-        ensures same_names { IfOk result (λ r. D.kind.names r.0.db ≡ D.kind.names self.db) }
-        ensures sound { IfOk result (λ r. D.kind.is_sound self.db → D.kind.is_sound r.0.db) }
-        ensures under { IfOk result (λ r. (config : Config) → D.kind.is_under config self.db →
-            D.kind.is_under config r.0.db) }
-        ensures limit { IfOk result (λ r. r.0.limit ≡ self.limit) }
-        ensures taken { IfOk result (λ r. r.0.numbers.taken ≡ self.numbers.taken) }
-        ensures writes { Writes V.tells Error.Volume (V.state volume.old) (V.state volume.new) result }
-        ensures still { D.kind.in_memory → volume.new ≡ volume.old }
-        ensures memory { D.kind.in_memory → IsOkUnless result Error.Memory }
+    /// Why batch b isn't applied, where something refuses it.
+    pub fn apply_refusal(&self, b: u64) -> Option<Refusal>
+        requires { IsShaped D.kind self.now.numbers }
+        // Over any contents it is the list machine's refusal in each state for which the side stands.
+        ensures machine { (image : Image) (s : State Operation) → IsTold s →
+            IsStateOf D.kind image self.now.db self.now.numbers s →
+            result ≡ refusal_in (apply s b (batch_at s b)).0 }
+        ensures takes { result ≡ None → Takes D.kind self.now.db self.now.numbers b }
     {
         let Some(held) = self.numbers.held(b) else {
-            return Ok((self, Answer::Refused(Refusal::NoBatch(b))));
+            return Some(Refusal::NoBatch(b));
         };
         if self.db.validate(&self.numbers.pool, held.id).is_err() {
-            return Ok((self, Answer::Refused(Refusal::StaleBatch)));
+            return Some(Refusal::StaleBatch);
         }
-        let Side { db, numbers, limit } = self;
-        let db = match db.apply(volume, &numbers.pool, held.id) {
-            Ok(db) => db,
-            Err(error) => return Err(error),
+        None
+    }
+
+    /// Makes the list that of a sealed batch, which the side may apply. Where it fails there is no side any more.
+    pub fn apply<V: Volume>(self, volume: &mut V, b: u64) -> Result<Self, Error<Mmr>>
+        requires shaped { IsShaped D.kind self.numbers }
+        requires takes { Takes D.kind self.db self.numbers b }
+        ensures state { IfOk result (λ made. V.tells → (s : State Operation) → IsTold s →
+            IsStateOf D.kind (present (V.state volume.old)) self.db self.numbers s →
+            IsStateOf D.kind (present (V.state volume.new)) made.db made.numbers (apply s b (batch_at s b)).1) }
+        ensures numbers { IfOk result (λ made. made.numbers ≡ self.numbers) }
+        ensures limit { IfOk result (λ made. made.limit ≡ self.limit) }
+        // Of a state for which it stands it fails by the volume or for want of memory alone.
+        ensures errors { IfErr result (λ e. V.tells → (s : State Operation) → IsTold s →
+            IsStateOf D.kind (present (V.state volume.old)) self.db self.numbers s → IsOutside e) }
+        ensures names { V.tells → NamesCall (D.kind.names self.db) (V.state volume.old) (V.state volume.new) }
+        ensures same_names { IfOk result (λ made. D.kind.names made.db ≡ D.kind.names self.db) }
+        ensures sound { IfOk result (λ made. D.kind.is_sound self.db → D.kind.is_sound made.db) }
+        ensures under { IfOk result (λ made. (config : Config) → D.kind.is_under config self.db →
+            D.kind.is_under config made.db) }
+        ensures writes { Writes V.tells Error.Volume (V.state volume.old) (V.state volume.new) result }
+    {
+        let Some(held) = self.numbers.held(b) else {
+            unreachable!();
         };
-        let side = Side { db, numbers, limit };
-        Ok((side, Answer::Applied))
+        let Side { db, numbers, limit } = self;
+        match db.apply(volume, &numbers.pool, held.id) {
+            Ok(db) => Ok(Side { db, numbers, limit }),
+            Err(error) => Err(error),
+        }
     }
 
     /// Holds a sealed batch once more.
@@ -235,6 +251,9 @@ impl<D: Database> Side<D> {
         requires room { HasRoom self.old.numbers }
         ensures ok { Answers D.kind AnyState (λ s. hold s b (batch_at s b)) self.old.db self.old.numbers
             self.new.numbers result }
+        // Over any contents a refusal leaves each batch.
+        ensures refused { (why : Refusal) → result ≡ answer.Refused why →
+            KeepsBatches self.old.numbers self.new.numbers }
         ensures db { self.new.db ≡ self.old.db }
         ensures limit { self.new.limit ≡ self.old.limit }
         ensures taken { self.new.numbers.taken ≡ self.old.numbers.taken }
@@ -270,6 +289,9 @@ impl<D: Database> Side<D> {
         requires { IsShaped D.kind self.old.numbers }
         ensures ok { Answers D.kind AnyState (λ s. release s b (batch_at s b)) self.old.db self.old.numbers
             self.new.numbers result }
+        // Over any contents a refusal leaves each batch.
+        ensures refused { (why : Refusal) → result ≡ answer.Refused why →
+            KeepsBatches self.old.numbers self.new.numbers }
         ensures db { self.new.db ≡ self.old.db }
         ensures limit { self.new.limit ≡ self.old.limit }
         ensures taken { self.new.numbers.taken ≡ self.old.numbers.taken }
@@ -300,6 +322,7 @@ impl<D: Database> Side<D> {
         requires room { HasRoom self.old.numbers }
         ensures ok { IfOk result
             (λ a. Answers D.kind AnyState snapshot self.old.db self.old.numbers self.new.numbers a) }
+        ensures done { IfOk result (λ a. (why : Refusal) → a ≡ answer.Refused why → ⊥) }
         ensures db { self.new.db ≡ self.old.db }
         ensures limit { self.new.limit ≡ self.old.limit }
         ensures taken { self.new.numbers.taken ≡ self.old.numbers.taken }

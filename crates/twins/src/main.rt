@@ -1,14 +1,13 @@
-//! Runs commands over a database on a fresh volume in memory, and a list beside it, and writes the replies.
+//! Runs commands over both databases of a folder, and writes the replies.
 #![tactic(auto)]
 
-use host_edge::{StdSink, StdSource};
-use memory_volume::MemoryVolume;
+use host_edge::{FolderVolume, StdSink, StdSource};
 use std::env;
 use std::io::ErrorKind;
 use std::process::ExitCode;
-use twin_run::{Status, twins_main};
+use twin_run::{Status, folder_of, twins_main};
 
-/// Runs the program over standard input and output and a volume in memory, and says how it ends.
+/// Runs the program over standard input and output and the folder that the words name, and says how it ends.
 fn run_program(rt: &HostRuntime) -> Status {
     let alloc = rt.alloc();
     let args = match env::args(rt) {
@@ -19,9 +18,15 @@ fn run_program(rt: &HostRuntime) -> Status {
     let Ok(words) = args.skip(1).collect::<Vec<String>>(alloc) else {
         return Status::Memory;
     };
+    let Ok(files) = rt.clone() else {
+        return Status::Memory;
+    };
+    // No file is touched before the first call of the volume.
+    let Ok(mut volume) = FolderVolume::new(files, alloc, folder_of(&words)) else {
+        return Status::Memory;
+    };
     let mut input = StdSource::new(rt.stdin());
     let mut output = StdSink::new(rt.stdout());
-    let mut volume = MemoryVolume::new(alloc);
     twins_main(alloc, &words, &mut input, &mut output, &mut volume)
 }
 

@@ -1,11 +1,18 @@
 use Rattle.std.proofs.Common.{sym, subst}
 use Rattle.std.specs.Prelude.{string_bytes}
+use Rattle.std.proofs.lemmas.Result.{IfOk-weaker}
 use Rattle.volume_base.specs.Names.{log_alone, NamesCall}
 use Rattle.volume_base.proofs.CallLemmas.{names_call_none}
+use Rattle.journal_base.specs.View.{config_of}
+use Rattle.compact_db.specs.DbView.{seen_log}
+use Rattle.compact_db.specs.Import.{journal_of}
+use Rattle.compact_db.proofs.ServingLemmas.{and_ok}
+use Rattle.twin_run.proofs.CompactLemmas.{same_blob, same_failed}
 use Rattle.twin_run.proofs.CompactOpening.{either_cap, opened_fresh, opened_held}
 use Rattle.twin_run.proofs.CompactImages.{state_left, left_alone}
 use Rattle.twin_run.proofs.CompactRefusing.{read_again, fresh_not, state_not}
 use Rattle.twin_run.proofs.CompactStanding.{opened_state}
+use Rattle.twin_run.proofs.KeptFronts.{witnesses_keep}
 use Rattle.twin_run.proofs.compact_side.open_compact.Goals as goal
 
 pub returns-clause-fresh : goal.returns-clause-fresh
@@ -39,3 +46,19 @@ returns-clause-images g c = λ told. state_left _ _ _ _ _ _ _ c.init.result c.in
 
 pub returns-clause-durable : goal.returns-clause-durable
 returns-clause-durable g c = λ capped told. left_alone _ _ _ _ _ _ _ c.init.result (c.init.ensures.opens capped) told
+
+pub returns-clause-under : goal.returns-clause-under
+returns-clause-under g c = λ capped.
+    and_ok c.init.result _ _
+    (IfOk-weaker c.init.result _ _
+    (λ db log. same_blob (config_of (journal_of c.args.cfg)) (seen_log db.log) log.same)
+    (c.init.ensures.opens capped).log) c.init.ensures.codec
+
+pub returns-clause-sound : goal.returns-clause-sound
+returns-clause-sound g c = λ capped.
+    IfOk-weaker c.init.result _ _
+    (λ db log. same_failed (config_of (journal_of c.args.cfg)) (seen_log db.log) log.same)
+    (c.init.ensures.opens capped).log
+
+pub returns-clause-witnesses : goal.returns-clause-witnesses
+returns-clause-witnesses g c = λ capped. witnesses_keep _ _ _ _ _ _ _ c.init.result (c.init.ensures.opens capped)

@@ -1,169 +1,164 @@
-use Rattle.std.proofs.Common.{◌≡◌, ◌+◌, ◌++◌, ◌∷◌, [], List, drop, length, refl, sym, ◌∙◌, ap, subst, arith}
-use Rattle.std.proofs.lemmas.List.{length-append}
+use Rattle.std.proofs.Common.{◌≡◌, ◌+◌, [], List, Err, drop, length, refl, sym, ◌∙◌, ap, subst, arith}
 use Rattle.command_text.specs.declared.command.Reply.{Reply}
 use Rattle.volume_base.specs.Moments.{present}
-use Rattle.volume_base.specs.Names.{Names, NamesCall}
 use Rattle.volume_base.proofs.CallLemmas.{names_call_joins}
-use Rattle.volume_base.proofs.JoinLemmas.{went_of, went_joins}
+use Rattle.volume_base.proofs.JoinLemmas.{changes_joins, went_of, went_joins}
+use Rattle.twin_run.specs.Starts.{opened_from, twin_names}
 use Rattle.twin_run.specs.Step.{step}
 use Rattle.twin_run.specs.Told.{StatesAreTold}
-use Rattle.twin_run.specs.Trace.{trace, compact_roots, replies_from, fresh_state, IsBegun}
-use Rattle.twin_run.specs.Twins.{HoldsLog, full_names}
-use Rattle.twin_run.proofs.BothSides.{list_root}
-use Rattle.twin_run.proofs.HeldLog.{log_held}
+use Rattle.twin_run.specs.Trace.{trace, state_after, IsBegun, TellOneRoot}
+use Rattle.twin_run.specs.declared.ending.Fault.TheVariants as fault
+use Rattle.twin_run.proofs.HeldLog.{state_left}
 use Rattle.twin_run.proofs.RunGood.{way_begins, way_told, way_next}
-use Rattle.twin_run.proofs.RunLemmas.{none_begun, told_first, told_more, told_begun, told_all, roots_first, roots_more, roots_all, state_next, state_last}
+use Rattle.twin_run.proofs.RunLemmas.{none_begun, first_pushed, one_more, told_first, told_more, told_begun, told_all, none_tell, more_tell, state_next, state_last}
 use Rattle.twin_run.proofs.run.answer_all.Goals as goal
 
 pub returns-in-Err-clause-err : goal.returns-in-Err-clause-err
-returns-in-Err-clause-err g c = λ told clear. none_begun _ _ _ _ c.requires
+returns-in-Err-clause-err g c = λ told s start clear. none_begun _ _ _ _ c.requires
+
+pub returns-in-Err-clause-equal : goal.returns-in-Err-clause-equal
+returns-in-Err-clause-equal g c = none_tell _ c.requires
+
+pub returns-in-Err-clause-corrupt : goal.returns-in-Err-clause-corrupt
+returns-in-Err-clause-corrupt g c = λ told s start clear. c.in-Err.ensures.corrupt told s start
 
 pub returns-in_default-clause-err : goal.returns-in_default-clause-err
-returns-in_default-clause-err g c = λ told clear. none_begun _ _ _ _ (c.in_default.ensures.err ∙ c.requires)
+returns-in_default-clause-err g c = λ told s start clear.
+    none_begun _ _ _ _ (c.in_default.ensures.err ∙ c.requires)
+
+pub returns-in_default-clause-equal : goal.returns-in_default-clause-equal
+returns-in_default-clause-equal g c = none_tell _ (c.in_default.ensures.err ∙ c.requires)
 
 pub loop-command-init : goal.loop-command-init
 loop-command-init g c =
     let config = c.args.config.now in
+    let commands = c.args.commands.now in
     let opening = c.in-Ok.opened.1 in
     let done = c.in-Ok.ensures in
-    let first : c.push.new.self ≡ opening ∷ [] = c.in-Ok-push.ensures.ok
-    ∙ ap (λ (rs : List Reply). rs ++ (opening ∷ [])) c.requires in record {
+    let first = first_pushed _ c.push.new.self opening c.requires c.in-Ok-push.ensures.ok in record {
       shaped = done.shaped;
-      told = λ told clear. (
-        fresh_state,
-        done.opened told,
-        way_begins config c.args.commands.now,
-        told_first
-            config fresh_state c.args.commands.now opening c.push.new.self first (done.replied told),
-        refl,
-      );
-      roots = λ clear. (
-        fresh_state,
-        done.list,
-        way_begins config c.args.commands.now,
-        roots_first config fresh_state c.args.commands.now opening c.push.new.self first
-            (ap (λ (x : Reply). x.compact_root) done.roots
-            ∙ list_root config c.in-Ok.opened.0 fresh_state opening.answer done.list),
-      );
+      of = done.of;
+      told = λ told s start clear.
+          let now = opened_from config s (present (g.V.Volume.state c.args.volume.now)) in
+          let one = done.opened told s start in (
+            now,
+            one.1,
+            way_begins config now commands one.1.good refl,
+            told_first config now commands opening c.push.new.self first one.0,
+            refl,
+          );
+      equal = more_tell [] _ opening first done.equal tt;
       count = ap length first;
       taken = done.taken;
-      fresh = done.fresh;
       went = went_of _ _ _ _ _ done.changes;
       names = done.names;
-      same_names = done.same_names;
     }
 
 pub loop-command-preserved : goal.loop-command-preserved
 loop-command-preserved g c =
     let config = c.args.config.now in
     let commands = c.args.commands.now in
+    let old = present (g.V.Volume.state c.args.volume.now) in
     let i = c.loop-command.command-index in
     let inv = c.loop-command.invariant in
     let command = c.command-item.result in
+    let replies = c.loop-command.replies in
     let r = c.in-Ok-step.step.1 in
     let done = c.in-Ok-step.ensures in
-    let l = length-append c.loop-command.replies (r ∷ []) in
-    let more : c.push-in-loop-command.new.self ≡ c.loop-command.replies ++ (r ∷ []) = c.in-Ok-push-2.ensures.ok in
-    let count : length c.push-in-loop-command.new.self ≡ i + 1 + 1 = ap length more
-    ∙ omega (arith, l, inv.count) in record {
+    let lt = c.loop-command-test.true in
+    let is = sym c.command-item.is in
+    let rs = c.push-in-loop-command.new.self in
+    let more = c.in-Ok-push-2.ensures.ok in record {
       shaped = done.shaped;
-      told = λ told clear.
-          let t = inv.told told clear in
-          let s = t.0 in
-          let lists = way_told config fresh_state commands s (drop i commands)
-          (subst StatesAreTold c.value_limit.ensures.value c.states_are_told.ensures) clear t.2 in
-          let one = done.ok told config s lists t.1 in (
-            (step config s command).1,
+      of = done.of config inv.of;
+      told = λ told s start clear.
+          let first = opened_from config s old in
+          let all = trace config first commands in
+          let t = inv.told told s start clear in
+          let here = t.0 in
+          let next = (step config here command).1 in
+          let law = subst StatesAreTold c.value_limit.ensures.value c.states_are_told.ensures in
+          let lists = way_told config first commands here (drop i commands) law clear t.2 in
+          let one = done.ok told config here lists t.1 in (
+            next,
             one.1,
-            way_next config fresh_state commands s i command c.loop-command-test.true (sym c.command-item.is) t.2,
-            subst (λ (rs : List Reply). rs ++ replies_from config (step config s command).1
-                (drop (i + 1) commands) ≡ trace config fresh_state commands) (sym more)
-                (told_more config s commands c.loop-command.replies i
-                (trace config fresh_state commands) command r c.loop-command-test.true
-                (sym c.command-item.is) one.0 t.3),
-            state_next config s commands i command c.loop-command-test.true (sym c.command-item.is) ∙ t.4,
+            way_next config first commands here i command lt is t.2,
+            told_more config here commands replies i all rs command r lt is one.0 more t.3,
+            state_next config here (state_after config first commands) commands i t.4 command lt is,
           );
-      roots = λ clear.
-          let t = inv.roots clear in
-          let s = t.0 in
-          let lists = way_told config fresh_state commands s (drop i commands)
-          (subst StatesAreTold c.value_limit.ensures.value c.states_are_told.ensures) clear t.2 in
-          let list = done.list config s lists t.1 in (
-            (step config s command).1,
-            list,
-            way_next config fresh_state commands s i command c.loop-command-test.true (sym c.command-item.is) t.2,
-            subst (λ (rs : List Reply). compact_roots rs ++ compact_roots
-                (replies_from config (step config s command).1 (drop (i + 1) commands)) ≡ compact_roots
-                (trace config fresh_state commands)) (sym more)
-                (roots_more config s commands c.loop-command.replies i
-                (compact_roots (trace config fresh_state commands)) command r c.loop-command-test.true
-                (sym c.command-item.is)
-                (ap (λ (x : Reply). x.compact_root) done.roots
-                ∙ list_root config c.in-Ok-step.step.0 (step config s command).1 r.answer list) t.3),
-          );
-      count = count;
+      equal = more_tell replies rs r more done.equal inv.equal;
+      count = one_more replies rs r (i + 1) more inv.count;
       taken = omega (arith, done.taken, inv.taken);
-      fresh = inv.fresh;
       went = went_joins _ _ _ _ inv.went (went_of _ _ _ _ _ done.changes);
-      names = λ told. names_call_joins (full_names config) _ _ _ (inv.names told)
-          (subst (λ (n : Names). NamesCall n (g.V.Volume.state c.loop-command.volume)
-          (g.V.Volume.state c.step.new.volume)) inv.same_names (done.names told));
-      same_names = done.same_names ∙ inv.same_names;
+      names = λ told. names_call_joins (twin_names config) _ _ _ (inv.names told) (done.names told config inv.of);
     }
 
 pub returns-in-Err-step-clause-err : goal.returns-in-Err-step-clause-err
-returns-in-Err-step-clause-err g c = λ told clear.
-    let t = c.loop-command.invariant.told told clear in
-    told_begun c.args.config.now t.0 c.args.commands.now c.loop-command.replies c.loop-command.command-index
-    (trace c.args.config.now fresh_state c.args.commands.now) c.loop-command-test.true t.3
+returns-in-Err-step-clause-err g c = λ told s start clear.
+    let config = c.args.config.now in
+    let first = opened_from config s (present (g.V.Volume.state c.args.volume.now)) in
+    let t = c.loop-command.invariant.told told s start clear in
+    told_begun config t.0 c.args.commands.now c.loop-command.replies c.loop-command.command-index
+    (trace config first c.args.commands.now) c.loop-command-test.true t.3
 
 pub returns-in-Err-step-clause-corrupt : goal.returns-in-Err-step-clause-corrupt
-returns-in-Err-step-clause-corrupt g c = λ told clear.
+returns-in-Err-step-clause-corrupt g c = λ told s start clear.
     let config = c.args.config.now in
     let commands = c.args.commands.now in
-    let t = c.loop-command.invariant.told told clear in
-    c.in-Err-step.ensures.corrupt told config t.0 (way_told config fresh_state commands t.0
-    (drop c.loop-command.command-index commands) (subst StatesAreTold c.value_limit.ensures.value
-    c.states_are_told.ensures) clear t.2) t.1
+    let first = opened_from config s (present (g.V.Volume.state c.args.volume.now)) in
+    let t = c.loop-command.invariant.told told s start clear in
+    let law = subst StatesAreTold c.value_limit.ensures.value c.states_are_told.ensures in
+    c.in-Err-step.ensures.corrupt told config t.0
+    (way_told config first commands t.0 (drop c.loop-command.command-index commands) law clear t.2) t.1
 
 pub returns-in-Err-step-clause-names : goal.returns-in-Err-step-clause-names
 returns-in-Err-step-clause-names g c = λ told.
     let inv = c.loop-command.invariant in
-    names_call_joins (full_names c.args.config.now) _ _ _ (inv.names told)
-    (subst (λ (n : Names). NamesCall n (g.V.Volume.state c.loop-command.volume)
-    (g.V.Volume.state c.step.new.volume)) inv.same_names (c.in-Err-step.ensures.names told))
+    let config = c.args.config.now in
+    names_call_joins (twin_names config) _ _ _ (inv.names told) (c.in-Err-step.ensures.names told config inv.of)
+
+pub returns-in-Err-step-clause-changes : goal.returns-in-Err-step-clause-changes
+returns-in-Err-step-clause-changes g c =
+    changes_joins g.V.Volume.tells fault.Volume fault.Volume (g.V.Volume.state c.args.volume.now)
+    (g.V.Volume.state c.loop-command.volume) (g.V.Volume.state c.step.new.volume) (Err c.in-Err-step.fault)
+    (Err c.in-Err-step.fault) c.loop-command.invariant.went c.in-Err-step.ensures.changes
+    (λ is. let same : c.in-Err-step.fault ≡ fault.Volume = cc in ap Err same) tt
 
 pub returns-in_default-push-clause-err : goal.returns-in_default-push-clause-err
-returns-in_default-push-clause-err g c = λ told clear.
-    let t = c.loop-command.invariant.told told clear in
-    let all = trace c.args.config.now fresh_state c.args.commands.now in
+returns-in_default-push-clause-err g c = λ told s start clear.
+    let config = c.args.config.now in
+    let commands = c.args.commands.now in
+    let first = opened_from config s (present (g.V.Volume.state c.args.volume.now)) in
+    let all = trace config first commands in
+    let t = c.loop-command.invariant.told told s start clear in
     subst (λ (rs : List Reply). IsBegun rs all) (sym c.in_default-push.ensures.err)
-    (told_begun c.args.config.now t.0 c.args.commands.now c.loop-command.replies c.loop-command.command-index all
+    (told_begun config t.0 commands c.loop-command.replies c.loop-command.command-index all
     c.loop-command-test.true t.3)
+
+pub returns-in_default-push-clause-equal : goal.returns-in_default-push-clause-equal
+returns-in_default-push-clause-equal g c =
+    subst TellOneRoot (sym c.in_default-push.ensures.err) c.loop-command.invariant.equal
 
 pub returns-in_default-push-clause-names : goal.returns-in_default-push-clause-names
 returns-in_default-push-clause-names g c = λ told.
     let inv = c.loop-command.invariant in
-    names_call_joins (full_names c.args.config.now) _ _ _ (inv.names told)
-    (subst (λ (n : Names). NamesCall n (g.V.Volume.state c.loop-command.volume)
-    (g.V.Volume.state c.step.new.volume)) inv.same_names (c.in-Ok-step.ensures.names told))
+    let config = c.args.config.now in
+    names_call_joins (twin_names config) _ _ _ (inv.names told) (c.in-Ok-step.ensures.names told config inv.of)
 
 pub returns-clause-ok : goal.returns-clause-ok
-returns-clause-ok g c = λ told clear.
-    let t = c.loop-command.invariant.told told clear in
-    told_all c.args.config.now t.0 c.args.commands.now c.loop-command.replies c.loop-command.command-index
-    (trace c.args.config.now fresh_state c.args.commands.now) c.loop-command-test.false t.3
+returns-clause-ok g c = λ told s start clear.
+    let config = c.args.config.now in
+    let first = opened_from config s (present (g.V.Volume.state c.args.volume.now)) in
+    let t = c.loop-command.invariant.told told s start clear in
+    told_all config t.0 c.args.commands.now c.loop-command.replies c.loop-command.command-index
+    (trace config first c.args.commands.now) c.loop-command-test.false t.3
 
 pub returns-clause-left : goal.returns-clause-left
-returns-clause-left g c = λ told clear.
+returns-clause-left g c = λ told s start clear.
     let config = c.args.config.now in
-    let t = c.loop-command.invariant.told told clear in
-    subst (HoldsLog config (present (g.V.Volume.state c.loop-command.volume)))
-    (state_last config t.0 c.args.commands.now c.loop-command.command-index c.loop-command-test.false ∙ t.4)
-    (log_held config _ c.loop-command.twins.full.db t.0 t.1.named t.1.full.log)
-
-pub returns-clause-roots : goal.returns-clause-roots
-returns-clause-roots g c = λ clear.
-    let t = c.loop-command.invariant.roots clear in
-    roots_all c.args.config.now t.0 c.args.commands.now c.loop-command.replies c.loop-command.command-index
-    (compact_roots (trace c.args.config.now fresh_state c.args.commands.now)) c.loop-command-test.false t.3
+    let commands = c.args.commands.now in
+    let first = opened_from config s (present (g.V.Volume.state c.args.volume.now)) in
+    let last = state_after config first commands in
+    let t = c.loop-command.invariant.told told s start clear in
+    state_left config (present (g.V.Volume.state c.loop-command.volume)) c.loop-command.twins t.0 last t.1
+    (state_last config t.0 last commands c.loop-command.command-index t.4 c.loop-command-test.false)

@@ -1,32 +1,38 @@
-use Rattle.std.proofs.Common.{◌≡◌, sym, subst}
-use Rattle.command_text.specs.declared.command.Command.{Command}
+use Rattle.std.proofs.Common.{sym}
+use Rattle.std.specs.Prelude.{Ok}
+use Rattle.std.proofs.lemmas.Result.{IfOk-weaker}
 use Rattle.command_text.specs.declared.command.Command.TheVariants as command
-use Rattle.volume_base.specs.Moments.{present}
-use Rattle.twin_run.specs.Kind.{kept_of}
-use Rattle.twin_run.specs.Step.{step}
-use Rattle.twin_run.proofs.BothSides.{asked, metadata_asked}
+use Rattle.twin_run.specs.FullKind.{full_kind}
+use Rattle.twin_run.proofs.Commanding.{asked, asked_of}
 use Rattle.twin_run.proofs.commands.Side+Full.ask.Goals as goal
 
 pub returns-in-Get-clause-ok : goal.returns-in-Get-clause-ok
-returns-in-Get-clause-ok g c = asked c.get.result c.args.command.now (command.Get c.in-Get.l) _ _ c.args.self.now.db c.args.self.now.numbers c.in-Get.is c.get.ensures.ok
+returns-in-Get-clause-ok g c = asked full_kind _ _ c.args.self.now.db c.args.self.now.numbers c.get.result
+    c.args.command.now (command.Get c.in-Get.l) c.in-Get.is c.get.ensures.ok
 
 pub returns-in-GetMany-clause-ok : goal.returns-in-GetMany-clause-ok
-returns-in-GetMany-clause-ok g c = asked c.get_many.result c.args.command.now (command.GetMany c.in-GetMany.ls) _ _ c.args.self.now.db c.args.self.now.numbers c.in-GetMany.is c.get_many.ensures.ok
+returns-in-GetMany-clause-ok g c = asked full_kind _ _ c.args.self.now.db c.args.self.now.numbers c.get_many.result
+    c.args.command.now (command.GetMany c.in-GetMany.ls) c.in-GetMany.is c.get_many.ensures.ok
 
 pub returns-in-BatchGet-clause-ok : goal.returns-in-BatchGet-clause-ok
-returns-in-BatchGet-clause-ok g c = asked c.batch_get.result c.args.command.now (command.BatchGet c.in-BatchGet.b c.in-BatchGet.l) _ _ c.args.self.now.db c.args.self.now.numbers c.in-BatchGet.is c.batch_get.ensures.ok
+returns-in-BatchGet-clause-ok g c = asked full_kind _ _ c.args.self.now.db c.args.self.now.numbers c.batch_get.result
+    c.args.command.now (command.BatchGet c.in-BatchGet.b c.in-BatchGet.l) c.in-BatchGet.is c.batch_get.ensures.ok
 
 pub returns-in-BatchGetMany-clause-ok : goal.returns-in-BatchGetMany-clause-ok
-returns-in-BatchGetMany-clause-ok g c = asked c.batch_get_many.result c.args.command.now (command.BatchGetMany c.in-BatchGetMany.b c.in-BatchGetMany.ls) _ _ c.args.self.now.db c.args.self.now.numbers c.in-BatchGetMany.is c.batch_get_many.ensures.ok
+returns-in-BatchGetMany-clause-ok g c = asked full_kind _ _ c.args.self.now.db c.args.self.now.numbers
+    c.batch_get_many.result c.args.command.now (command.BatchGetMany c.in-BatchGetMany.b c.in-BatchGetMany.ls)
+    c.in-BatchGetMany.is c.batch_get_many.ensures.ok
 
 pub returns-in-Size-clause-ok : goal.returns-in-Size-clause-ok
-returns-in-Size-clause-ok g c told config s stands =
-    subst (λ (x : Command). c.size.result ≡ (step config s x).0) (sym c.in-Size.is)
-    (c.size.ensures (present (g.V.Volume.state c.args.volume.now)) s stands.is
-    (sym (c.start.ensures (kept_of s) (present (g.V.Volume.state c.args.volume.now)) stands.is.log)))
+returns-in-Size-clause-ok g c = asked_of {E = ⊥} full_kind _ _ c.args.self.now.db
+    c.args.self.now.numbers (Ok c.size.result) c.args.command.now command.Size c.in-Size.is
+    (λ image s is config. c.size.ensures image s is (sym (c.start.ensures image s is)))
 
 pub returns-in-Metadata-clause-ok : goal.returns-in-Metadata-clause-ok
-returns-in-Metadata-clause-ok g c = metadata_asked c.metadata.result c.args.command.now _ _ c.args.self.now.db c.args.self.now.numbers c.in-Metadata.is c.metadata.ensures.ok
+returns-in-Metadata-clause-ok g c = asked_of full_kind _ _ c.args.self.now.db c.args.self.now.numbers
+    c.metadata.result c.args.command.now command.Metadata c.in-Metadata.is
+    (IfOk-weaker c.metadata.result _ _ (λ a ok image s is config. ok image s is) c.metadata.ensures.ok)
 
 pub returns-in-Proof-clause-ok : goal.returns-in-Proof-clause-ok
-returns-in-Proof-clause-ok g c = asked c.prove.result c.args.command.now (command.Proof c.in-Proof.n c.in-Proof.a c.in-Proof.count) _ _ c.args.self.now.db c.args.self.now.numbers c.in-Proof.is c.prove.ensures.ok
+returns-in-Proof-clause-ok g c = asked full_kind _ _ c.args.self.now.db c.args.self.now.numbers c.prove.result
+    c.args.command.now (command.Proof c.in-Proof.n c.in-Proof.a c.in-Proof.count) c.in-Proof.is c.prove.ensures.ok

@@ -3,6 +3,7 @@ use Rattle.std.proofs.lemmas.Result.{IfOk-weaker}
 use Rattle.chain_core.specs.Reached.{item_at}
 use Rattle.journal_base.specs.View.{log_of}
 use Rattle.compact_db.specs.DbView.{seen_log}
+use Rattle.compact_db.proofs.ServingLemmas.{and_ok}
 use Rattle.twin_run.specs.CompactKind.{SealedView}
 use Rattle.twin_run.proofs.CompactLemmas.{applied_list, applied_errors, same_failed, same_blob}
 use Rattle.twin_run.proofs.compact_side.CompactDbMmrOperationSha256HasherDatabase.apply.Goals as goal
@@ -29,4 +30,8 @@ returns-clause-sound g c =
 pub returns-clause-under : goal.returns-clause-under
 returns-clause-under g c =
     let log = seen_log c.args.self.log in
-    IfOk-weaker c.apply_batch.result _ _ (λ made same config was. same_blob log (seen_log made.log) same ∙ was) c.apply_batch.ensures.log
+    let made = c.apply_batch.ensures in
+    IfOk-weaker c.apply_batch.result _ _ (λ made same config was. record {
+      blob = same_blob log (seen_log made.log) same.0 ∙ was.blob;
+      codec = same.1 ∙ was.codec;
+    }) (and_ok c.apply_batch.result _ _ made.log made.codec)

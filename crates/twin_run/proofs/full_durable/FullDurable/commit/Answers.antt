@@ -5,7 +5,7 @@ pub returns-clause-list : goal.returns-clause-list
 returns-clause-list g c =
     let made = c.commit.ensures in
     flushed_list g.V.Volume.tells c.args.self (g.V.Volume.state c.args.volume.now) (g.V.Volume.state c.commit.new.vol)
-    c.commit.result made.journal made.held made.contents
+    c.commit.result made.journal made.rests made.held made.contents
 
 pub returns-clause-durable : goal.returns-clause-durable
 returns-clause-durable g c =

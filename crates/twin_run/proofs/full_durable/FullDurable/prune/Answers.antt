@@ -6,7 +6,7 @@ returns-clause-list g c =
     let made = c.prune.ensures in
     pruned_list g.V.Volume.tells c.args.self (g.V.Volume.state c.args.volume.now) (g.V.Volume.state c.prune.new.vol)
     c.new.result c.args.location c.new.ensures c.requires.low
-    c.prune.result made.held made.moved made.pruned
+    c.prune.result made.held made.moved made.rests made.pruned
 
 pub returns-clause-durable : goal.returns-clause-durable
 returns-clause-durable g c =

@@ -1,11 +1,11 @@
-use Rattle.twin_run.proofs.FullDurable.{flushed_list, flushed_synced}
+use Rattle.twin_run.proofs.FullDurable.{synced_list, flushed_synced}
 use Rattle.twin_run.proofs.full_durable.FullDurable.sync.Goals as goal
 
 pub returns-clause-list : goal.returns-clause-list
 returns-clause-list g c =
     let made = c.sync.ensures in
-    flushed_list g.V.Volume.tells c.args.self (g.V.Volume.state c.args.volume.now) (g.V.Volume.state c.sync.new.vol)
-    c.sync.result made.journal made.held made.contents
+    synced_list g.V.Volume.tells c.args.self (g.V.Volume.state c.args.volume.now) (g.V.Volume.state c.sync.new.vol)
+    c.sync.result made.journal made.rests made.held made.contents
 
 pub returns-clause-durable : goal.returns-clause-durable
 returns-clause-durable g c =

@@ -13,4 +13,4 @@ returns-in-Ok-Some-clause-ok g c =
     ∙ answers_made s c.args.s (known_here config _ c.args.self.now.db _ s good c.args.s None c.requires.known) c.args.a (non_zero_u64_get c.args.n)
     (late_here config _ c.args.self.now.db _ s good c.args.s c.args.a None c.requires.late) (c.in-Ok-Some.proof, c.in-Ok-Some.operations.items)
     (ap (option_map view) (sym c.in-Ok-Some.field-0-is) ∙ c.in-Ok-Some.ensures.shown tells config s good))
-    c.proof_answer.ensures.answer
+    (rw c.deref.ensures.value at c.proof_answer.ensures.answer)

@@ -4,7 +4,7 @@ use Rattle.chain_core.specs.Reached.{item_at}
 use Rattle.auth_journal.specs.Appending.{unapplied}
 use Rattle.twin_run.specs.Operation.{meaning}
 use Rattle.twin_run.specs.FullKind.{SealedView}
-use Rattle.twin_run.proofs.FullLemmas.{alive_item, applied_list, applied_errors, applied_unrefused, appended_begins, names_wider, same_names}
+use Rattle.twin_run.proofs.FullLemmas.{alive_item, applied_list, applied_errors, appended_begins, names_wider, same_names}
 use Rattle.twin_run.proofs.full_side.KeylessMmrOperationVariableJournalOperationSha256HasherDatabase.apply.Goals as goal
 
 pub returns-clause-list : goal.returns-clause-list
@@ -16,18 +16,13 @@ returns-clause-list g c =
     let at = λ (x : SealedView). item_at c.args.pool.now c.args.id ≡ Some x in
     applied_list g.V.Volume.tells db old new at c.apply_batch.result made.held made.journal
     (appended_begins g.V.Volume.tells db old new at c.apply_batch.result (λ b. map meaning.encoding (unapplied b.tree db.journal.tree.tree.leaves))
-    (λ b there. (made.appends b there).appended))
+    (λ b there. (made.appends b there).appended)) made.names
 
 pub returns-clause-errors : goal.returns-clause-errors
 returns-clause-errors g c =
     let made = c.apply_batch.ensures in
     applied_errors c.args.self (λ (x : SealedView). item_at c.args.pool.now c.args.id ≡ Some x) g.V.Volume.tells (g.V.Volume.state c.args.volume.now) c.apply_batch.result
     made.errors made.fits made.room
-
-pub returns-clause-unrefused : goal.returns-clause-unrefused
-returns-clause-unrefused g c =
-    let made = c.apply_batch.ensures in
-    applied_unrefused c.args.self (λ (x : SealedView). item_at c.args.pool.now c.args.id ≡ Some x) c.apply_batch.result made.errors made.fits
 
 pub returns-clause-names : goal.returns-clause-names
 returns-clause-names g c tells =

@@ -23,6 +23,18 @@ returns-then-len-self-clause-ok g c =
     rw c.len-then-len-self.ensures.length
     (append_too_long g.D.Database.kind c.args.self.now.db n c.requires _ refl b u e c.args.self.now.limit c.args.value.now (set_same n.batches.items b _ e) refl (omega arith))
 
+pub returns-then-len-self-clause-refused : goal.returns-then-len-self-clause-refused
+returns-then-len-self-clause-refused g c = λ why is.
+    let n = c.args.self.now.numbers in
+    let e = read_at n.batches.items c.args.b c.index_mut.result.now (omega arith) c.index_mut.ensures.value ∙ c.in-Unsealed.is in
+    (set_same n.batches.items c.args.b _ e, refl)
+
+pub returns-then-size-ge-MAX_LEAVES-clause-refused : goal.returns-then-size-ge-MAX_LEAVES-clause-refused
+returns-then-size-ge-MAX_LEAVES-clause-refused g c = λ why is.
+    let n = c.args.self.now.numbers in
+    let e = read_at n.batches.items c.args.b c.index_mut.result.now (omega arith) c.index_mut.ensures.value ∙ c.in-Unsealed.is in
+    (set_same n.batches.items c.args.b _ e, refl)
+
 pub returns-then-size-ge-MAX_LEAVES-clause-ok : goal.returns-then-size-ge-MAX_LEAVES-clause-ok
 returns-then-size-ge-MAX_LEAVES-clause-ok g c =
     let n = c.args.self.now.numbers in
@@ -51,6 +63,7 @@ returns-in_default g c =
     record {
       ok = stays k c.args.self.now.db n c.requires _ refl (set_same n.batches.items b x e) refl AnyState _ (answer.Refused (NoBatch b)) (λ image s any is.
           append_sealed s b c.args.self.now.limit c.args.value.now _ (entry_sealed (same_lists k) n.batches.items n.pool s.batches b _ _ (is.batches.each b) (λ u at. c.in_default.not-Unsealed u (sym e ∙ at))));
+      refused = λ why is. (set_same n.batches.items b x e, refl);
       db = refl;
       limit = refl;
       taken = refl;

@@ -1,11 +1,9 @@
 use Rattle.std.proofs.Common.{refl}
-use Rattle.command_text.specs.declared.command.Answer.TheVariants as answer
-use Rattle.twin_run.specs.Step.{commit}
+use Rattle.log_model.specs.Machine.{committed}
 use Rattle.twin_run.proofs.Settling.{settles}
 use Rattle.twin_run.proofs.side.Side.commit.Goals as goal
 
-pub returns-in-Ok-clause-ok : goal.returns-in-Ok-clause-ok
-returns-in-Ok-clause-ok g c =
-    settles g.D.Database.kind g.V.Volume.tells _ _ c.args.self.db c.in-Ok.db c.args.self.numbers c.requires.shaped
-    commit answer.Committed (λ s. refl) (λ s. refl) (λ s. refl)
-    c.in-Ok.ensures.list
+pub returns-in-Ok-clause-state : goal.returns-in-Ok-clause-state
+returns-in-Ok-clause-state g c =
+    settles g.D.Database.kind g.V.Volume.tells _ _ c.args.self.db c.in-Ok.db c.args.self.numbers committed
+    (λ kept. kept) (λ s. refl) (λ s. refl) c.in-Ok.ensures.list

@@ -1,4 +1,4 @@
-use Rattle.std.proofs.Common.{set, refl, sym, ◌∙◌, ap, arith}
+use Rattle.std.proofs.Common.{inr, set, refl, sym, ◌∙◌, ap, arith}
 use Rattle.std.proofs.lemmas.List.{set-set}
 use Rattle.chain_core.specs.declared.bounds.Bounds.{Bounds}
 use Rattle.tree_shape.specs.declared.mmr.Mmr.{Mmr}
@@ -71,6 +71,18 @@ returns-in-Some-clause-ok g c =
           ended_meets k c.args.self.now.limit b c.args.floor c.args.metadata s w.0 w.1 c.requires.short image db new _
           (lost_meets k n b u e image db s told is w.0 w.1 c.args.metadata c.args.floor new c.in-Some.refusal why (lost_state k db n c.requires.shaped new refl b u e items c.in-Err.ensures.released image s is));
     }
+
+pub returns-in-Some-clause-refused : goal.returns-in-Some-clause-refused
+returns-in-Some-clause-refused g c = λ why is.
+    let n = c.args.self.now.numbers in
+    let b = c.args.b in
+    inr (record {
+      batch = c.in-Unsealed.batch;
+      was = read_at n.batches.items b c.index_mut.result.now c.requires.there c.index_mut.ensures.value
+          ∙ sym c.in-Unsealed.ensures.value;
+      gone = ap (set n.batches.items b) c.replace.ensures.after;
+      released = c.in-Err.ensures.released;
+    })
 
 pub returns-in-None-clause-memory : goal.returns-in-None-clause-memory
 returns-in-None-clause-memory g c =

@@ -1,4 +1,4 @@
-use Rattle.std.proofs.Common.{refl, sym, ◌∙◌, ap, arith}
+use Rattle.std.proofs.Common.{inl, refl, sym, ◌∙◌, ap, arith}
 use Rattle.command_text.specs.declared.command.Answer.TheVariants as answer
 use Rattle.log_model.specs.declared.refusal.Refusal.TheVariants.{NoBatch, ValueTooLong}
 use Rattle.twin_run.specs.Step.{metadata_length, seal}
@@ -15,6 +15,9 @@ returns-then-b-len-clause-ok g c =
     let b = c.args.b in
     stays k c.args.self.now.db n c.requires.shaped _ refl refl refl IsTold _ (answer.Refused (NoBatch b)) (λ image s told is. ap (seal c.args.self.now.limit s b c.args.metadata.now c.args.floor) (gone_past (same_lists k) n.batches.items n.pool s.batches is.batches b (omega arith)))
 
+pub returns-then-b-len-clause-refused : goal.returns-then-b-len-clause-refused
+returns-then-b-len-clause-refused g c = λ why is. inl (refl, refl)
+
 pub returns-in_default : goal.returns-in_default
 returns-in_default g c =
     let k = g.D.Database.kind in
@@ -25,6 +28,7 @@ returns-in_default g c =
     record {
       ok = stays k c.args.self.now.db n c.requires.shaped _ refl refl refl IsTold _ (answer.Refused (NoBatch b)) (λ image s told is.
           seal_sealed s b c.args.self.now.limit c.args.metadata.now c.args.floor _ (entry_sealed (same_lists k) n.batches.items n.pool s.batches b _ _ (is.batches.each b) (λ u at. c.in_default.not-Unsealed u (sym e ∙ at))));
+      refused = λ why is. inl (refl, refl);
       db = refl;
       limit = refl;
       taken = refl;
@@ -43,6 +47,9 @@ returns-then-long-self-clause-ok g c =
     let w = unsealed_there (same_lists k) n.batches.items n.pool s.batches is.batches b c.in-Unsealed.field-0 e in
     ap (seal c.args.self.now.limit s b c.args.metadata.now c.args.floor) w.1 ∙ seal_long s b w.0 c.args.self.now.limit c.args.metadata.now c.args.floor (let test = c.if-long-self.true in omega (arith, test, long))))
 
+pub returns-then-long-self-clause-refused : goal.returns-then-long-self-clause-refused
+returns-then-long-self-clause-refused g c = λ why is. inl (refl, refl)
+
 pub end-requires-clause-unsealed : goal.end-requires-clause-unsealed
 end-requires-clause-unsealed g c =
     let n = c.args.self.now.numbers in
@@ -56,3 +63,6 @@ end-requires-clause-short g c =
 
 pub returns-clause-ok : goal.returns-clause-ok
 returns-clause-ok g c = rw c.in-Ok.ensures.same at c.end.ensures.ok
+
+pub returns-clause-refused : goal.returns-clause-refused
+returns-clause-refused g c = c.end.ensures.refused

@@ -8,4 +8,4 @@ pub returns : goal.returns
 returns c = λ config image s of i.
     answer.Opened ((c.as_u64.ensures ∙ ap (λ d. d.size) (c.commitment.ensures
     ∙ full_kind.state_is (kept_of s) image c.args.self.now.full.db of.full.log)) i)
-    (c.start.ensures (kept_of s) image of.full.log i)
+    (c.start.ensures image s of.full i)
