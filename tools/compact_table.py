@@ -2,15 +2,15 @@
 
 Computed by trees.py and proofs.py and from these rules alone.
 
-A history begins with a commit of floor 0, and has three batches, each of some numbers and a commit behind them. Without keys each
-number is appended. With keys a number gives its key a value; of a key that is set again the later value stays, and the operations
-stand in the order of keys. A variable operation is its tag, its byte lists with their length in front, and of a commit an option
-byte and the floor as varint; a fixed one has numbers of eight bytes and zeros up to one width. Tags: 0 a commit and 1 an append;
-with keys 0 a set and 1 a commit.
+A history begins with a commit of floor 0, and has three batches, each of some numbers and a commit behind them. Without
+keys each number is appended. With keys a number gives its key a value; of a key that is set again the later value
+stays, and the operations stand in the order of keys. A variable operation is its tag, its byte lists with their length
+in front, and of a commit an option byte and the floor as varint; a fixed one has numbers of eight bytes and zeros up to
+one width. Tags: 0 a commit and 1 an append; with keys 0 a set and 1 a commit.
 
-A batch's proof is that of its own operations in its tree, with as many inactive peaks as end at or below its floor; its pins are the
-peaks before them. A cap opens the greatest size within it, and 0 none. What is served of a kept size is its commit, with the proof of
-it in the tree of that size and the peaks before it.
+A batch's proof is that of its own operations in its tree, with as many inactive peaks as end at or below its floor; its
+pins are the peaks before them. A cap opens the greatest size within it, and 0 none. What is served of a kept size is
+its commit, with the proof of it in the tree of that size and the peaks before it.
 """
 from proofs import cover
 from trees import Mmb, Mmr, node, number, peaks, root
@@ -90,7 +90,8 @@ class Database:
     def state(self, size):
         floor = self.floors[size]
         elements = self.operations[:size]
-        return f"size {size} floor {floor} root {root(self.family, elements, inactive(self.family, size, floor), True).hex()}"
+        digest = root(self.family, elements, inactive(self.family, size, floor), True)
+        return f"size {size} floor {floor} root {digest.hex()}"
 
     def proof(self, start, size):
         count = inactive(self.family, size, self.floors[size])
@@ -119,13 +120,44 @@ class Database:
         if size not in self.floors:
             print(f"  nothing served at {size}\n" * 2, end="")
             return
-        served = f"  served at {size}:{joined([self.operations[size - 1]])}\n{self.proof(size - 1, size)}\n{self.pins(size - 1)}\n"
+        commit = joined([self.operations[size - 1]])
+        served = f"  served at {size}:{commit}\n{self.proof(size - 1, size)}\n{self.pins(size - 1)}\n"
         print(served * 2, end="")
         print("  a prune is refused: import not applied")
         other = Database(self.family, self.operations[:size], {size: self.floors[size]})
         print(f"  imported: {other.state(size)}")
         print(f"  opened: {other.state(size)}")
         other.print_batch(made(encoding, *LATER), LATER[1])
+
+    def print_places(self, first):
+        """Where witnesses stand from a place on: they stand in the order of the states."""
+        places = list(enumerate(sorted(self.floors)))[first:]
+        print("  witnesses:" + "".join(f" {size} at {place}" for place, size in places))
+        for size in (7, 10):
+            if size in [kept for _, kept in places]:
+                print(f"  asked at {size}:{joined([self.operations[size - 1]])}\n{self.proof(size - 1, size)}")
+            else:
+                print(f"  asked at {size}: nothing")
+
+
+def print_calls(family, made, encoding):
+    """A snapshot, and a batch on it that is given up; a batch on a batch, of which only the upper one is applied; two
+    more batches; and what is kept before a prune and behind it. Two witnesses stand in a blob, and a prune lets go
+    whole blobs below the first witness whose size is at or past its place."""
+    database = Database(family, made(encoding, [], 0), {1: 0})
+    print("  a snapshot may be applied\n  with a batch on it it is held 2\n  without, 1")
+    print("  a batch on a batch may be applied")
+    database.operations = database.operations + made(encoding, range(0, 2), 1)
+    database.print_batch(made(encoding, range(2, 4), 2), 2)
+    print("  the batch below it may not be applied\n  no metadata")
+    size = len(database.operations)
+    print(f"  target {size} {database.state(size).split()[-1]}")
+    database.print_batch(made(encoding, range(4, 6), 3), 3)
+    database.print_batch(made(encoding, range(6, 9), 9), 9)
+    database.print_places(0)
+    past = next(place for place, size in enumerate(sorted(database.floors)) if size >= 10)
+    database.print_places(past // 2 * 2)
+    print(f"  taken away: {database.state(1)}")
 
 
 def print_kind(name, family, made, encoding):
@@ -138,6 +170,7 @@ def print_kind(name, family, made, encoding):
         database.print_opened(cap)
     for size in range(16):
         database.print_imported(made, encoding, size)
+    print_calls(family, made, encoding)
 
 
 def print_keyed(name, family, encoding):

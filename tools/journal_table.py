@@ -7,13 +7,17 @@ which it doesn't end. A size below the log's start is refused as pruned, and so 
 at or behind it matches. Of what is left the tree is made again, with its root. A tree of more leaves than there are items is refused as
 corrupt, at its number of leaves; any other is brought to the number of items.
 
+As any log of items a journal gives items their places, and is pruned by whole blobs; a proof of items has as many leaves as there are
+items.
+
 Then a history of a journal of which every third item matches: the opening, and steps that add items and call something. Each call of the
 volume fails in turn, and once none does. A failed call changes nothing. What a crash then leaves of a log is counted: a version since the
 last sync, of which an append makes one with each item, here the two newest; and of that the part between two positions, the end at least
 the least end of all versions, the start at most the greatest start. Each image of the log of items is opened beside each of the node log.
 All of these open as the program reckons, and with what is durable.
 """
-from trees import Mmb, Mmr, peaks, root
+from proofs import cover
+from trees import Mmb, Mmr, node, peaks, root
 
 ITEMS, BLOB, NODE_BLOB = 5, 2, 3
 STEPS = [
@@ -90,6 +94,29 @@ def print_rows(family, kind):
         for count in range(5):
             joined = f"Journal(Corruption({leaves}))" if count < leaves else opened(family, kind, 0, count)
             print(f"{name} of {leaves} leaves and {count} items: {joined}")
+
+
+def ready(start, to):
+    """The bounds of a log of all items that is made ready for those from a start up to an end. One that begins there, or
+    before it and ends past it, is cut to the end and loses whole blobs below the start; any other is empty at the start."""
+    if not (start == 0 or start < ITEMS):
+        return start, start
+    last = min(ITEMS, to)
+    return min(start, last) // BLOB * BLOB, last
+
+
+def print_calls(family, kind):
+    spelled = [kind.spelled(i, 31) for i in range(ITEMS)]
+    print(f"{named(family, kind)} as a log\n  an item at 0, more up to {ITEMS - 1}\n  pruned below 3, moved true: 2 to {ITEMS}")
+    print(f"  {ITEMS} items, root {root(family, spelled, 0, True).hex()}")
+    for start in (2, 4):
+        last = min(ITEMS, start + 2)
+        digests = [node(family, spelled, *name) for name in cover(family, ITEMS, lambda leaf: start <= leaf < last)]
+        texts = "".join(" " + text.hex() for text in spelled[start:last])
+        print(f"  items from {start}:{texts} in {ITEMS} leaves:" + "".join(" " + digest.hex() for digest in digests))
+    print("  taken away: 0 to 0")
+    for start, to in ((0, 3), (3, 4), (4, 9), (5, 6), (7, 9)):
+        print("  ready for {} to {}: {} to {}".format(start, to, *ready(start, to)))
 
 
 class History:
@@ -246,6 +273,8 @@ def main():
     pairs = [(family, kind) for family in (Mmr, Mmb) for kind in (Fixed, Variable)]
     for pair in pairs:
         print_rows(*pair)
+    for pair in pairs:
+        print_calls(*pair)
     for pair in pairs:
         print_history(*pair)
 

@@ -10,7 +10,7 @@ value of a number is one byte, by 96 greater than it, or the number.
 A read answers a value, of a commit none, unless the place is at or past the size or below the start. Of several
 places, they have to rise. A proof of a size that a commit ends has the operations from a place on, at most so many,
 and the digests beside them, with as many inactive peaks as end at or below the floor. The pins of a place are the
-peaks of as many leaves. A prune at or below the floor lets go whole blobs of seven operations. A batch stands on
+peaks of as many leaves; a follower is given operations as by such a proof, or one with the pins of its place. A prune at or below the floor lets go whole blobs of seven operations. A batch stands on
 one list, and is read and proved where the database has that list's front at the batch's base, or where it has the
 batch, at its floor or above it; it is sealed and applied at its base, or at an equal state. Its floor is no less
 than the database's, and at most its commit's place. A cap opens the greatest size within it that a commit ends, and
@@ -198,6 +198,8 @@ class Database:
             raise Refused(f"{size - 1} is pruned")
         if size not in self.log.floors:
             raise Refused(f"no commit ends at {size}")
+        if start >= size:
+            raise Refused(f"{start} is out of range")
         if start < self.start:
             raise Refused(f"{start} is pruned")
         end = min(size, start + most)
@@ -206,6 +208,21 @@ class Database:
 
     def pins(self, place):
         return self.log.pins(self.family, place)
+
+    def boundary(self):
+        return f" {self.log.floor()}"
+
+    def present(self, start, most):
+        return self.proof(self.log.size(), start, most)
+
+    serve = proof
+
+    def serve_boundary(self, size, start):
+        return f"{self.proof(size, start, 1)}\n    behind{self.pins(start)}"
+
+    def destroy(self):
+        self.__init__(self.family, self.encoding)
+        return self.state()
 
     def batch_get_many(self, number, places):
         log = self.batches[number].read(self)
@@ -310,6 +327,23 @@ REPLACED = [
     ("seal on 1 8 9 0", "seal", 1, 8, 9, 0),
 ]
 
+FOLLOWED = [
+    ("sync boundary", "boundary"),
+    ("batch 1 6 0", "batch", 1, 6, 0),
+    ("batch 6 9 7", "batch", 6, 9, 7),
+    ("sync boundary", "boundary"),
+    ("proof 6 3", "present", 6, 3),
+    ("proof 11 1", "present", 11, 1),
+    ("serve 7 5 9", "serve", 7, 5, 9),
+    ("serve 8 5 9", "serve", 8, 5, 9),
+    ("serve boundary 11 7", "serve_boundary", 11, 7),
+    ("serve boundary 7 0", "serve_boundary", 7, 0),
+    ("prune 7", "prune", 7),
+    ("serve boundary 11 6", "serve_boundary", 11, 6),
+    ("destroy", "destroy"),
+    ("batch 1 3 0", "batch", 1, 3, 0),
+]
+
 HISTORY = [
     ("batch 0 1 0", "batch", 0, 1, 0),
     ("proof 3 1 9", "proof", 3, 1, 9),
@@ -332,6 +366,7 @@ HISTORIES = [
     ("fifteen batches, pruned", PRUNED),
     ("a prune above the floor", ABOVE),
     ("a batch after another history", REPLACED),
+    ("followed, and taken away", FOLLOWED),
     ("three batches, opened under caps", HISTORY),
 ]
 
@@ -350,6 +385,8 @@ def print_kind(family, encoding):
     print(encoding.name)
     first = Log([None], [encoding.commit(0)], {1: 0}).longer(encoding, [1, 2], 0)
     print(f" one batch of the compact database: root {first.root(family).hex()}")
+    begun = Log([None], [encoding.commit(0)], {1: 0})
+    print(f" the first commit: root {begun.root(family).hex()}")
     for name, steps in HISTORIES:
         print(f" {name}")
         database = Database(family, encoding)

@@ -1,20 +1,20 @@
 //! A history of three batches.
-ghost use Rattle.std.specs.Prelude.{◌<◌, ◌-◌, ◌^◌, length};
+ghost use Rattle.std.specs.Prelude.{◌≡◌};
 
 use crate::error::TableError;
 use crate::kinds::{Keyed, Kind};
-use crate::texts::{Db, print_digests, print_operation, print_proof, print_state};
+use crate::texts::{Db, print_digests, print_operations, print_proof, print_state};
 use chain_core::{BatchId, Pool};
-use compact_db::{CompactConfig, MerkleizedBatch};
+use compact_db::{CompactConfig, MerkleizedBatch, UnmerkleizedBatch};
 use memory_volume::MemoryVolume;
 use std::alloc::Global;
 use std::num::NonZeroU64;
-use tree_core::{Family, Location, Sha256Digest};
+use tree_core::{Family, Location, Sha256Digest, Sha256Hasher};
 
 /// The batches of the history: from which number to which, and the floor of the commit behind.
 const BATCHES: [(u8, u8, u64); 3] = [(0, 1, 0), (1, 4, 2), (4, 9, 3)];
 
-type Batches<F, O> = Pool<MerkleizedBatch<F, O, Sha256Digest>>;
+pub(crate) type Batches<F, O> = Pool<MerkleizedBatch<F, O, Sha256Digest>>;
 
 /// Two witnesses a blob.
 pub(crate) fn config<F: Family, O: Kind<F>>(
@@ -30,24 +30,100 @@ where
     })
 }
 
+/// The database of a volume.
+pub(crate) fn opened<F: Family, O: Kind<F>>(
+    alloc: Global,
+    vol: &mut MemoryVolume,
+) -> Result<Db<F, O>, TableError>
+where
+    O::Value: Drop,
+{
+    let cfg = config::<F, O>(alloc)?;
+    Ok(Db::init(alloc, vol, cfg, None)?)
+}
+
+/// Adds the operations of the numbers in a range.
+pub(crate) fn fill<F: Family, O: Kind<F>>(
+    alloc: Global,
+    batch: &mut UnmerkleizedBatch<F, O, Sha256Hasher>,
+    from: u8,
+    to: u8,
+) -> Result<(), TableError>
+where
+    O::Value: Drop,
+    ensures { batch.new.parent ≡ batch.old.parent }
+{
+    for number in from..to {
+        O::add(alloc, batch, number)?;
+    }
+    Ok(())
+}
+
 /// A sealed batch of the numbers in a range, on a database.
-fn sealed<F: Family, O: Kind<F>>(
+pub(crate) fn sealed<F: Family, O: Kind<F>>(
     alloc: Global,
     pool: &mut Batches<F, O>,
     db: &Db<F, O>,
-    from: u8,
-    to: u8,
-    floor: u64,
+    batch: (u8, u8, u64),
 ) -> Result<BatchId, TableError>
 where
     O::Value: Drop,
-    requires { length pool.old < 2 ^ 64 - 1 }
 {
-    let mut batch = db.new_batch()?;
-    for number in from..to {
-        O::add(alloc, &mut batch, number)?;
+    if pool.drawn() == u64::MAX {
+        return Err(TableError::Memory);
     }
-    Ok(batch.merkleize(pool, db, None, Location::new(floor))?)
+    let (from, to, floor) = batch;
+    let mut made = db.new_batch()?;
+    fill(alloc, &mut made, from, to)?;
+    Ok(made.merkleize(pool, db, None, Location::new(floor))?)
+}
+
+/// A sealed batch in which a key is set, then an earlier key, and then the first one again.
+fn repeated<F: Family, O: Keyed<F>>(
+    alloc: Global,
+    pool: &mut Batches<F, O>,
+    db: &Db<F, O>,
+) -> Result<BatchId, TableError>
+where
+    O::Value: Drop,
+{
+    if pool.drawn() == u64::MAX {
+        return Err(TableError::Memory);
+    }
+    let mut batch = db.new_batch()?;
+    O::set(alloc, &mut batch, 2, 1)?;
+    O::set(alloc, &mut batch, 1, 2)?;
+    O::set(alloc, &mut batch, 2, 3)?;
+    Ok(batch.merkleize(pool, db, None, Location::new(0))?)
+}
+
+/// Prints the operations of a sealed batch.
+fn print_own<F: Family, O: Kind<F>>(
+    rt: &impl Print,
+    alloc: Global,
+    batch: &MerkleizedBatch<F, O, Sha256Digest>,
+) -> Result<(), TableError>
+where
+    O::Value: Drop,
+{
+    let (first, operations) = batch.operations();
+    print!(rt; "  operations from {}:", first.as_u64())?;
+    print_operations(rt, alloc, operations)
+}
+
+/// Prints the nodes before the operations of a sealed batch over its database.
+fn print_pins<F: Family, O: Kind<F>>(
+    rt: &impl Print,
+    alloc: Global,
+    batch: &MerkleizedBatch<F, O, Sha256Digest>,
+    db: &Db<F, O>,
+) -> Result<(), TableError>
+where
+    O::Value: Drop,
+{
+    let pins = batch.pinned_nodes(db)?;
+    print!(rt; "    pins:")?;
+    print_digests(rt, alloc, pins.as_slice())
 }
 
 /// Prints the operations of a sealed batch, and their proof and pins over its database.
@@ -60,23 +136,13 @@ fn print_batch<F: Family, O: Kind<F>>(
 where
     O::Value: Drop,
 {
-    let (first, operations) = batch.operations();
-    print!(rt; "  operations from {}:", first.as_u64())?;
-    for operation in operations {
-        print_operation(rt, alloc, operation)?;
-    }
-    println!(rt; "")?;
-    let proof = batch.proof(db)?;
-    print_proof(rt, alloc, &proof)?;
-    let pins = batch.pinned_nodes(db)?;
-    print!(rt; "    pins:")?;
-    print_digests(rt, alloc, pins.as_slice())
+    print_own(rt, alloc, batch)?;
+    print_proof(rt, alloc, &batch.proof(db)?)?;
+    print_pins(rt, alloc, batch, db)
 }
 
-/// The database with one more batch, which is printed.
+/// The database with one more batch.
 fn grown<F: Family, O: Kind<F>>(
-    rt: &impl Print,
-    alloc: Global,
     vol: &mut MemoryVolume,
     db: Db<F, O>,
     pool: &Batches<F, O>,
@@ -88,8 +154,26 @@ where
     if !pool.is_alive(id) {
         return Err(TableError::Database);
     }
-    print_batch(rt, alloc, pool.item(id), &db)?;
-    let db = db.apply_batch(vol, pool, id)?;
+    Ok(db.apply_batch(vol, pool, id)?)
+}
+
+/// The database with one more batch, which is printed.
+pub(crate) fn print_grown<F: Family, O: Kind<F>>(
+    rt: &impl Print,
+    alloc: Global,
+    vol: &mut MemoryVolume,
+    db: Db<F, O>,
+    pool: &Batches<F, O>,
+    id: BatchId,
+) -> Result<Db<F, O>, TableError>
+where
+    O::Value: Drop,
+{
+    match pool.get(id) {
+        Ok(batch) => print_batch(rt, alloc, batch, &db)?,
+        Err(_) => return Err(TableError::Database),
+    }
+    let db = grown(vol, db, pool, id)?;
     print!(rt; "  ")?;
     print_state(rt, alloc, &db)?;
     Ok(db)
@@ -107,9 +191,8 @@ where
     O::Value: Drop,
 {
     let mut pool = Pool::new(alloc);
-    let (from, to, floor) = batch;
-    let id = sealed(alloc, &mut pool, &db, from, to, floor)?;
-    grown(rt, alloc, vol, db, &pool, id)
+    let id = sealed(alloc, &mut pool, &db, batch)?;
+    print_grown(rt, alloc, vol, db, &pool, id)
 }
 
 /// Prints a batch in which a key is set, then an earlier key, and then the first one again.
@@ -121,14 +204,10 @@ where
     O::Value: Drop,
 {
     let mut vol = MemoryVolume::new(alloc);
-    let db: Db<F, O> = Db::init(alloc, &mut vol, config::<F, O>(alloc)?, None)?;
-    let mut batch = db.new_batch()?;
-    O::set(alloc, &mut batch, 2, 1)?;
-    O::set(alloc, &mut batch, 1, 2)?;
-    O::set(alloc, &mut batch, 2, 3)?;
+    let db: Db<F, O> = opened(alloc, &mut vol)?;
     let mut pool = Pool::new(alloc);
-    let id = batch.merkleize(&mut pool, &db, None, Location::new(0))?;
-    grown(rt, alloc, &mut vol, db, &pool, id)?;
+    let id = repeated(alloc, &mut pool, &db)?;
+    print_grown(rt, alloc, &mut vol, db, &pool, id)?;
     Ok(())
 }
 
@@ -141,7 +220,7 @@ pub(crate) fn print_history<F: Family, O: Kind<F>>(
 where
     O::Value: Drop,
 {
-    let mut db: Db<F, O> = Db::init(alloc, vol, config::<F, O>(alloc)?, None)?;
+    let mut db: Db<F, O> = opened(alloc, vol)?;
     print!(rt; "  ")?;
     print_state(rt, alloc, &db)?;
     for batch in BATCHES {

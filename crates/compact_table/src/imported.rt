@@ -1,6 +1,6 @@
 //! What is served of a history, and what is made of it elsewhere.
 use crate::error::TableError;
-use crate::history::{applied, config};
+use crate::history::{applied, config, opened};
 use crate::kinds::Kind;
 use crate::texts::{Db, print_digests, print_operation, print_proof, print_state};
 use chain_core::{DataFault, Error};
@@ -68,6 +68,18 @@ where
     }
 }
 
+/// What is answered to a request, if it isn't refused.
+pub(crate) fn answered<F: Family, O: Kind<F>>(
+    vol: &mut MemoryVolume,
+    db: &Db<F, O>,
+    request: Request<F>,
+) -> Option<Response<F, O, Sha256Digest>>
+where
+    O::Value: Drop,
+{
+    db.serve(vol, request).ok()
+}
+
 /// What is served of a state: the commit and the nodes, which are printed; or nothing.
 fn served<F: Family, O: Kind<F>>(
     rt: &impl Print,
@@ -80,14 +92,26 @@ where
     O::Value: Drop,
 {
     let request = boundary(size)?;
-    let answered = db.serve(vol, request);
-    match answered.ok() {
+    match answered(vol, db, request) {
         Some(response) => Ok(Some(taken(rt, alloc, size, response)?)),
         None => {
             println!(rt; "  nothing served at {size}")?;
             Ok(None)
         }
     }
+}
+
+/// What is opened of a database when it is written.
+fn reopened<F: Family, O: Kind<F>>(
+    alloc: Global,
+    vol: &mut MemoryVolume,
+    db: Db<F, O>,
+) -> Result<Db<F, O>, TableError>
+where
+    O::Value: Drop,
+{
+    db.commit(vol)?;
+    opened(alloc, vol)
 }
 
 /// Prints what is opened of an imported database when it is written, and builds on it.
@@ -100,11 +124,10 @@ fn print_written<F: Family, O: Kind<F>>(
 where
     O::Value: Drop,
 {
-    db.commit(vol)?;
-    let opened: Db<F, O> = Db::init(alloc, vol, config::<F, O>(alloc)?, None)?;
+    let db = reopened(alloc, vol, db)?;
     print!(rt; "  opened: ")?;
-    print_state(rt, alloc, &opened)?;
-    applied(rt, alloc, vol, opened, (9, 11, 3))?;
+    print_state(rt, alloc, &db)?;
+    applied(rt, alloc, vol, db, (9, 11, 3))?;
     Ok(())
 }
 
@@ -189,7 +212,7 @@ pub(crate) fn print_imported<F: Family, O: Kind<F>>(
 where
     O::Value: Drop,
 {
-    let db: Db<F, O> = Db::init(alloc, vol, config::<F, O>(alloc)?, None)?;
+    let db: Db<F, O> = opened(alloc, vol)?;
     for size in 0..16 {
         print_size(rt, alloc, vol, &db, size)?;
     }

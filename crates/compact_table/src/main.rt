@@ -1,8 +1,9 @@
-//! Prints what compact databases answer: without keys and with keys, in both families and both encodings. Of each kind a history of
-//! three batches with their operations, proofs, pins and states; what is opened of it under each cap; and what is served of it,
-//! imported elsewhere and served again.
+//! Prints what compact databases answer: without keys and with keys, in both families and both encodings. Of each kind
+//! a history of three batches with their operations, proofs, pins and states; what is opened of it under each cap; what
+//! is served of it, imported elsewhere and served again; and what its other calls answer.
 #![tactic(auto)]
 
+mod calls;
 mod error;
 mod history;
 mod imported;
@@ -10,6 +11,7 @@ mod kinds;
 mod opened;
 mod texts;
 
+use crate::calls::print_calls;
 use crate::error::TableError;
 use crate::history::{print_history, print_order};
 use crate::imported::print_imported;
@@ -32,7 +34,8 @@ where
     let mut vol = MemoryVolume::new(alloc);
     print_history::<F, O>(rt, alloc, &mut vol)?;
     print_opened::<F, O>(rt, alloc, &vol)?;
-    print_imported::<F, O>(rt, alloc, &mut vol)
+    print_imported::<F, O>(rt, alloc, &mut vol)?;
+    print_calls::<F, O>(rt, alloc)
 }
 
 /// Prints the table of a kind with keys, a batch with a repeated key first.

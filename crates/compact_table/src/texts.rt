@@ -18,6 +18,19 @@ pub(crate) fn print_operation<O: CompactOperation>(
     Ok(())
 }
 
+/// The encodings of operations, and the end of the line.
+pub(crate) fn print_operations<O: CompactOperation>(
+    rt: &impl Print,
+    alloc: Global,
+    operations: &[O],
+) -> Result<(), TableError> {
+    for operation in operations {
+        print_operation(rt, alloc, operation)?;
+    }
+    println!(rt; "")?;
+    Ok(())
+}
+
 /// Digests, from the left, and the end of the line.
 pub(crate) fn print_digests(
     rt: &impl Print,

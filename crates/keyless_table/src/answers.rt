@@ -3,11 +3,14 @@ use crate::batches::{Batch, Batches};
 use crate::error::TableError;
 use crate::steps::{Ask, BatchAsk};
 use crate::stores::{Db, Kind, Store};
-use crate::texts::{print_digests, print_operations, print_proof, print_refusal, print_value};
+use crate::texts::{
+    print_digests, print_operation, print_operations, print_proof, print_refusal, print_value,
+};
 use chain_core::Error;
 use memory_volume::MemoryVolume;
 use std::alloc::Global;
 use std::num::NonZeroU64;
+use target_codec::{Request, Response};
 use tree_core::{Family, Location, Proof, Sha256Digest};
 
 /// Locations of these numbers.
@@ -94,6 +97,60 @@ fn print_proved<F: Family, O: Kind>(
     }
 }
 
+/// What a follower is given: operations, or one with the nodes before it; and the proof.
+fn print_served<F: Family, O: Kind>(
+    rt: &impl Print,
+    alloc: Global,
+    answer: Result<Response<F, O, Sha256Digest>, Error<F>>,
+) -> Result<(), TableError> {
+    match answer {
+        Ok(Response::Operations { proof, operations }) => {
+            print_operations(rt, alloc, operations.as_slice())?;
+            print!(rt; "   ")?;
+            print_proof(rt, alloc, &proof)
+        }
+        Ok(
+            Response::Boundary {
+                proof,
+                op,
+                pinned_nodes,
+            },
+        ) => {
+            print_operation(rt, alloc, &op)?;
+            println!(rt; "")?;
+            print!(rt; "   ")?;
+            print_proof(rt, alloc, &proof)?;
+            print!(rt; "    behind")?;
+            print_digests(rt, alloc, pinned_nodes.as_slice())
+        }
+        Err(error) => print_refusal(rt, error),
+    }
+}
+
+/// What a follower asks.
+fn request<F: Family>(
+    size: u64,
+    start: u64,
+    most: u64,
+    alone: bool,
+) -> Result<Request<F>, TableError> {
+    let max_ops = NonZeroU64::new(most).ok_or(TableError::Database)?;
+    let (size, start) = (Location::new(size), Location::new(start));
+    Ok(if alone {
+        Request::Boundary {
+            size,
+            start,
+            max_ops,
+        }
+    } else {
+        Request::Operations {
+            size,
+            start,
+            max_ops,
+        }
+    })
+}
+
 /// The proof that a batch answers with.
 fn print_batch_proof<F: Family>(
     rt: &impl Print,
@@ -153,6 +210,22 @@ where
             let most = NonZeroU64::new(most).ok_or(TableError::Database)?;
             let (size, start) = (Location::new(size), Location::new(start));
             print_proved::<F, O>(rt, alloc, db.historical_proof(vol, size, start, most))
+        }
+        Ask::Boundary => {
+            println!(rt; " {}", db.sync_boundary().as_u64())?;
+            Ok(())
+        }
+        Ask::Present(start, most) => {
+            let most = NonZeroU64::new(most).ok_or(TableError::Database)?;
+            print_proved::<F, O>(rt, alloc, db.proof(vol, Location::new(start), most))
+        }
+        Ask::Serve(size, start, most) => {
+            let asked = request(size, start, most, false)?;
+            print_served::<F, O>(rt, alloc, db.serve(vol, asked))
+        }
+        Ask::ServeBoundary(size, start) => {
+            let asked = request(size, start, 1, true)?;
+            print_served::<F, O>(rt, alloc, db.serve(vol, asked))
         }
         Ask::Pins(place) => {
             print_pins::<F>(rt, alloc, db.pinned_nodes_at(vol, Location::new(place)))

@@ -38,6 +38,10 @@ pub(crate) fn changed<F: Family, O: Kind, C: Store<Item = O>>(
             drop(db);
             opening(alloc, vol, cap)
         }
+        Change::Destroy => match db.destroy(vol) {
+            Ok(()) => opening(alloc, vol, None),
+            Err(error) => Ok(Err(error)),
+        },
     }
 }
 

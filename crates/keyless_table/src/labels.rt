@@ -33,6 +33,10 @@ fn print_ask(rt: &impl Print, ask: Ask) -> Result<(), TableError> {
         }
         Ask::Proof(size, start, most) => print!(rt; "  proof {size} {start} {most}:")?,
         Ask::Pins(place) => print!(rt; "  pins {place}:")?,
+        Ask::Boundary => print!(rt; "  sync boundary:")?,
+        Ask::Present(start, most) => print!(rt; "  proof {start} {most}:")?,
+        Ask::Serve(size, start, most) => print!(rt; "  serve {size} {start} {most}:")?,
+        Ask::ServeBoundary(size, start) => print!(rt; "  serve boundary {size} {start}:")?,
         Ask::Batch(number, ask) => {
             print!(rt; "  batch {number}")?;
             print_batch_ask(rt, ask)?;
@@ -50,6 +54,7 @@ fn print_change(rt: &impl Print, change: Change) -> Result<(), TableError> {
         Change::Prune(place) => print!(rt; "  prune {place}:")?,
         Change::Open(None) => print!(rt; "  open:")?,
         Change::Open(Some(cap)) => print!(rt; "  open at most {cap}:")?,
+        Change::Destroy => print!(rt; "  destroy:")?,
     }
     Ok(())
 }

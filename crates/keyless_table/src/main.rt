@@ -20,19 +20,29 @@ mod texts;
 use crate::error::TableError;
 use crate::failing::print_failing;
 use crate::histories::{print_bounded, print_history};
-use crate::rows::{ABOVE, CHAIN, EQUAL, FIRST, FLOORS, PRUNED, REPLACED, SIBLINGS};
+use crate::rows::{ABOVE, CHAIN, EQUAL, FIRST, FLOORS, FOLLOWED, PRUNED, REPLACED, SIBLINGS};
 use crate::stores::{Kind, Store};
 use codec_base::{Bytes, U64};
 use journal_base::{FixedJournal, VariableJournal};
-use keyless_db::{fixed, variable};
+use keyless_db::{fixed, initial_root, variable};
 use std::alloc::Global;
-use tree_core::{Digest, Family, Mmb, Mmr};
+use tree_core::{Digest, Family, Mmb, Mmr, Sha256Hasher};
 
 /// Prints the root of a compact database behind the first batch.
 fn print_compact<O: Kind>(rt: &impl Print, alloc: Global) -> Result<(), TableError> {
     let root = O::compact_root(alloc)?;
     println!(rt;
         " one batch of the compact database: root {}",
+        hex::encode(alloc, root.as_slice())?
+    )?;
+    Ok(())
+}
+
+/// Prints the root of the first commit alone.
+fn print_initial<F: Family, O: Kind>(rt: &impl Print, alloc: Global) -> Result<(), TableError> {
+    let root = initial_root::<F, O, Sha256Hasher>(alloc)?;
+    println!(rt;
+        " the first commit: root {}",
         hex::encode(alloc, root.as_slice())?
     )?;
     Ok(())
@@ -49,6 +59,7 @@ where
 {
     println!(rt; "{name}")?;
     print_compact::<O>(rt, alloc)?;
+    print_initial::<F, O>(rt, alloc)?;
     print_history::<F, O, C>(rt, alloc, "one batch", &FIRST)?;
     print_history::<F, O, C>(rt, alloc, "a batch on a batch", &CHAIN)?;
     print_history::<F, O, C>(rt, alloc, "two batches on one database", &SIBLINGS)?;
@@ -57,6 +68,7 @@ where
     print_history::<F, O, C>(rt, alloc, "fifteen batches, pruned", &PRUNED)?;
     print_history::<F, O, C>(rt, alloc, "a prune above the floor", &ABOVE)?;
     print_history::<F, O, C>(rt, alloc, "a batch after another history", &REPLACED)?;
+    print_history::<F, O, C>(rt, alloc, "followed, and taken away", &FOLLOWED)?;
     print_bounded::<F, O, C>(rt, alloc)
 }
 

@@ -1,6 +1,8 @@
 //! The histories of the table.
-use crate::steps::Ask::{Batch as Of, Get, GetMany, Pins, Proof};
-use crate::steps::Change::{Apply, Commit, Open, Prune, StartSync, Sync};
+use crate::steps::Ask::{
+    Batch as Of, Boundary, Get, GetMany, Pins, Present, Proof, Serve, ServeBoundary,
+};
+use crate::steps::Change::{Apply, Commit, Destroy, Open, Prune, StartSync, Sync};
 use crate::steps::Step::{self, Ask, Batch, Change, Seal};
 use crate::steps::{BatchAsk, Values};
 
@@ -109,6 +111,24 @@ pub(crate) const REPLACED: [Step; 9] = [
     Ask(Of(1, BatchAsk::Proof)),
     Ask(Of(1, BatchAsk::Pins)),
     Seal(Some(1), Values(8, 9, 0)),
+];
+
+/// What followers ask, and a log that is taken away.
+pub(crate) const FOLLOWED: [Step; 14] = [
+    Ask(Boundary),
+    Batch(Values(1, 6, 0)),
+    Batch(Values(6, 9, 7)),
+    Ask(Boundary),
+    Ask(Present(6, 3)),
+    Ask(Present(11, 1)),
+    Ask(Serve(7, 5, 9)),
+    Ask(Serve(8, 5, 9)),
+    Ask(ServeBoundary(11, 7)),
+    Ask(ServeBoundary(7, 0)),
+    Change(Prune(7)),
+    Ask(ServeBoundary(11, 6)),
+    Change(Destroy),
+    Batch(Values(1, 3, 0)),
 ];
 
 /// Three batches, made durable.

@@ -12,6 +12,14 @@ pub(crate) enum Ask {
     /// The proof of a size, from a place on, of at most so many operations.
     Proof(u64, u64, u64),
     Pins(u64),
+    /// From where on a follower needs the operations.
+    Boundary,
+    /// The proof of the present size, from a place on, of at most so many operations.
+    Present(u64, u64),
+    /// What a follower is given of a size, from a place on, of at most so many operations.
+    Serve(u64, u64, u64),
+    /// What a follower is given of a size and a place, with the nodes before it.
+    ServeBoundary(u64, u64),
     /// A call of a batch, which is named by how many were sealed before it.
     Batch(usize, BatchAsk),
 }
@@ -35,6 +43,8 @@ pub(crate) enum Change {
     Prune(u64),
     /// It is opened again, under a cap if there is one.
     Open(Option<u64>),
+    /// It is taken away, and another one opened in its place.
+    Destroy,
 }
 
 /// A step of a history.

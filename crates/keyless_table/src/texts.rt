@@ -35,6 +35,10 @@ pub(crate) fn print_refusal<F: Family>(rt: &impl Print, error: Error<F>) -> Resu
         )?,
         Error::HistoricalFloorPruned(size) => println!(rt; " no commit ends at {}", size.as_u64())?,
         Error::Journal(JournalError::ItemPruned(item)) => println!(rt; " {item} is pruned")?,
+        Error::Merkle(tree_core::Error::RangeOutOfBounds(place)) => println!(rt;
+            " {} is out of range",
+            place.as_u64()
+        )?,
         Error::StaleBatch => println!(rt; " stale batch")?,
         Error::StaleRead => println!(rt; " stale read")?,
         Error::InvalidInitializationBound => println!(rt; " invalid bound")?,
@@ -69,6 +73,17 @@ pub(crate) fn print_value<O: Kind>(
     Ok(())
 }
 
+/// The encoding of an operation.
+pub(crate) fn print_operation<O: Kind>(
+    rt: &impl Print,
+    alloc: Global,
+    operation: &O,
+) -> Result<(), TableError> {
+    let bytes = encode(alloc, operation)?;
+    print!(rt; " {}", hex::encode(alloc, bytes.as_slice())?)?;
+    Ok(())
+}
+
 /// The encodings of operations, and the end of the line.
 pub(crate) fn print_operations<O: Kind>(
     rt: &impl Print,
@@ -76,8 +91,7 @@ pub(crate) fn print_operations<O: Kind>(
     operations: &[O],
 ) -> Result<(), TableError> {
     for operation in operations {
-        let bytes = encode(alloc, operation)?;
-        print!(rt; " {}", hex::encode(alloc, bytes.as_slice())?)?;
+        print_operation(rt, alloc, operation)?;
     }
     println!(rt; "")?;
     Ok(())
