@@ -1,10 +1,15 @@
 #!/bin/sh
-# Applies batches of one value to compact databases in memory, each committed, and serves their states. Prints, at growing numbers
-# of kept witnesses, how many calls of the volume a served state takes, and the processor time in microseconds of a served state
-# and of an apply with its commit, with their ratios to those at the fewest: the second follows that of the calls, the third that
-# of a batch's hash calls, 1, 1.5 and 2.0: of its leaves, their parents, the peaks and the root there are 6.5, 9.9 and 13.2 on
-# average. Of 200000 batches, in as many databases as they fill, and of 100000 served states, one after another in one database,
-# with the opening and the batches taken off, the best of five rounds counts. A look-up is the search alone (stores.sh).
+# Prunes compact databases of 100000 states in memory, in batches of one value, each committed, to the witnesses of the
+# last 10, 1000 and 100000 states. Prints how many are kept, by a look-up of each state's, before the applies and behind
+# them; how many calls of the volume a served state makes; and the processor time in microseconds of a served state, of
+# a look-up and of an apply with its commit, with their ratios to those beside the fewest. The trees are of one size, so
+# the applies make the same hash calls: their ratio says what the number of kept witnesses costs an apply. The others
+# grow as its logarithm. Of 50000 applies, with a prune behind each ten that keeps as many as before, of 100000 served
+# states and of as many look-ups, with the making of the database and as many prunes alone taken off, the best of five
+# rounds counts.
+# Then the same of an apply in databases of growing size, against the same hash calls alone: as many, over as many
+# blocks, by the same SHA-256, the folds of both its roots included. Each size is run as often as makes 200000 batches,
+# the start of the program is taken off, and of five rounds the best counts.
 set -eu
 top=$(cd -- "$(dirname -- "$0")/.." && pwd -P)
 home=$top/crates/bench_compact
@@ -14,16 +19,37 @@ program=$home/out/bench_compact
 
 first=
 for kept in 10 1000 100000; do
-    databases=$((200000 / kept - 1))
-    calls=$("$program" "$kept" 0 0 | cut -d ' ' -f 1)
-    opened=$(least 1 "$program" 0 "$databases" 0)
-    applied=$(least 1 "$program" "$kept" "$databases" 0)
-    kept_once=$(least 1 "$program" "$kept" 0 0)
-    served=$(least 1 "$program" "$kept" 0 100000)
-    each=$(awk -v o="$opened" -v a="$applied" -v k="$kept_once" -v s="$served" \
-        'BEGIN { printf "%.4f %.4f", (s - k) * 10, (a - o) * 5 }')
+    before=$("$program" count "$kept" 0)
+    behind=$("$program" count "$kept" 5000)
+    case $before/$behind in
+        "$kept of 100000 "*"/$kept of 150000 "*) ;;
+        *) echo "$before are kept, then $behind" >&2; exit 1 ;;
+    esac
+    made=$(least 1 "$program" prune "$kept" 0)
+    pruned=$(least 1 "$program" prune "$kept" 5000)
+    applied=$(least 1 "$program" apply "$kept" 5000)
+    served=$(least 1 "$program" serve "$kept" 100000)
+    found=$(least 1 "$program" find "$kept" 100000)
+    each=$(awk -v m="$made" -v p="$pruned" -v a="$applied" -v s="$served" -v f="$found" \
+        'BEGIN { printf "%.4f %.4f %.4f", (s - m) * 10, (f - m) * 10, (a - p) * 20 }')
+    calls=${before#*, }
+    calls=${calls% calls}
     if [ -z "$first" ]; then first="$calls $each"; fi
-    echo "$kept $calls $each $first" | awk '{
-        printf "%d witnesses: a served state makes %d calls, ratio %.2f, and takes %.2f us, ratio %.2f; ", $1, $2, $2 / $5, $3, $3 / $6
-        printf "an apply takes %.2f us, ratio %.2f\n", $4, $4 / $7 }'
+    echo "${before%,*} kept, and ${behind%,*} behind the applies:"
+    echo "$calls $each $first" | awk '{
+        printf "  a served state makes %d calls, ratio %.2f, and takes %.2f us, ratio %.2f; ", $1, $1 / $5, $2, $2 / $6
+        printf "a look-up takes %.2f us, ratio %.2f; an apply takes %.2f us, ratio %.2f\n", $3, $3 / $7, $4, $4 / $8 }'
+done
+
+first=
+for batches in 1000 10000 100000; do
+    runs=$((200000 / batches))
+    started=$(least "$runs" "$program" grow 0)
+    grown=$(least "$runs" "$program" grow "$batches")
+    hashes=$(least "$runs" "$program" hash "$batches")
+    alone=$(least "$runs" "$program" hash 0)
+    each=$(awk -v s="$started" -v g="$grown" 'BEGIN { printf "%.4f", (g - s) * 5 }')
+    if [ -z "$first" ]; then first=$each; fi
+    awk -v n="$batches" -v e="$each" -v h="$hashes" -v a="$alone" -v f="$first" \
+        'BEGIN { printf "%d batches: %.2f us each, hash calls alone %.2f us, ratio %.2f; to that of the fewest %.2f\n", n, e, (h - a) * 5, e / ((h - a) * 5), e / f }'
 done
