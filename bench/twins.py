@@ -1,14 +1,15 @@
 #!/usr/bin/env python3
-"""Measures the program twins, whose path it is given, beside plain programs on the same input.
+"""Measures the program twins, whose path it is given, and that of bench_keyless, which makes hash calls alone, and a folder on a disk.
 
-Times are medians of several runs. The peak memory of a child can't be told where it is below this program's own, from
-which the child is made; then that is shown as a bound. The outside program, this one with the word
-`--hashes`, does the hashes that the program does today: all of a list's tree at each seal, by hashlib.
-A seal that copied the operations of its ancestors would show in the memory of a chain that isn't applied: the same bytes in
+Times are medians of several runs, each on a folder that isn't there. What the same hash calls would take is the time of as many
+blocks of SHA-256 by bench_keyless: for each operation a leaf, its nodes, and at each seal the folds and the root, in both databases.
+The peak memory of a child can't be told where it is below this program's own, from which the child is made; then that is shown as a
+bound. A seal that copied the operations of its ancestors would show in the memory of a chain that isn't applied: the same bytes in
 more batches would take more.
 """
 import os
 import resource
+import shutil
 import statistics
 import subprocess
 import sys
@@ -16,59 +17,117 @@ import tempfile
 import time
 
 sys.path.insert(0, os.path.join(os.path.dirname(os.path.abspath(__file__)), "..", "tools"))
-import machine  # noqa: E402
+from expected import generated  # noqa: E402
+from machine import append, bytes_of, commit, varint  # noqa: E402
+from trees import Mmr  # noqa: E402
 
-HASHES = [sys.executable, os.path.abspath(__file__), "--hashes"]
-RUNS = 3
-
-
-def hashes(lines):
-    """The root of the list at each seal, where each batch is sealed on the present list and then applied."""
-    operations, pending = [machine.commit(None, 0)], []
-    for line in lines:
-        words = line.split(" ")
-        if words[0] == "append":
-            pending.append(machine.append(bytes.fromhex(words[2])))
-        elif words[0] == "seal":
-            operations += pending + [machine.commit(None, 0)]
-            pending = []
-            print(machine.root(operations))
+RUNS, NUMBER, COUNTS = 3, 7, (100, 1000, 10000)
+TMPFS = "/dev/shm"
+LOG_BLOB, NODE_BLOB, WITNESS_BLOB = 64, 128, 64
+HEAD, PART = 8, 4               # bytes before the items of a log's file, and before each item
+PIN, BOUNDARY = 9 + 32 + 2 * PART, 9 + 8 + 2 * PART
 
 
-def measure(command, path):
-    """Median seconds and peak KiB of a command on a file as its standard input."""
-    times, peak = [], 0
-    for _ in range(RUNS):
-        with open(path, "rb") as source, open(os.devnull, "wb") as sink:
+class Measured:
+    """Medians of the seconds and of the processor's seconds of a command, and its peak memory in KiB."""
+
+    def __init__(self, command, given="/dev/null", folder=None):
+        self.command, self.given, self.folder, self.peak = command, given, folder, 0
+        runs = [self.run() for _ in range(RUNS)]
+        self.seconds, self.used = (statistics.median(run[at] for run in runs) for at in (0, 1))
+
+    def run(self):
+        if self.folder:
+            shutil.rmtree(self.folder, ignore_errors=True)
+        with open(self.given, "rb") as source, open(os.devnull, "wb") as sink:
             before = time.perf_counter()
-            child = subprocess.Popen(command, stdin=source, stdout=sink, env={**os.environ, "LC_ALL": "C"})
+            child = subprocess.Popen(self.command, stdin=source, stdout=sink, env={**os.environ, "LC_ALL": "C"})
             _, status, usage = os.wait4(child.pid, 0)
-            times.append(time.perf_counter() - before)
-            if status != 0:
-                sys.exit(f"{command[0]} ended with status {status}")
-            peak = max(peak, usage.ru_maxrss)
-    return statistics.median(times), peak
+            seconds = time.perf_counter() - before
+        if status != 0:
+            sys.exit(f"{' '.join(self.command)} ended with status {status}")
+        self.peak = max(self.peak, usage.ru_maxrss)
+        return seconds, usage.ru_utime + usage.ru_stime
+
+    def memory(self):
+        own = resource.getrusage(resource.RUSAGE_SELF).ru_maxrss
+        return f"{self.peak} KiB" if self.peak > own else f"at most {own} KiB"
 
 
-def memory(peak):
-    own = resource.getrusage(resource.RUSAGE_SELF).ru_maxrss
-    return f"{peak} KiB" if peak > own else f"at most {own} KiB"
+# ---- what is hashed
+
+def blocks_of(sizes):
+    """The blocks that are hashed of a list that is sealed at these sizes: one of a leaf and of a root, two of a node and of a fold."""
+    nodes = Mmr.size(sizes[-1]) - sizes[-1]
+    folds = sum(bin(size).count("1") - 1 for size in sizes)
+    return sizes[-1] + 2 * nodes + 2 * folds + len(sizes)
 
 
-def ratio(ours, theirs):
-    """The one time by the other, both without the start of their program; nothing where the other is as short as that start varies."""
-    return f"{ours / theirs:.2f} times the outside program" if theirs > 0.002 else "the outside program is too short to compare"
+def seconds_a_block(hashes):
+    """The processor's time of a block by the program of hash calls: those of batches of four values on the first commit."""
+    batches = 20000
+    blocks = blocks_of([1 + 5 * (batch + 1) for batch in range(batches)])
+    return (Measured([hashes, "hashes", str(batches)]).used - Measured([hashes, "hashes", "0"]).used) / blocks
 
+
+# ---- what is generated, and the bytes that its files need
+
+class Rounds:
+    """Generated rounds: their operations, the size behind each, and the floor of the last prune."""
+
+    def __init__(self, count):
+        self.operations, self.sizes, self.pruned, self.written = [commit(None, 0)], [1], 0, 1
+        for line in generated(NUMBER, count):
+            name, *words = line.split(" ")
+            if name == "append":
+                self.operations.append(append(bytes_of(words[1])))
+            elif name == "seal":
+                self.operations.append(commit(None, int(words[2])))
+                self.sizes.append(len(self.operations))
+            elif name in ("commit", "prune"):
+                self.written = len(self.operations)
+                self.pruned = int(words[0]) if words else self.pruned
+
+    def floor(self):
+        """The bytes that the format asks for, of what is kept: operations, nodes as far as they are written, witnesses, and pins."""
+        start = self.pruned // LOG_BLOB * LOG_BLOB
+        kept = sum(PART + len(operation.text) for operation in self.operations[start:])
+        nodes = Mmr.size(self.written) - Mmr.size(start) // NODE_BLOB * NODE_BLOB
+        first = next(i for i, size in enumerate(self.sizes) if size >= self.pruned) // WITNESS_BLOB * WITNESS_BLOB
+        witnesses = sum(PART + self.witness(size) for size in self.sizes[first:])
+        pins = PIN * bin(start).count("1") + BOUNDARY if start else 0
+        return 3 * HEAD + kept + (PART + 32) * nodes + witnesses + pins
+
+    def witness(self, size):
+        text = self.operations[size - 1].text
+        return len(varint(len(text))) + len(text) + len(varint(size)) + 1 + 32 * bin(size - 1).count("1")
+
+
+def bytes_in(folder):
+    return sum(entry.stat().st_size for entry in os.scandir(folder))
+
+
+def measure_rounds(program, place, block, start):
+    """The lines on generated rounds in a folder in this place."""
+    title, folder, first = ("tmpfs" if place == TMPFS else "disk"), tempfile.mkdtemp(dir=place) + "/folder", None
+    for count in COUNTS:
+        rounds = Rounds(count)
+        ours = Measured([program, folder, "--gen", str(NUMBER), str(count)], folder=folder)
+        there, hashed = bytes_in(folder), 2 * blocks_of(rounds.sizes) * block
+        again = Measured([program, folder])
+        each = (ours.seconds - start.seconds) / count
+        first = first or each
+        print(f"{count} rounds on {title}, size {rounds.sizes[-1]}: {ours.seconds * 1000:.0f} ms, {each * 1000000:.0f} us a round, "
+              f"{each / first:.2f} times that of the fewest; "
+              f"of the processor {(ours.used - start.used) / hashed:.2f} times the hash calls; {ours.memory()}; {there} bytes on disk, {there / rounds.floor():.3f} times what the format asks for; "
+              f"opened again in {again.seconds * 1000:.0f} ms")
+    shutil.rmtree(os.path.dirname(folder))
+
+
+# ---- other inputs
 
 def batch(appends):
     return ["new"] + [f"append 0 {i:016x}" for i in range(appends)] + ["seal 0 - 0", "apply 0"]
-
-
-def chain(batches):
-    lines = []
-    for b in range(batches):
-        lines += ["new"] + [f"append {b} {i:016x}" for i in range(4)] + [f"seal {b} - 0", f"apply {b}"]
-    return lines
 
 
 def nested(batches):
@@ -79,36 +138,38 @@ def nested(batches):
     return lines
 
 
-def written(folder, name, text):
-    path = os.path.join(folder, name)
-    with open(path, "w", encoding="ascii") as out:
-        out.write(text)
-    return path
+def measure_inputs(program, scratch, block, start):
+    """The lines on other inputs, over a folder on tmpfs where there is one."""
+    folder, given = f"{scratch}/folder", f"{scratch}/given"
+
+    def measured(text):
+        with open(given, "w", encoding="ascii") as out:
+            out.write(text)
+        return Measured([program, folder], given, folder)
+
+    for size in (100, 1000, 10000):
+        ours, hashed = measured("\n".join(batch(size)) + "\n"), 2 * blocks_of([1, size + 2]) * block
+        print(f"one batch of {size} appends: {ours.seconds * 1000:.1f} ms, {ours.memory()}, "
+              f"of the processor {(ours.used - start.used) / hashed:.2f} times the hash calls")
+    for size in (10, 100, 1000):
+        ours = measured("\n".join(nested(size)) + "\n")
+        print(f"2 MiB of values in a chain of {size} batches: {ours.seconds * 1000:.1f} ms, {ours.memory()}")
+    ours = measured(("#" + "c" * 62 + "\n") * (16777216 // 64))
+    plain = Measured(["wc"], given).seconds + Measured(["cat"], given).seconds
+    print(f"16 MiB of comments: {ours.seconds * 1000:.1f} ms, {ours.memory()}, {ours.seconds / plain:.2f} times wc and cat together")
 
 
-def main(program):
-    with tempfile.TemporaryDirectory() as folder:
-        empty = written(folder, "empty", "")
-        start, least = measure([program], empty)
-        python, _ = measure(HASHES, empty)
-        print(f"start-up {start * 1000:.1f} ms, {memory(least)}")
-        for title, sizes, lines_of in (("one batch of {} appends", (100, 1000, 10000), batch), ("{} batches of 4 appends", (10, 100, 1000), chain)):
-            for size in sizes:
-                path = written(folder, "lines", "\n".join(lines_of(size)) + "\n")
-                ours, peak = measure([program], path)
-                theirs, _ = measure(HASHES, path)
-                print(f"{title.format(size)}: {ours * 1000:.1f} ms, {memory(peak)}, {ratio(ours - start, theirs - python)}")
-        for size in (10, 100, 1000):
-            ours, peak = measure([program], written(folder, "lines", "\n".join(nested(size)) + "\n"))
-            print(f"2 MiB of values in a chain of {size} batches: {ours * 1000:.1f} ms, {memory(peak)}")
-        comments = written(folder, "comments", ("#" + "c" * 62 + "\n") * (16777216 // 64))
-        ours, peak = measure([program], comments)
-        plain = measure(["wc"], comments)[0] + measure(["cat"], comments)[0]
-        print(f"16 MiB of comments: {ours * 1000:.1f} ms, {memory(peak)}, {ours / plain:.2f} times wc and cat together")
+def main(program, hashes, disk):
+    block = seconds_a_block(hashes)
+    memory = TMPFS if os.path.isdir(TMPFS) else disk
+    with tempfile.TemporaryDirectory(dir=memory) as scratch:
+        start = Measured([program, f"{scratch}/folder"], folder=f"{scratch}/folder")
+        print(f"start-up on a folder that isn't there: {start.seconds * 1000:.1f} ms, {start.memory()}; "
+              f"a block of SHA-256 {block * 1000000:.3f} us")
+        for place in dict.fromkeys([memory, disk]):
+            measure_rounds(program, place, block, start)
+        measure_inputs(program, scratch, block, start)
 
 
 if __name__ == "__main__":
-    if sys.argv[1] == "--hashes":
-        hashes(sys.stdin.read().splitlines())
-    else:
-        main(sys.argv[1])
+    main(*sys.argv[1:])

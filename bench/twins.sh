@@ -1,9 +1,12 @@
 #!/bin/sh
-# The program twins beside plain programs, as ratios of medians in one run: batches of appends and chains of small batches
-# beside the same hashes by hashlib, chains of batches on batches by their memory, and 16 MiB of comments beside wc and cat.
-# See bench/twins.py.
+# The program twins over folders on tmpfs and on disk: generated rounds by their time, that of as many blocks of SHA-256 alone, their
+# memory, and the bytes on disk beside those that the format asks for; and inputs of long batches, of batches on batches and of
+# comments. See bench/twins.py. The first word may name a folder on the disk that is to be measured.
 set -eu
 top=$(cd -- "$(dirname -- "$0")/.." && pwd -P)
 command -v python3 >/dev/null 2>&1 || { echo 'skipped: no python3, which drives the benchmark' >&2; exit 0; }
-"$top/twins" </dev/null >/dev/null
-exec python3 "$top/bench/twins.py" "$top/crates/twins/out/twins"
+scratch=$(mktemp -d)
+trap 'rm -rf -- "$scratch"' EXIT
+"$top/twins" "$scratch/first" </dev/null >/dev/null
+(cd -- "$top/crates/bench_keyless" && rt run >/dev/null 2>&1) || { echo "bench_keyless is not proved" >&2; exit 1; }
+python3 "$top/bench/twins.py" "$top/crates/twins/out/twins" "$top/crates/bench_keyless/out/bench_keyless" "${1:-$scratch}"

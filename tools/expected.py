@@ -2,7 +2,9 @@
 """Computes, apart from the product, what its tests and stored outputs compare with.
 
 usage: tools/expected.py roots          the roots of the example elements, for each inactive count and bagging
-       tools/expected.py run            reads command lines, writes the reply lines of a run on a fresh volume
+       tools/expected.py run [FILE ..]  reads command lines, writes the reply lines of a run on a fresh volume; of several
+                                        files, each is a run on what the one before left
+       tools/expected.py gen NUMBER COUNT       the command lines that the program generates
        tools/expected.py script         reads a script of crates/run_calls, writes what its cases answer
        tools/expected.py check          compares the stored files of the repository with what is computed here
 
@@ -15,8 +17,8 @@ from pathlib import Path
 import machine
 import proofs
 import trees
-from machine import Machine, run
-from trees import Mmb, Mmr, digest, node, number, peaks
+from machine import Left, Machine, inactive_peaks, is_skipped, run, varint
+from trees import Grown, Mmb, Mmr, digest, node, number, peaks
 
 
 # ---- the tree
@@ -26,33 +28,62 @@ def root(elements, inactive=0, forward=True):
 
 
 def appended_root(elements, inactive, forward):
-    """The same root by appending leaf after leaf, which the recursion from the leaves is compared with."""
-    made, tops = 0, []
+    """The same root by appending leaf after leaf, and with it each node, with which the recursion from the leaves is compared."""
+    tree = Grown()
     for element in elements:
-        one, height = digest(b"\0", number(made), element), 0
-        made += 1
-        while tops and tops[-1][0] == height:
-            one = digest(b"\1", number(made), tops.pop()[1], one)
-            made, height = made + 1, height + 1
-        tops.append((height, one))
-    assert made == Mmr.size(len(elements))
-    return trees.root_over([one for _, one in tops], len(elements), inactive, forward)
+        tree.append(element)
+    assert len(tree.nodes) == Mmr.size(len(elements))
+    for height in range(len(elements).bit_length()):
+        for first in range(0, len(elements) - 2**height + 1, 2**height):
+            assert tree.nodes[Mmr.position(first, height)] == node(Mmr, elements, first, height)
+    return trees.root_over([one for _, one in tree.tops], len(elements), inactive, forward)
+
+
+# ---- generated commands
+
+def drawn(x):
+    return (x * 6364136223846793005 + 1442695040888963407) % 2**64
+
+
+def generated(x, count):
+    """The lines of so many rounds, from this number on: a batch of some appends each, and now and then a commit or a prune."""
+    lines, size = [], 1
+    for r in range(count):
+        x, floor = drawn(x), size - 1
+        appends = 1 + (x >> 60)
+        lines.append("new")
+        for _ in range(appends):
+            x = drawn(x)
+            lines.append(f"append {r} {x:016x}")
+        lines += [f"seal {r} - {floor}", f"apply {r}", f"release {r}"]
+        size += appends + 1
+        lines += ["commit"] * ((r + 1) % 8 == 0) + [f"prune {floor}"] * ((r + 1) % 32 == 0)
+    return lines
+
+
+def summary(count, replies):
+    """The four lines that stand for the replies to generated commands; none where there is no reply."""
+    if not replies:
+        return ""
+    size, full = re.search(r" size=(\d+) full=(\w+) ", replies[-1]).groups()
+    refused = sum(1 for reply in replies if reply.startswith("refused "))
+    return f"rounds {count}\nsize {size}\nrefused {refused}\nroot {full}\n"
 
 
 # ---- the cases of a script
 
 SCRIPT = Path(__file__).resolve().parent.parent / "crates" / "run_calls" / "stdin"
 NUMBER, COUNT, BYTES = "(0|[1-9][0-9]*)", "[1-9][0-9]*", r"(\.|([0-9a-fA-F][0-9a-fA-F])+)"
-COMMAND = re.compile(f"new( {NUMBER})?|append {NUMBER} {BYTES}|seal {NUMBER} (-|{BYTES}) {NUMBER}|(apply|hold|release|get|prune) {NUMBER}"
-                     f"|batch-get {NUMBER} {NUMBER}|(get-many|batch-get-many {NUMBER})( {NUMBER})*|proof {NUMBER} {NUMBER} {COUNT}"
+COMMAND = re.compile(f"new( {NUMBER})?|append {NUMBER} {BYTES}|seal {NUMBER} (-|{BYTES}) {NUMBER}"
+                     f"|(apply|hold|release|get|commit-proof|prune) {NUMBER}|batch-get {NUMBER} {NUMBER}"
+                     f"|(get-many|batch-get-many {NUMBER})( {NUMBER})*|proof {NUMBER} {NUMBER} {COUNT}"
                      "|snapshot|size|metadata|commit|sync|start-sync")
-LOGS, MAP = ("log", "nodes", "witness"), "metadata"
-CHECKS = len(LOGS) + 1          # calls of the volume by which a run asks whether it is fresh
-OPENING_CALLS = CHECKS + 16     # and those with which the database is opened on it
 LOG_BLOB, WITNESS_BLOB = 7, 3   # of the runs that aren't those of the program
-STATUSES = {0: "", 2: "twins: usage: twins [FOLDER] [--gen NUMBER COUNT]", 3: "twins: line {}: not a command", 4: "twins: cannot read input",
-            5: "twins: cannot write output", 6: "twins: volume failed", 7: "twins: volume holds no valid state",
-            10: "twins: volume is not fresh"}
+OPENING_CALLS = 16 + 6          # calls of the volume with which the full and the compact database are opened on a fresh one
+STATUSES = {0: "", 2: "twins: usage: twins [FOLDER] [--gen NUMBER COUNT]", 3: "twins: line {}: not a command",
+            4: "twins: cannot read input", 5: "twins: cannot write output", 6: "twins: volume failed", 7: "twins: volume holds no valid state"}
+# What opening finds where one log is empty from 1 on. A node log that begins past 0 is cleared where no boundary is stored.
+DAMAGED = {"log": "Corrupt(Full(Journal(ItemPruned(0))))", "witness": "Corrupt(Compact(DataCorrupted(NoTip)))"}
 
 
 def is_command(line):
@@ -94,73 +125,200 @@ def machine_of(settings):
 
 def calls_volume(machine, line, reply, start, size):
     """Whether a command, answered so on a list of this start and size, has called the volume. A refusal is known without it, but
-    for that of a proof at a size that is kept. Of batches this tells only of those made on the list itself."""
+    for that of a proof at a size that is kept, or of a commit's witness that isn't found; that of the whole list is in memory. Of
+    batches this tells only of those made on the list itself."""
     name, *words = line.split(" ")
     if name == "proof":
         return start < int(words[0]) <= size
+    if name == "commit-proof":
+        return 0 < int(words[0]) < size
     if reply.startswith("refused "):
         return False
     if name == "apply":
-        return size < len(machine.operations)
+        return size < len(machine.whole)
     if name in ("batch-get", "batch-get-many"):
         return any(int(word) < machine.batches[int(words[0])].base for word in words[1:])
     return name in ("get", "commit", "sync", "start-sync", "prune") or name == "get-many" and words != []
 
 
-def stops(lines, machine):
-    """Where a run stops with each call of the volume failing in turn: after how many replies, and the bounds of the log then."""
-    found = [(0, 0, 0), (0, 0, 1)]
-    machine.opened()
-    for count, line in enumerate(commands(lines), 1):
-        start, size = machine.start, len(machine.operations)
-        if calls_volume(machine, line, machine.answer(line), start, size):
-            found += [(count, start, size), (count, machine.start, size)]
-    return list(dict.fromkeys(found))
+class Stops:
+    """Where a run stops with each call of the volume failing in turn: after how many replies, the bounds of both logs then, and where
+    each log ends at least. The full database writes first, and what it does is durable before the compact one begins."""
+
+    def __init__(self, lines, machine):
+        self.machine, self.found = machine, []
+        machine.opened()
+        self.at(0, Left(0, 0, 0, 0), 0, 0)
+        self.at(0, Left(0, 1, 0, 0), 0, 0)
+        self.at(0, Left(0, 1, 0, 0), 1, 0)
+        self.at(0, Left(0, 1, 0, 1), 1, 0)
+        for count, line in enumerate(commands(lines), 1):
+            before, start, size = (machine.left(), self.durable()), machine.start, len(machine.whole)
+            if calls_volume(machine, line, machine.answer(line), start, size):
+                self.command(count, line.split(" ")[0], *before)
+
+    def durable(self):
+        """How many operations and how many witnesses no crash undoes."""
+        machine = self.machine
+        return machine.durable, machine.first_at_least(machine.durable) + 1
+
+    def at(self, count, left, end, wend):
+        least = left._replace(end=max(end, left.start), wend=max(wend, left.wstart))
+        self.found.append((count, left, self.machine.opens_at(left), self.machine.opens_at(least)))
+
+    def command(self, count, name, left, durable):
+        after, now = self.machine.left(), self.durable()
+        self.at(count, left, *durable)
+        if name == "apply":
+            self.at(count, left._replace(end=after.end), *durable)
+        elif now != durable or name in ("commit", "sync", "start-sync", "prune"):
+            self.at(count, left, now[0], durable[1])
+            if name == "prune":
+                self.at(count, left, *now)
+                self.at(count, left._replace(start=after.start), *now)
+                self.at(count, after, *now)
+
+    def distinct(self):
+        return [one for one, before in zip(self.found, [None] + self.found) if one != before]
 
 
-def ended(settings, lines, made):
-    """The replies of a run on a machine that is made so, and as a status what has stopped it, or 0. Of the calls behind the
-    opening only the first one may fail."""
-    call = int(settings.get("call", 0))
-    assert call <= OPENING_CALLS + 1
-    if 1 <= call <= OPENING_CALLS:
-        return "", 6
-    if settings.get("log") in LOGS or settings.get("map") == MAP:
-        return "", 10
-    replies = run(lines, made()).splitlines(keepends=True)
-    stopped = [count for count, _, _ in stops(lines, made()) if count]
-    if call and stopped:
-        return "".join(replies[: stopped[0]]), 6
-    return "".join(replies), 0
-
-
-def top_call(settings, lines):
-    """What is written, the status, and the line that isn't one."""
-    if "word" in settings:
-        return "", 2, None
-    if settings.get("read") in ("1", "2"):
-        return "", 4, None
-    if first_bad(lines):
-        return "", 3, first_bad(lines)
-    whole, status = ended(settings, lines, Machine)
-    room = 0 if settings.get("write") == "1" else int(settings["room"])
-    return whole[:room], status or (5 if len(whole) > room or settings.get("write") == "2" else 0), None
+def ends(left, opens, least):
+    return f"log {left.start} to {left.end}, witnesses {left.wstart} to {left.wend}; opens at {opens}, of the least at {least}\n"
 
 
 def failing(settings, lines):
     """The run, and where it stops with each call of the volume failing in turn; then where it ends."""
     machine = machine_of(settings)
-    replies = run(lines, machine)
-    table = [f"stopped Volume after {count} replies, log {start} to {end}\n" for count, start, end in stops(lines, machine_of(settings))]
-    return "".join([replies, *table, f"done, log {machine.start} to {len(machine.operations)}\n"])
+    replies, stops = run(lines, machine), Stops(lines, machine_of(settings))
+    table = [f"stopped Volume after {count} replies, {ends(*at)}" for count, *at in stops.distinct()]
+    stops.at(None, machine.left(), *stops.durable())
+    return "".join([replies, *table, f"done, {ends(*stops.found[-1][1:])}"])
+
+
+def ended(settings, lines, made):
+    """The replies of a run on a machine that is made so, and the fault that has stopped it, if any. Of the calls behind the opening
+    only the first one may fail."""
+    call = int(settings.get("call", 0))
+    assert call <= OPENING_CALLS + 1
+    if 1 <= call <= OPENING_CALLS:
+        return "", "Volume"
+    if settings.get("log") in DAMAGED:
+        return "", DAMAGED[settings["log"]]
+    replies = run(lines, made()).splitlines(keepends=True)
+    stopped = [count for count, *_ in Stops(lines, made()).found if count]
+    if call and stopped:
+        return "".join(replies[: stopped[0]]), "Volume"
+    return "".join(replies), None
+
+
+# ---- runs one after another
+
+def crashed(machine, words):
+    """What a crash leaves of these parts of logs: no less than is durable, and no more than is there."""
+    parts = {words[at]: int(words[at + 2]) for at in range(0, len(words), 3)}
+    left, wend = machine.left(), machine.first_at_least(machine.durable) + 1
+    return left._replace(end=min(max(parts.get("log", left.end), machine.durable), left.end),
+                         wend=min(max(parts.get("witness", left.wend), wend), left.wend))
+
+
+def witness_fault(machine, size, text):
+    """What the opening finds where the witness of a size is another, with this text behind its commit and its size; or nothing."""
+    operation = machine.whole.operations[size - 1].text
+    head = varint(len(operation)) + operation + varint(size)
+    assert text.startswith(head)
+    pins = [text[at:at + 32] for at in range(len(head) + 1, len(text), 32)]
+    names = peaks(Mmr, size - 1)
+    if len(pins) != len(names):
+        return "Corrupt(Compact(DataCorrupted(Witness)))"
+    tree = Grown()
+    tree.nodes, tree.tops = [None] * Mmr.size(size - 1), [(height, pin) for (_, height), pin in zip(names, pins)]
+    tree.append(operation)
+    compact = tree.root(size, inactive_peaks(size, machine.whole.operations[size - 1].floor))
+    full = bytes.fromhex(machine.whole.root)
+    shown = [f"Sha256Digest {{ bytes: {list(one)} }}" for one in (full, compact)]
+    return None if compact == full else f"Corrupt(Roots({shown[0]}, {shown[1]}))"
+
+
+def history(settings, lines):
+    """The runs of a case, one after another on one volume."""
+    machine, out, begun, left, fault = machine_of(settings), [], [], None, None
+    for line in [*lines, None]:
+        if line is not None and not line.startswith("/"):
+            begun.append(line)
+            continue
+        if fault is None:
+            out += [machine.opened(left)] + [machine.answer(one) for one in begun if not is_skipped(one)]
+        else:
+            out.append(f"stopped {fault}\n")
+        if line is not None:
+            name, *words = line.split(" ")
+            begun, fault, left = [], None, crashed(machine, words) if name == "/crash" else machine.left()
+            if name == "/put":
+                assert words[0] == "witness" and len(words) - 1 == len(machine.sizes)
+                fault = witness_fault(machine, machine.sizes[-1], bytes.fromhex(words[-1]))
+    return "".join(out)
+
+
+# ---- the top call
+
+def task_of(settings):
+    """What the words say: nothing where they have no form, `input` where no commands are generated, or their number and count."""
+    words = settings["words"].split(",") if "words" in settings else []
+    if words and words[0] and words[0][0] != "-":
+        words = words[1:]
+    if not words:
+        return "input"
+    if len(words) != 3 or words[0] != "--gen" or not all(re.fullmatch(NUMBER, word) for word in words[1:]):
+        return None
+    number_word, count = map(int, words[1:])
+    return (number_word, count) if number_word < 2**64 and count <= 10000 else None
+
+
+def top_call(settings, lines):
+    """What is written, the status, and the line that isn't one."""
+    task = task_of(settings)
+    if task is None:
+        return "", 2, None
+    if task == "input":
+        if settings.get("read") in ("1", "2"):
+            return "", 4, None
+        if first_bad(lines):
+            return "", 3, first_bad(lines)
+    else:
+        lines = generated(*task)
+    whole, fault = ended(settings, lines, Machine)
+    if task != "input":
+        whole = summary(task[1], whole.splitlines(keepends=True))
+    room = 0 if settings.get("write") == "1" else int(settings["room"])
+    status = {None: 0, "Volume": 6}.get(fault, 7)
+    return whole[:room], status or (5 if len(whole) > room or settings.get("write") == "2" else 0), None
+
+
+def configured(settings):
+    """Whether a configuration is taken, or why it is refused."""
+    names = [settings[name] for name in ("log", "nodes", "metadata", "witness")]
+    sizes = [int(settings[name]) for name in ("log_blob", "node_blob", "witness_blob")]
+    if settings.get("memory") == "none":
+        return "out of memory"
+    if 0 in sizes:
+        return "zero blob size"
+    if int(settings["apply"]) == 0:
+        return "zero apply batch"
+    if len(set(names)) < 4:
+        return "two equal names"
+    return f"value limit {settings['limit']} above 16777216" if int(settings["limit"]) > 16777216 else "taken"
 
 
 def answered(kind, settings, lines):
     if kind.startswith("#"):
         return kind + "\n"
+    if kind == "config":
+        return configured(settings) + "\n"
+    if kind == "run" and not settings.keys() & {"log", "map", "call"}:
+        return history(settings, lines)
     if kind == "run":
-        replies, status = ended(settings, lines, lambda: machine_of(settings))
-        return replies + {0: "", 6: "stopped Volume\n", 10: "stopped NotFresh\n"}[status]
+        replies, fault = ended(settings, lines, lambda: machine_of(settings))
+        return replies + (f"stopped {fault}\n" if fault else "")
     if kind == "failing":
         return failing(settings, lines)
     if kind == "main":
@@ -175,10 +333,11 @@ def script(text):
 
 
 def runs():
-    """The names and commands of the runs on fresh volumes of which no call is set to fail."""
+    """The names and commands of the single runs on fresh volumes of which no call is set to fail."""
     name = ""
     for kind, settings, lines in cases(SCRIPT.read_text(encoding="utf-8")):
-        if kind in ("run", "failing") and not settings.keys() & {"log", "map", "call"}:
+        is_single = not settings.keys() & {"log", "map", "call"} and not any(line.startswith("/") for line in lines)
+        if kind in ("run", "failing") and is_single:
             yield name, commands(lines)
         name = kind.removeprefix("# ")
 
@@ -221,9 +380,19 @@ def known_digests():
     return known
 
 
+def told_runs(text):
+    """The runs that a document tells, one after another on one folder: their input, their replies, and the replies that are right."""
+    machine_now = Machine()
+    for given, told in re.findall("```input\n(.*?)```\n\n```replies\n(.*?)```", text, re.DOTALL):
+        yield given, told, run(given.splitlines(), machine_now)
+
+
 def check(top):
     """Compares the stored files with what is computed here; answers what differs."""
     wrong = []
+    for given, told, right in told_runs((top / "docs" / "TWINS.md").read_text(encoding="utf-8")):
+        if told != right:
+            wrong.append(f"docs/TWINS.md: not the replies to the run that begins with {given.splitlines()[0]}")
     for program, replies in (("twins", lambda text: run(text.splitlines())), ("run_calls", script)):
         home = top / "crates" / program
         stdin, stdout = home / "stdin", home / "stdout"
@@ -242,8 +411,12 @@ def main(words):
     if words == ["roots"]:
         for name, one in example_roots():
             print(f"{one}  {name}")
-    elif words == ["run"]:
-        sys.stdout.write(run(sys.stdin.read().splitlines()))
+    elif words[:1] == ["run"]:
+        machine_now = Machine()
+        for text in [Path(word).read_text(encoding="ascii") for word in words[1:]] or [sys.stdin.read()]:
+            sys.stdout.write(run(text.splitlines(), machine_now))
+    elif words[:1] == ["gen"] and len(words) == 3:
+        print("\n".join(generated(int(words[1]), int(words[2]))))
     elif words == ["script"]:
         sys.stdout.write(script(sys.stdin.read()))
     elif words == ["check"]:

@@ -1,6 +1,6 @@
 #!/usr/bin/env python3
 """Lets each allocation of the program fail in turn, on each run of crates/run_calls/stdin at the program's own configuration;
-of a run that makes many, some all over it.
+of a run that makes many, some all over it. Each run has a folder of its own.
 
 usage: tools/fail_alloc.py PROGRAM
 
@@ -18,23 +18,36 @@ import tempfile
 from pathlib import Path
 
 import expected
+from machine import Machine
+from standing import Found
 
 NO_MEMORY = (8, b"twins: out of memory\n")
 DONE = (0, b"")
+NO_OUTPUT = (5, b"twins: cannot write output\n")
 FULL = "/dev/full"              # what takes nothing
 TRIED = 300                     # how many allocations of a run are made to fail, at most
+OPENED = 10                     # of how many of these what is left is opened again once
 
 
 class Program:
-    """The program, with a library before the C library's by which one allocation fails."""
+    """The program, with a library before the C library's by which one allocation fails, and a folder to run it on."""
 
-    def __init__(self, path, library, told):
-        self.path, self.library, self.told = path, library, told
+    def __init__(self, path, library, scratch):
+        self.path, self.library, self.told, self.folder = path, library, f"{scratch}/told", f"{scratch}/folder"
 
     def run(self, text, failing=0, output=subprocess.PIPE):
+        """The ending and the output of a run on a folder that isn't there."""
+        shutil.rmtree(self.folder, ignore_errors=True)
         settings = dict(os.environ, LD_PRELOAD=self.library, FAIL_ALLOC=str(failing), FAIL_ALLOC_TOLD=self.told)
-        ended = subprocess.run([self.path], input=text, stdout=output, stderr=subprocess.PIPE, env=settings, timeout=60)
+        ended = subprocess.run([self.path, self.folder], input=text, stdout=output, stderr=subprocess.PIPE, env=settings, timeout=60)
         return (ended.returncode, ended.stderr), ended.stdout
+
+    def opens(self, lines):
+        """Whether what the last run, of these lines, left is opened as it should."""
+        machine, found = Machine(), Found(self.folder)
+        expected.run(lines, machine)
+        ended = subprocess.run([self.path, self.folder], input=b"", capture_output=True, timeout=60)
+        return (ended.returncode, ended.stdout.decode()) == (0, machine.opened(found.left()))
 
     def allocations(self):
         return int(Path(self.told).read_text())
@@ -85,19 +98,21 @@ def faults_of(program, name, lines):
             wrong.append(f"{name}: allocation {number} of {count}: fewer replies than where an earlier one fails")
         else:
             told = len(output)
+        if number % OPENED == 0 and not program.opens(lines):
+            wrong.append(f"{name}: allocation {number} of {count}: what is left isn't opened as it should")
     if told < told_at_last(lines, whole):
         wrong.append(f"{name}: where the last allocation fails, replies before it are not there")
     return len(tried(count)), spared, wrong
 
 
 def faults_without_output(program, name, lines):
-    """What is wrong where nothing can be written either: want of memory goes before a write fault."""
+    """What is wrong where nothing can be written either: want of memory goes before a write fault, where the allocation is needed."""
     text = input_of(lines)
     with open(FULL, "wb") as full:
         program.run(text, 0, full)
         endings = [(number, program.run(text, number, full)[0]) for number in tried(program.allocations())]
     return [f"{name}: allocation {number}, and nothing can be written: {ending}"
-            for number, ending in endings if ending != NO_MEMORY]
+            for number, ending in endings if ending != NO_MEMORY and not (ending == NO_OUTPUT and program.run(text, number)[0] == DONE)]
 
 
 def begun(words, usage):
@@ -124,7 +139,7 @@ def main(words):
     if ended is not None:
         return ended
     with tempfile.TemporaryDirectory() as scratch:
-        program = Program(words[0], library_in(scratch), f"{scratch}/told")
+        program = Program(words[0], library_in(scratch), scratch)
         runs = list(expected.runs())
         results = [faults_of(program, name, lines) for name, lines in runs]
         unwritten = faults_without_output(program, *runs[1]) if os.path.exists(FULL) else []

@@ -2,8 +2,9 @@
 # Checks the launcher `twins`: on a made-up checkout, with an rt that proves nothing, when it builds, when it doesn't,
 # and what it answers where it can't. Then, where the program of the checkout that this file stands in is current, it
 # checks the program's ends through the launcher: the stored run, from another folder, through a link, with input passed
-# on, also between comments and empty lines; the longest input, also as line ends alone in little memory; and each other
-# status that can be had from outside, with its message. It never proves or builds the program.
+# on, also between comments and empty lines; a second run on what it left; generated commands; the longest input, also as
+# line ends alone in little memory; and each other status that can be had from outside, with its message. It never proves
+# or builds the program.
 set -u
 top=$(cd "$(dirname "$0")/.." && pwd -P)
 . "$top/tools/current.sh"
@@ -37,11 +38,12 @@ echo "$*" >>"$CALLS"
 [ "$MODE" = fails ] && echo 'not proved' && exit 1
 [ "$MODE" = none ] && echo 'not proved' && exit 0
 [ "$MODE" = slow ] && touch -t 209901010000 src/main.rt
+mkdir "$3"
 printf '%s\n' '#!/bin/sh' 'echo "$@"' cat 'exit 5' >out/twins
 chmod +x out/twins
 END
 chmod +x "$scratch/bin/rt"
-for tool in sh dirname readlink find head mkdir touch cat; do
+for tool in sh dirname readlink find head mkdir touch cat rm; do
     ln -s "$(command -v "$tool")" "$scratch/none/$tool"
 done
 CALLS=$scratch/calls
@@ -52,7 +54,7 @@ launched() {    # a name, the calls of rt that it has to make, and its status; w
     : >"$CALLS"
     echo input | PATH=$scratch/bin:$PATH "$copy/twins" 'a  word' b >"$scratch/answers" 2>"$scratch/errors"
     expect "$1: status" [ $? -eq "$3" ]
-    expect "$1: calls of rt" [ "$(grep -c '^run$' "$CALLS")" -eq "$2" ]
+    expect "$1: calls of rt" [ "$(grep -c '^run -- .*/tried$' "$CALLS")" -eq "$2" ]
 }
 
 ran() {         # a name: the program had its words and its input
@@ -64,6 +66,7 @@ built_anew() {  # a name, and the last message
     ran "$1"
     expect "$1: first message" grep -q '^twins: proving and building' "$scratch/errors"
     expect "$1: last message" [ "$(tail -n 1 "$scratch/errors")" = 'twins: built' ]
+    expect "$1: the folder of the first run is gone" [ ! -e "$copy/crates/twins/out/tried" ]
 }
 
 current() {     # a name
@@ -149,6 +152,11 @@ ln -s link "$scratch/link-to-link"
 (cd "$scratch" && ./link-to-link <"$top/crates/twins/stdin" >answers)
 expect 'status of the stored run' [ $? -eq 0 ]
 expect 'output of the stored run' cmp -s "$scratch/answers" "$top/crates/twins/stdout"
+expect 'the folder where no word names one' [ -f "$scratch/twins-data/log.log" ]
+tail -n 1 "$top/crates/twins/stdout" | sed 's/^.* size=/opened start=0 size=/' >"$scratch/opened-again"
+(cd "$scratch" && ./link twins-data </dev/null >answers)
+expect 'status of a second run' [ $? -eq 0 ]
+expect 'output of a second run' cmp -s "$scratch/answers" "$scratch/opened-again"
 
 ends() {        # a status, its message, the input, and words; nothing is written
     status=$1
@@ -164,26 +172,43 @@ ends() {        # a status, its message, the input, and words; nothing is writte
 usage='twins: usage: twins [FOLDER] [--gen NUMBER COUNT]'
 printf 'size\n\nsizes\n' >"$scratch/bad-line"
 head -c 16777217 /dev/zero | tr '\0' '#' >"$scratch/too-long"
-ends 2 "$usage" /dev/null no-such-word
+ends 2 "$usage" /dev/null unmade word
+ends 2 "$usage" /dev/null ''
+ends 2 "$usage" /dev/null --help
+ends 2 "$usage" /dev/null unmade --gen 1
+ends 2 "$usage" /dev/null unmade --gen 1 10001
+ends 2 "$usage" /dev/null unmade --gen 01 1
 ends 2 "$usage" /dev/null "$(printf '\377')"
-ends 3 'twins: line 3: not a command' "$scratch/bad-line"
-ends 4 'twins: cannot read input' "$scratch"
-ends 9 'twins: input longer than 16777216 bytes' "$scratch/too-long"
+ends 3 'twins: line 3: not a command' "$scratch/bad-line" unmade
+ends 4 'twins: cannot read input' "$scratch" unmade
+ends 9 'twins: input longer than 16777216 bytes' "$scratch/too-long" unmade
+expect 'no folder is made with statuses 2, 3, 4 and 9' [ ! -e "$scratch/unmade" ]
+: >"$scratch/no-folder"
+ends 6 'twins: volume failed' /dev/null no-folder
+mkdir "$scratch/damaged"
+printf '\0\0\0\0\0\0\0\1' >"$scratch/damaged/log.log"
+ends 7 'twins: volume holds no valid state' /dev/null damaged
+
+(cd "$scratch" && ./link made/within --gen 1 1 <"$scratch" >answers)
+expect 'status of a generated run, whose input is not read' [ $? -eq 0 ]
+expect 'output of a generated run' [ "$(sed 's/^root .*/root/' "$scratch/answers")" = "$(printf 'rounds 1\nsize 9\nrefused 0\nroot')" ]
+(cd "$scratch" && ./link made/within </dev/null >answers)
+expect 'what a generated run left' grep -q '^opened start=0 size=9 ' "$scratch/answers"
 
 awk '{ print "# line " NR; print ""; print }' "$top/crates/twins/stdin" >"$scratch/commented"
-(cd "$scratch" && ./link <commented >answers)
+(cd "$scratch" && ./link commented-run <commented >answers)
 expect 'output of the stored run between comments' cmp -s "$scratch/answers" "$top/crates/twins/stdout"
 head -c 16777216 "$scratch/too-long" >"$scratch/longest"
 head -n 1 "$top/crates/twins/stdout" >"$scratch/opened"
-(cd "$scratch" && ./link <longest >answers)
+(cd "$scratch" && ./link longest-run <longest >answers)
 expect 'status of the longest input' [ $? -eq 0 ]
 expect 'output of the longest input' cmp -s "$scratch/answers" "$scratch/opened"
 tr '#' '\n' <"$scratch/longest" >"$scratch/line-ends"
-(cd "$scratch" && ulimit -v 200000 && ./link <line-ends >answers)
+(cd "$scratch" && ulimit -v 200000 && ./link line-ends-run <line-ends >answers)
 expect 'status of line ends alone, in 200 MB of memory' [ $? -eq 0 ]
 expect 'output of line ends alone' cmp -s "$scratch/answers" "$scratch/opened"
 if [ -w /dev/full ]; then
-    (cd "$scratch" && ./link </dev/null >/dev/full 2>errors)
+    (cd "$scratch" && ./link full-run </dev/null >/dev/full 2>errors)
     expect 'status 5' [ $? -eq 5 ]
     expect 'message of status 5' [ "$(cat "$scratch/errors")" = 'twins: cannot write output' ]
 fi

@@ -1,4 +1,4 @@
-"""The list machine apart from the product: what each command answers, and what it makes of the state.
+"""The list machine apart from the product: what each command answers, and what it makes of the state, over one run after another.
 
 The state is the list of operations, the applied sizes, what no crash undoes of operations and of nodes, the greatest
 accepted prune location, the starts of both logs, and the batches by number. Everything is made from hashlib's SHA-256
@@ -8,7 +8,7 @@ from collections import namedtuple
 
 import trees
 from proofs import cover
-from trees import Mmr, node, peaks
+from trees import Grown, Mmr, peaks
 
 MAX_LEAVES = 2**62
 
@@ -39,7 +39,7 @@ def commit(metadata, floor):
     return Operation(metadata, floor, b"\0" + option + varint(floor))
 
 
-# ---- roots and proofs of a list
+# ---- lists, their roots and proofs
 
 def inactive_peaks(leaves, floor):
     """How many leading peaks end at or below the floor."""
@@ -47,7 +47,7 @@ def inactive_peaks(leaves, floor):
 
 
 def root(operations):
-    """The root of a list that a commit ends, in hexadecimal."""
+    """The root of operations that a commit ends, by the recursion from the leaves, in hexadecimal."""
     texts = [operation.text for operation in operations]
     return trees.root(Mmr, texts, inactive_peaks(len(texts), operations[-1].floor), True).hex()
 
@@ -56,12 +56,45 @@ def joined(texts):
     return ",".join(text.hex() for text in texts) or "-"
 
 
-def proof(operations, start, end):
-    """The answer of a proof of these operations of a list that a commit ends."""
-    texts, leaves = [operation.text for operation in operations], len(operations)
-    digests = [node(Mmr, texts, *name) for name in cover(Mmr, leaves, lambda leaf: start <= leaf < end)]
-    inactive = inactive_peaks(leaves, operations[-1].floor)
-    return f"proof leaves={leaves} inactive={inactive} start={start} ops={joined(texts[start:end])} digests={joined(digests)}"
+class Whole:
+    """A list of operations that a commit ends, with its tree. It isn't changed."""
+
+    def __init__(self, operations, before=None):
+        self.operations, self.tree = (before.operations if before else []) + operations, Grown(before and before.tree)
+        for operation in operations:
+            self.tree.append(operation.text)
+        self.root = self.tree.root(len(self), inactive_peaks(len(self), self.floor())).hex()
+
+    def __len__(self):
+        return len(self.operations)
+
+    def floor(self):
+        return self.operations[-1].floor
+
+    def first(self, size):
+        """The first operations, which a commit ends."""
+        return self if size == len(self) else Whole(self.operations[:size])
+
+    def begins(self, other, size):
+        """Whether it is this front of another list."""
+        return len(self) == size and self.operations == other.operations[:size]
+
+    def peak_nodes(self, leaves):
+        """The nodes at the peaks of so many leaves."""
+        return [self.tree.nodes[Mmr.position(*peak)] for peak in peaks(Mmr, leaves)]
+
+    def proof(self, size, start, end):
+        """The answer of a proof of these operations in the tree of the first so many, which a commit ends."""
+        names = cover(Mmr, size, lambda leaf: start <= leaf < end)
+        digests = [self.tree.nodes[Mmr.position(*name)] for name in names]
+        inactive = inactive_peaks(size, self.operations[size - 1].floor)
+        texts = [operation.text for operation in self.operations[start:end]]
+        return f"proof leaves={size} inactive={inactive} start={start} ops={joined(texts)} digests={joined(digests)}"
+
+    def witness(self, size):
+        """The bytes of the witness of the first so many, which a commit ends."""
+        text, pins = self.operations[size - 1].text, self.peak_nodes(size - 1)
+        return varint(len(text)) + text + varint(size) + varint(len(pins)) + b"".join(pins)
 
 
 def shown(value):
@@ -90,32 +123,55 @@ def is_held(batch):
     return batch.phase == "sealed" and batch.holds > 0
 
 
+# The bounds of the log of operations and of the log of witnesses.
+Left = namedtuple("Left", "start end wstart wend")
+# How far a state is: its size, how many sizes were applied, what no crash undoes, the prune location and both starts.
+Marks = namedtuple("Marks", "size applied durable node_durable prune start wstart")
+
+
 class Machine:
-    """One run over a state; `limit` is the longest value in bytes, the blobs are in items."""
+    """Runs over a state; `limit` is the longest value in bytes, the blobs are in items."""
 
     def __init__(self, limit=1048576, log_blob=64, witness_blob=64):
         self.limit, self.log_blob, self.witness_blob = limit, log_blob, witness_blob
-        self.operations, self.sizes = [commit(None, 0)], [1]
+        self.whole, self.sizes = Whole([commit(None, 0)]), [1]
         self.durable = self.node_durable = self.prune = self.start = self.wstart = 0
         self.batches = []       # by number
-        self.known = None       # the list whose root is known, and that root
 
     # -- the list
 
     def floor(self):
-        return self.operations[-1].floor
-
-    def root(self):
-        if self.known is None or self.known[0] is not self.operations:
-            self.known = self.operations, root(self.operations)
-        return self.known[1]
+        return self.whole.floor()
 
     def is_at(self, whole, sizes):
         """Whether the list is one of these fronts of another."""
-        return any(self.operations == whole[:size] for size in sizes)
+        return any(self.whole.begins(whole, size) for size in sizes)
 
     def first_at_least(self, size):
         return next((i for i, one in enumerate(self.sizes) if one >= size), len(self.sizes))
+
+    def marks(self):
+        return Marks(len(self.whole), len(self.sizes), self.durable, self.node_durable, self.prune, self.start, self.wstart)
+
+    # -- openings
+
+    def left(self):
+        """The bounds of both logs behind a step."""
+        return Left(self.start, len(self.whole), self.wstart, len(self.sizes))
+
+    def opens_at(self, left):
+        """The greatest applied size that the log of operations reaches and whose witness is kept; 1 where there is none."""
+        kept = [size for i, size in enumerate(self.sizes) if size <= left.end and left.wstart <= i < left.wend]
+        return kept[-1] if kept else 1
+
+    def opened(self, left=None):
+        """The reply of an opening where the logs have these bounds, or those that the last step left; batches are gone."""
+        left = left or self.left()
+        size = self.opens_at(left)
+        self.whole, self.sizes = self.whole.first(size), [one for one in self.sizes if one <= size]
+        self.durable = self.node_durable = size
+        self.start, self.wstart, self.batches = left.start, left.wstart, []
+        return self.reply(f"opened start={self.start}")
 
     # -- batches
 
@@ -144,7 +200,7 @@ class Machine:
 
     def new(self, parent=None):
         if parent is None:
-            return self.made(Batch("unsealed", self.operations))
+            return self.made(Batch("unsealed", self.whole))
         return self.made(Batch("unsealed", self.batch(parent, is_held).whole, parent))
 
     def append(self, b, value):
@@ -176,20 +232,20 @@ class Machine:
         if floor > location:
             raise Refused(f"FloorBeyondSize {floor} {location}")
         batch.phase, batch.holds, batch.floor, batch.boundary, batch.tips = "sealed", 1, floor, boundary, tips
-        batch.whole = batch.whole + batch.pending + [commit(metadata, floor)]
-        return f"sealed {len(batch.whole)} {root(batch.whole)}"
+        batch.whole = Whole(batch.pending + [commit(metadata, floor)], batch.whole)
+        return f"sealed {len(batch.whole)} {batch.whole.root}"
 
     def apply(self, b):
         batch = self.batch(b, is_held)
         if not self.is_at(batch.whole, batch.marks()):
             raise Refused("StaleBatch")
-        if len(self.operations) < len(batch.whole):
+        if len(self.whole) < len(batch.whole):
             self.sizes.append(len(batch.whole))
-        self.operations = batch.whole
+        self.whole = batch.whole
         return "applied"
 
     def snapshot(self):
-        batch = Batch("sealed", self.operations)
+        batch = Batch("sealed", self.whole)
         batch.holds, batch.floor = 1, self.floor()
         return self.made(batch)
 
@@ -212,17 +268,17 @@ class Machine:
         return self.is_at(batch.whole, batch.marks() + [len(batch.whole)])
 
     def reading(self, b):
-        """The list that a batch reads, and its floor. An unsealed one is judged by its parent, and without one by its own base."""
+        """The operations that a batch reads, and its floor. An unsealed one is judged by its parent, and without one by its own base."""
         batch = self.batch(b, is_unsealed, is_held)
         if is_held(batch):
-            readable, whole, floor = self.is_readable(batch), batch.whole, batch.floor
+            readable, operations, floor = self.is_readable(batch), batch.whole.operations, batch.floor
         else:
             parent = None if batch.parent is None else self.batches[batch.parent]
-            readable = self.operations == batch.whole if parent is None else self.is_readable(parent)
-            whole, floor = batch.whole + batch.pending, self.floor_under(batch)
+            readable = self.is_at(batch.whole, [batch.base]) if parent is None else self.is_readable(parent)
+            operations, floor = batch.whole.operations + batch.pending, self.floor_under(batch)
         if not readable:
             raise Refused("StaleRead")
-        return whole, floor
+        return operations, floor
 
     @staticmethod
     def in_order(locations, size):
@@ -233,58 +289,58 @@ class Machine:
             raise Refused(f"LocationOutOfBounds {locations[-1]} {size}")
 
     def get_many(self, *locations):
-        self.in_order(locations, len(self.operations))
+        self.in_order(locations, len(self.whole))
         if locations and locations[0] < self.start:
             raise Refused(f"ItemPruned {locations[0]}")
-        return "".join(["values"] + [" " + shown(self.operations[at].value) for at in locations])
+        return "".join(["values"] + [" " + shown(self.whole.operations[at].value) for at in locations])
 
     def get(self, location):
         return "value " + self.get_many(location).split(" ")[1]
 
     def batch_get_many(self, b, *locations):
-        whole, floor = self.reading(b)
-        self.in_order(locations, len(whole))
+        operations, floor = self.reading(b)
+        self.in_order(locations, len(operations))
         if locations and locations[0] < floor:
             raise Refused(f"BelowInactivityFloor {locations[0]}")
-        return "".join(["values"] + [" " + shown(whole[at].value) for at in locations])
+        return "".join(["values"] + [" " + shown(operations[at].value) for at in locations])
 
     def batch_get(self, b, location):
         return "value " + self.batch_get_many(b, location).split(" ")[1]
 
     def size(self):
-        return f"size {len(self.operations)} start {self.start} floor {self.floor()}"
+        return f"size {len(self.whole)} start {self.start} floor {self.floor()}"
 
     def metadata(self):
-        return f"metadata {shown(self.operations[-1].value)}"
+        return f"metadata {shown(self.whole.operations[-1].value)}"
 
     def proof(self, size, start, count):
-        if size == 0 or size > len(self.operations):
+        if size == 0 or size > len(self.whole):
             raise Refused(f"RangeOutOfBounds {size}")
         if size - 1 < self.start:
             raise Refused(f"ItemPruned {size - 1}")
-        if self.operations[size - 1].floor is None:
+        if self.whole.operations[size - 1].floor is None:
             raise Refused(f"HistoricalFloorPruned {size}")
         if start >= size:
             raise Refused(f"RangeOutOfBounds {start}")
         if start < self.start:
             raise Refused(f"ItemPruned {start}")
-        return proof(self.operations[:size], start, min(size, start + count))
+        return self.whole.proof(size, start, min(size, start + count))
 
     def commit_proof(self, size):
-        if size == 0 or size > len(self.operations):
+        if size == 0 or size > len(self.whole):
             raise Refused(f"RangeOutOfBounds {size}")
         if size not in self.sizes[self.wstart:]:
             raise Refused(f"ItemPruned {size - 1}")
-        return proof(self.operations[:size], size - 1, size)
+        return self.whole.proof(size, size - 1, size)
 
     # -- what is durable
 
     def commit(self):
-        self.durable = len(self.operations)
+        self.durable = len(self.whole)
         return "committed"
 
     def sync(self):
-        self.durable = self.node_durable = len(self.operations)
+        self.durable = self.node_durable = len(self.whole)
         return "synced"
 
     def start_sync(self):
@@ -322,8 +378,7 @@ class Machine:
         return getattr(self, self.LINES[name])(*rest)
 
     def reply(self, answer):
-        there = self.root()
-        return f"{answer} size={len(self.operations)} full={there} compact={there}\n"
+        return f"{answer} size={len(self.whole)} full={self.whole.root} compact={self.whole.root}\n"
 
     def answer(self, line):
         """The reply to a line."""
@@ -331,12 +386,6 @@ class Machine:
             return self.reply(self.step(line.split(" ")))
         except Refused as refusal:
             return self.reply(f"refused {refusal}")
-
-    def opened(self):
-        """The reply of an opening of what the last run left, which has ended by itself; batches are gone."""
-        self.durable = self.node_durable = len(self.operations)
-        self.batches = []
-        return self.reply(f"opened start={self.start}")
 
 
 def bytes_of(word):
@@ -348,6 +397,6 @@ def is_skipped(line):
 
 
 def run(lines, machine=None):
-    """The reply lines of a run, on a fresh volume or on what a machine's runs have left."""
+    """The reply lines of a run, on a fresh volume or on what a machine's runs left that ended by themselves."""
     machine = machine or Machine()
     return "".join([machine.opened()] + [machine.answer(line) for line in lines if not is_skipped(line)])

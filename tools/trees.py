@@ -98,3 +98,26 @@ def root_over(tops, leaves, inactive, forward):
 def root(family, elements, inactive, forward):
     tops = [node(family, elements, *peak) for peak in peaks(family, len(elements))]
     return root_over(tops, len(elements), inactive, forward)
+
+
+class Grown:
+    """The MMR of a list, made append by append: its nodes by their positions, and its peaks, each a height and a digest."""
+
+    def __init__(self, before=None):
+        self.nodes, self.tops = (list(before.nodes), list(before.tops)) if before else ([], [])
+
+    def add(self, height, *parts):
+        one = digest(*parts)
+        self.nodes.append(one)
+        self.tops.append((height, one))
+
+    def append(self, element):
+        """A leaf behind the peaks; then the last two peaks are joined as long as they are of one height."""
+        self.add(0, b"\0", number(len(self.nodes)), element)
+        while len(self.tops) > 1 and self.tops[-2][0] == self.tops[-1][0]:
+            (height, left), (_, right) = self.tops[-2:]
+            del self.tops[-2:]
+            self.add(height + 1, b"\1", number(len(self.nodes)), left, right)
+
+    def root(self, leaves, inactive):
+        return root_over([one for _, one in self.tops], leaves, inactive, True)

@@ -1,31 +1,27 @@
-#!/usr/bin/env python3
-"""Runs random scripts through the program twins and through the list machine of tools/machine.py, and compares the replies.
+"""Random scripts for the program, each line chosen by what the list machine has after the lines before it.
 
-usage: tools/random_runs.py PROGRAM [COUNT] [SEED]
-
-A script has up to sixty lines, and some begin with a batch that is longer than a blob of the program's log, so that a prune
-can move its start. The numbers in the lines are mostly of batches, sizes, locations and floors that are there, so that
-most commands are done, and some are refused, for each reason that a script can give.
+A run has up to sixty lines, and some begin with a batch that is longer than a blob of the log of operations, or with more
+small batches than a blob of the log of witnesses has, so that a prune can move its start. The numbers in the lines are mostly of
+batches, sizes, locations and floors that are there, so that most commands are done, and some are refused, for each reason that
+a script can give.
 """
-import random
-import subprocess
-import sys
+from machine import is_held, is_skipped, is_unsealed
 
-from machine import Machine, is_held, is_skipped, is_unsealed
-
-COUNT, LINES = 1000, 60
+LINES = 60
 LONG = range(60, 200)           # how many appends the batch has that is longer than a blob
+MANY = range(60, 150)           # how many small batches are applied one after another
 VALUES = [".", "61", "6263", "00" * 9, "aBcD"]
 # How often each line comes.
-WEIGHTS = {"new": 5, "append": 10, "seal": 6, "apply": 6, "hold": 1, "release": 2, "snapshot": 1, "size": 1, "metadata": 1,
-           "get": 2, "get-many": 2, "batch-get": 2, "batch-get-many": 2, "proof": 4, "commit": 1, "sync": 1, "start-sync": 1, "prune": 3}
+WEIGHTS = {"new": 5, "append": 10, "seal": 6, "apply": 6, "hold": 1, "release": 2, "snapshot": 1, "size": 1, "metadata": 1, "get": 2,
+           "get-many": 2, "batch-get": 2, "batch-get-many": 2, "proof": 4, "commit-proof": 3, "commit": 1, "sync": 1, "start-sync": 1,
+           "prune": 3}
 
 
 class Script:
-    """The lines of a script, each chosen by what the machine has after the lines before it."""
+    """Runs over a machine, one after another."""
 
-    def __init__(self, chance):
-        self.chance, self.machine, self.lines = chance, Machine(), []
+    def __init__(self, chance, machine):
+        self.chance, self.machine = chance, machine
 
     def number(self, numbers):
         """One of these numbers, mostly of the last, and now and then one beside them."""
@@ -55,7 +51,7 @@ class Script:
 
     def location(self):
         machine = self.machine
-        return self.place(machine.start, machine.floor(), len(machine.operations) - 1)
+        return self.place(machine.start, machine.floor(), len(machine.whole) - 1)
 
     def locations(self, one):
         """Several locations, mostly rising."""
@@ -70,8 +66,13 @@ class Script:
         floor = self.machine.floor_under(batch) if is_unsealed(batch) else batch.floor
         return self.place(floor, batch.base, len(batch.whole) + len(batch.pending) - 1)
 
+    def size(self):
+        """A size of a proof: mostly one of the last that were applied, or that of the oldest witness that is kept."""
+        machine = self.machine
+        return self.chance.choice(machine.sizes[-4:] + machine.sizes[machine.wstart:][:1] + [self.place(*machine.sizes)])
+
     def proof(self):
-        size = self.chance.choice(self.machine.sizes[-4:] + [self.place(*self.machine.sizes)])
+        size = self.size()
         start = self.place(self.machine.start, max(size - 3, 0), max(size - 1, 0))
         return f"proof {size} {start} {self.chance.choice([1, 1, 2, 5, 2**64 - 1])}"
 
@@ -85,7 +86,11 @@ class Script:
             return f"batch-get {b} {self.in_batch(b)}"
         if name == "batch-get-many":
             return " ".join(["batch-get-many", str(b), *map(str, self.locations(lambda: self.in_batch(b)))])
-        return self.proof() if name == "proof" else f"prune {self.place(0, self.machine.floor(), self.machine.floor())}"
+        if name == "proof":
+            return self.proof()
+        if name == "commit-proof":
+            return f"commit-proof {self.size()}"
+        return f"prune {self.place(0, self.machine.floor(), self.machine.floor())}"
 
     def line(self):
         name = self.chance.choices(list(WEIGHTS), WEIGHTS.values())[0]
@@ -100,51 +105,36 @@ class Script:
         if name == "seal":
             b = self.number(unsealed)
             return f"seal {b} {self.value('-', '-', '-')} {self.floor(b)}"
-        if name in ("get", "get-many", "batch-get", "batch-get-many", "proof", "prune"):
+        if name in ("get", "get-many", "batch-get", "batch-get-many", "proof", "commit-proof", "prune"):
             return self.reading(name, self.number(sorted(held + unsealed)))
         return f"{name} {self.number(asked[name])}" if name in asked else name
 
-    def long_batch(self):
-        """The lines of a batch that is longer than a blob, with a floor within it."""
-        count = self.chance.choice(LONG)
-        return ["new", *[f"append 0 {self.value()}" for _ in range(count)], f"seal 0 - {self.chance.randint(0, count + 1)}", "apply 0"]
+    def applied(self, b, appends, floor):
+        """The lines that apply a batch of this number."""
+        return ["new", *[f"append {b} {self.value()}" for _ in range(appends)], f"seal {b} - {floor}", f"apply {b}"]
 
-    def replies(self):
-        """Chooses the lines, and gives the replies to them."""
-        out = [self.machine.opened()]
-        first = self.long_batch() if self.chance.random() < 0.3 else []
-        for at in range(len(first) + self.chance.randint(1, LINES)):
-            line = first[at] if at < len(first) else self.chance.choices(["", "# nothing", self.line()], [1, 1, 60])[0]
-            self.lines.append(line)
-            if not is_skipped(line):
-                out.append(self.machine.answer(line))
-        return "".join(out)
+    def first_lines(self):
+        """The lines with which a run begins: of a long batch, of many small ones, or none."""
+        begun = self.chance.random()
+        size, floor = len(self.machine.whole), self.machine.floor()
+        if begun < 0.3:
+            count = self.chance.choice(LONG)
+            return self.applied(0, count, self.chance.randint(floor, size + count))
+        if begun < 0.34:
+            return [line for b in range(self.chance.choice(MANY)) for line in self.applied(b, 0, size + b)]
+        return []
+
+    def run(self, most=LINES):
+        """The lines of a run, of which the first may be more than so many, and the replies to it, behind those of the opening."""
+        lines, out = [], []
+        first = self.first_lines()
+        for at in range(len(first) + self.chance.randint(1, most)):
+            lines.append(first[at] if at < len(first) else self.chance.choices(["", "# nothing", self.line()], [1, 1, most])[0])
+            if not is_skipped(lines[-1]):
+                out.append(self.machine.answer(lines[-1]))
+        return lines, out
 
 
 def reason(reply):
     words = reply.split(" ")
     return " ".join(words[:2]) if words[0] == "refused" else words[0]
-
-
-def main(words):
-    if not 1 <= len(words) <= 3:
-        print(__doc__, file=sys.stderr)
-        return 2
-    program, count, seed = words[0], int(words[1]) if words[1:] else COUNT, int(words[2]) if words[2:] else 1
-    came = {}
-    for number in range(count):
-        script = Script(random.Random(f"{seed} {number}"))
-        wanted = script.replies()
-        text = "".join(line + "\n" for line in script.lines)
-        run = subprocess.run([program], input=text.encode(), capture_output=True, timeout=60)
-        if run.returncode != 0 or run.stdout.decode("ascii", "replace") != wanted:
-            print(f"random_runs: script {number} of seed {seed} is answered otherwise; its lines are\n{text}")
-            return 1
-        for reply in wanted.splitlines():
-            came[reason(reply)] = came.get(reason(reply), 0) + 1
-    print(f"random_runs: {count} scripts are answered as the list machine does: " + ", ".join(f"{n} {name}" for name, n in sorted(came.items())))
-    return 0
-
-
-if __name__ == "__main__":
-    sys.exit(main(sys.argv[1:]))
