@@ -10,7 +10,8 @@ use Rattle.journal_base.specs.View.{log_of, SameButBounds, IsHeld}
 use Rattle.journal_base.specs.Items.{Spells}
 use Rattle.tree_shape.specs.Hashing.{Hashing}
 use Rattle.tree_shape.specs.Shape.{Shape}
-use Rattle.merkle_full.specs.Full.{IsBeside}
+use Rattle.tree_store.specs.Stored.{size}
+use Rattle.merkle_full.specs.Full.{Full, IsBeside, IsSeated}
 use Rattle.merkle_full.proofs.FullLemmas.{full_later}
 use Rattle.merkle_full.specs.Lists.{IsFullOf}
 use Rattle.auth_journal.specs.Joined.{Joined, IsSoundJoin, IsJoinedOf, leaves_of}
@@ -27,6 +28,16 @@ joined_later s h digest admits spelling list j k a b joined items log tree =
       start_is = ap (λ v. v.start) items ∙ joined.start_is ∙ ap (λ (l : Log). l.start) (sym here);
       end_is = ap (λ v. v.end) items ∙ joined.end_is ∙ ap end_of (sym here);
       tree = tree;
+    }
+
+-- the node log stays, and the tree is as far as before
+pub seated_later : {D : Type 0} (s : Shape) (t u : Full D) (a b : State) → u.log ≡ t.log → u.tree.boundary ≡ t.tree.boundary → b.log t.log.name ≡ a.log t.log.name → IsSeated s t (present a) → IsSeated s u (present b)
+seated_later s t u a b log bound same seated =
+    let here : b.log u.log.name ≡ a.log t.log.name = ap (λ v. b.log v.name) log ∙ same in
+    record {
+      start_is = ap (λ v. v.start) log ∙ seated.start_is ∙ ap (λ (l : Log). l.start) (sym here);
+      end_is = ap (λ v. v.end) log ∙ seated.end_is ∙ ap end_of (sym here);
+      nodes = ap (λ v. v.end) log ∙ seated.nodes ∙ ap (λ (n : ℕ). size s n) (sym bound);
     }
 
 -- items were appended, and the leaves that another list has past this one's end

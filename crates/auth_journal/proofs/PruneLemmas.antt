@@ -296,6 +296,20 @@ module _ {D Codec : Type 0} (j k l m : Joined D Codec) (flushed : IsFlushed j k)
       ∙ ap (λ n. max j.tree.log.start (blob_start n (length (made s l.items.start)))) blobs
       ∙ ap (λ n. max j.tree.log.start (blob_start j.tree.log.blob (length (made s n)))) begins
 
+  -- or where it did
+  pub nodes_stay : k.tree.log.start ≡ j.tree.log.start → m.items ≡ l.items → (l.items.start ≤ l.tree.boundary → m.tree ≡ l.tree) → m.items.start ≤ j.tree.boundary → m.tree.log.start ≡ j.tree.log.start
+  nodes_stay same items stays low =
+      let begins : l.items.start ≡ m.items.start = ap (λ v. v.start) (sym items) in
+      let boundary : l.tree.boundary ≡ j.tree.boundary = ap (λ (t : Full D). t.boundary) cut.tree ∙ flushed.tree.boundary in
+      ap (λ (t : Full D). t.log.start) (stays (omega (arith, low, begins, boundary))) ∙ ap (λ (t : Full D). t.log.start) cut.tree ∙ same
+
+  -- whether it was replaced
+  pub map_low : m.items ≡ l.items → m.items.start ≤ j.tree.boundary → l.items.start ≤ l.tree.boundary
+  map_low items low =
+      let begins : l.items.start ≡ m.items.start = ap (λ v. v.start) (sym items) in
+      let boundary : l.tree.boundary ≡ j.tree.boundary = ap (λ (t : Full D). t.boundary) cut.tree ∙ flushed.tree.boundary in
+      omega (arith, low, begins, boundary)
+
   -- no pin is lost
   pub pins_pruned : (a c d : State) → c.map j.tree.metadata ≡ a.map j.tree.metadata → KeepsPins (c.map l.tree.metadata) (d.map l.tree.metadata) → KeepsPins (a.map j.tree.metadata) (d.map j.tree.metadata)
   pins_pruned a c d same keeps =

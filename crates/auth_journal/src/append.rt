@@ -93,7 +93,7 @@ impl<F: Family, C: Backing, H: Hasher> Journal<F, C, H> {
     ghost use Rattle.tree_store.specs.declared.error.Error.TheVariants.{LocationOverflow};
     ghost use Rattle.volume_base.specs.Moments.{Image, present};
     ghost use Rattle.volume_base.specs.declared.error.JournalError.TheVariants.{EmptyAppend};
-    ghost use Rattle.merkle_full.specs.Full.{IsBeside};
+    ghost use Rattle.merkle_full.specs.Full.{IsBeside, IsSeated};
     ghost use Rattle.auth_journal.specs.Appending.{unapplied, IsNamed, NamesUnwritten};
     ghost use Rattle.auth_journal.specs.Batched.{IsSealedOfItems};
     ghost use Rattle.auth_journal.specs.Errors.{IsLifted};
@@ -157,6 +157,9 @@ impl<F: Family, C: Backing, H: Hasher> Journal<F, C, H> {
         ensures appends { Appends V.tells Error.Volume C.Item.spelling self.items (λ made. made.0.items)
             (item.now ∷ []) (V.state vol.old) (V.state vol.new) result }
         ensures held { IfOk result (λ made. V.tells → IsHeld made.0.items (V.state vol.new)) }
+        // Where the node log has the tree's bounds it has them afterwards.
+        ensures seated { IfOk result (λ made. V.tells → IsSeated F.shape self.tree (present (V.state vol.old)) →
+            IsSeated F.shape made.0.tree (present (V.state vol.new))) }
         ensures same { IfOk result (λ made. IsBeside self.tree made.0.tree × IsSameJoin self made.0) }
         ensures longer { IfOk result (λ made.
             IsLonger F.shape (self.tree.tree.leaves + 1) self.tree.tree made.0.tree.tree) }
@@ -254,6 +257,10 @@ impl<F: Family, C: Backing, H: Hasher> Journal<F, C, H> {
         ensures lifted { IfErr result IsLifted }
         ensures overflow { (e : JournalError) → IsErrOf result (Error.Journal e) →
             (e ≡ SizeOverflow) × (V.tells → 2 ^ 64 - 1 < end_of (log_of self.items (V.state vol.old)) + batch.now.nodes.leaves) }
+        // That is by what the journal lacks of the batch.
+        ensures beyond { let lacking = unapplied batch.now self.tree.tree.leaves in
+            (e : JournalError) → IsErrOf result (Error.Journal e) → V.tells →
+            2 ^ 64 - 1 < end_of (log_of self.items (V.state vol.old)) + length lacking }
         ensures unwritten { NamesUnwritten (V.state vol.old) (V.state vol.new) result }
         ensures appends { Appends V.tells Error.Volume C.Item.spelling self.items (λ made. made.items)
             (unapplied batch.now self.tree.tree.leaves) (V.state vol.old) (V.state vol.new) result }

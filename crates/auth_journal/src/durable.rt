@@ -10,7 +10,7 @@ impl<F: Family, C: Backing, H: Hasher> Journal<F, C, H> {
     ghost use Rattle.journal_base.specs.Tickets.{is_failed};
     ghost use Rattle.journal_base.specs.View.{SameLog, IsDurable};
     ghost use Rattle.merkle_full.specs.Flushing.{IsOfFlush};
-    ghost use Rattle.merkle_full.specs.Full.{Rests};
+    ghost use Rattle.merkle_full.specs.Full.{IsSeated, Rests};
     ghost use Rattle.tree_shape.specs.Shape.{made};
     ghost use Rattle.volume_base.specs.Moments.{present};
     ghost use Rattle.volume_base.specs.Names.{log_alone, NamesCall};
@@ -87,6 +87,8 @@ impl<F: Family, C: Backing, H: Hasher> Journal<F, C, H> {
         ensures outside { let admits = H.Digest.Read.admits tt in V.tells → (list : List C.Item) →
             IsJoinedOf F.shape H.hash H.Digest.spelling admits C.Item.spelling list self (present (V.state vol.old)) →
             IfErr result IsOutside }
+        // So it is wherever the node log has its bounds.
+        ensures bounded { V.tells → IsSeated F.shape self.tree (present (V.state vol.old)) → IfErr result IsOutside }
         // Every other log and every map stays, and so does what a crash leaves of it.
         ensures names { V.tells → NamesCall (logs_of self) (V.state vol.old) (V.state vol.new) }
         // From a turn on all items and all their nodes are durable.

@@ -18,7 +18,7 @@ impl<F: Family, C: Backing, H: Hasher> Journal<F, C, H> {
     ghost use Rattle.volume_base.specs.Log.{pruned_to, Advances};
     ghost use Rattle.volume_base.specs.Moments.{present};
     ghost use Rattle.volume_base.specs.Names.{log_and_map, NamesCall};
-    ghost use Rattle.volume_base.specs.Volume.{LogCall, Changes, Writes};
+    ghost use Rattle.volume_base.specs.Volume.{LogCall, MapStays, Changes, Writes};
     ghost use Rattle.auth_journal.specs.Durable.{IsCut, IsPrunedTo, IsFromTree, IsTreeUnpruned, IsJournalUnpruned};
     ghost use Rattle.auth_journal.specs.Errors.{IsOutside};
     ghost use Rattle.auth_journal.specs.Joined.{IsSoundJoin, IsJoinedOf};
@@ -66,6 +66,9 @@ impl<F: Family, C: Backing, H: Hasher> Journal<F, C, H> {
         ensures others { let old = V.state vol.old in
             OnOk result (V.tells → KeepsOthers (pins F.shape self.items.start) (old.map self.tree.metadata)
             ((V.state vol.new).map self.tree.metadata)) }
+        // At or below its boundary nothing changes.
+        ensures stays { IfOk result (λ j. self.items.start ≤ self.tree.boundary →
+            (j.tree ≡ self.tree) × (vol.new ≡ vol.old)) }
         // Of any tree, whatever the volume holds.
         ensures errors { let items = items_of H.Digest.spelling H.Digest.Read.admits self.tree.log (V.state vol.new) in
             IfErr result (IsFromTree (IsTreeUnpruned F.shape V.tells self.tree items self.items.start)) }
@@ -121,6 +124,16 @@ impl<F: Family, C: Backing, H: Hasher> Journal<F, C, H> {
             IsJoinedOf F.shape H.hash H.Digest.spelling admits C.Item.spelling list self (present (V.state vol.old)) →
             let point = blob_start self.tree.log.blob (length (made F.shape pruned.0.items.start)) in
             pruned.0.tree.log.start ≡ max self.tree.log.start point) }
+        // Where the tree isn't pruned further, the node log begins where it did, and the map stays, as what a crash
+        // leaves of it.
+        ensures nodes_stay { let admits = H.Digest.Read.admits tt in
+            IfOk result (λ pruned. pruned.0.items.start ≤ self.tree.boundary → V.tells → (list : List C.Item) →
+            IsJoinedOf F.shape H.hash H.Digest.spelling admits C.Item.spelling list self (present (V.state vol.old)) →
+            pruned.0.tree.log.start ≡ self.tree.log.start) }
+        ensures map_stays { let metadata = self.tree.metadata in
+            IfOk result (λ pruned. pruned.0.items.start ≤ self.tree.boundary → V.tells →
+            ((V.state vol.new).map metadata ≡ (V.state vol.old).map metadata)
+            × MapStays metadata (V.state vol.old) (V.state vol.new)) }
         ensures pins { OnOk result (V.tells →
             KeepsPins ((V.state vol.old).map self.tree.metadata) ((V.state vol.new).map self.tree.metadata)) }
         // Of the map's keys at most the boundary's and those of its pins change.

@@ -5,7 +5,8 @@ use Rattle.std.proofs.lemmas.List.{length-append}
 use Rattle.std.proofs.lemmas.Option.{same_Some, slice_get_within}
 use Rattle.merkle_full.proofs.ListLemmas.{there_is}
 use Rattle.log_model.specs.Meaning.{Meaning}
-use Rattle.keyless_db.specs.Reading.{AreKeptValues}
+use Rattle.chain_core.specs.declared.error.Error.{Error}
+use Rattle.keyless_db.specs.Reading.{AreKeptValues, IsFirstFault}
 use Rattle.keyless_db.proofs.KeptLemmas.{get_earlier, get_later}
 use Rattle.keyless_db.proofs.LocationLemmas.{lt_holds, lt_fails}
 
@@ -70,6 +71,19 @@ module _ {V : Type 0} (P : ℕ → Option V → Type 0) (locs : List ℕ) where
           let last = get_later values (v ∷ []) k v (omega (arith, same, so.count)) (ap (slice_get (v ∷ [])) first) in
           let value : v ≡ w = same_Some v w (sym last ∙ sym (ap (λ (xs : List (Option V)). slice_get xs k) pushed) ∙ there) in
           subst (λ n. P n w) (sym one) (subst (λ x. P l x) value holds)
+
+  -- the next one is the first that fails
+  pub each_first : {F : Type 0} (well : ℕ → Type 0) (fault : ℕ → Error F → Type 0) (i l : ℕ) (values : List (Option V)) (e : Error F) → ((n : ℕ) (v : Option V) → P n v → well n) → slice_get locs i ≡ Some l → EachSoFar i values
+      → fault l e → IsFirstFault well fault locs e
+  each_first well fault i l values e gives here so fails = record {
+    place = i;
+    location = l;
+    here = here;
+    earlier = λ k j lt at.
+        let entry = there_is values k (omega (arith, lt, so.count)) in
+        gives j entry.0 (so.each k j entry.0 lt at entry.1);
+    fails = fails;
+  }
 
   pub each_all : (i : ℕ) (values : List (Option V)) → length locs ≤ i → EachSoFar i values → (k l : ℕ) (v : Option V) → slice_get locs k ≡ Some l → slice_get values k ≡ Some v → P l v
   each_all i values end so k l v at there = let within = slice_get_within locs k l at in so.each k l v (omega (arith, within, end)) at there

@@ -17,3 +17,6 @@ pub mod StillLemmas
 pub mod ProofLemmas
 pub mod SealedLemmas
 pub mod OpenLemmas
+pub mod TreeLemmas
+pub mod ListedLemmas
+pub mod BeginningLemmas

@@ -1,5 +1,5 @@
 -- How a database is opened of a list.
-use Rattle.std.proofs.Common.{◌≡◌, ◌⊎◌, inl, inr, ℕ, zero, suc, ◌-◌, ◌^◌, ◌<◌, ◌≤◌, Bool, true, false, List, [], ◌∷◌, length, take, Some, None, Option, Ok, Err, refl, sym, ◌∙◌, ap, subst, arith}
+use Rattle.std.proofs.Common.{◌≡◌, ◌⊎◌, inl, inr, ℕ, zero, suc, ◌+◌, ◌-◌, ◌^◌, ◌<◌, ◌≤◌, Bool, true, false, List, [], ◌∷◌, length, take, Some, None, Option, Ok, Err, refl, sym, ◌∙◌, ap, subst, arith}
 use Rattle.std.specs.Prelude.{◌≢◌, Result, IfOk, IfErr, IsErrOf, IsSome, slice_get, is_some, unwrap_or}
 use Rattle.tree_shape.specs.Hashing.{Hashing}
 use Rattle.tree_shape.specs.Root.{root}
@@ -14,25 +14,31 @@ use Rattle.tree_store.proofs.StoreLemmas.{get-take}
 use Rattle.volume_base.specs.Log.{Log, end_of, cut_to}
 use Rattle.volume_base.specs.declared.error.JournalError.{JournalError}
 use Rattle.volume_base.specs.declared.error.JournalError.TheVariants as journal
-use Rattle.volume_base.specs.Moments.{Image}
+use Rattle.volume_base.specs.Moments.{Image, Keeps, NamesLeft, Now}
 use Rattle.volume_base.specs.Names.{Names, NamesCall, two_logs_and_map}
 use Rattle.volume_base.specs.Volume.{Map, State, PastStays, SameContents}
 use Rattle.journal_base.specs.View.{View, IsDurable, SameButBounds, capped}
 use Rattle.volume_base.proofs.CallLemmas.{names_call_idle}
-use Rattle.volume_base.proofs.MomentLemmas.{past_same}
+use Rattle.volume_base.proofs.MomentLemmas.{past_joins, past_same}
+use Rattle.volume_base.proofs.TurnLemmas.{names_back}
 use Rattle.journal_base.specs.Items.{Items, Holds}
 use Rattle.journal_base.specs.Matches.{IsAnswered}
 use Rattle.journal_base.proofs.ItemLemmas.{same_item}
+use Rattle.merkle_full.specs.Flushing.{IsOfFlush}
+use Rattle.merkle_full.specs.Full.{Full}
 use Rattle.merkle_full.specs.Preparing.{log_kept}
 use Rattle.merkle_full.proofs.PrepareLemmas.{kept_standing}
 use Rattle.merkle_full.proofs.ReadLemmas.{ReadRefused}
 use Rattle.merkle_full.proofs.SettleLemmas.{stored_read, pruned_stored}
+use Rattle.auth_journal.specs.Durable.{IsFromTree}
+use Rattle.auth_journal.specs.Errors.{IsLifted}
 use Rattle.auth_journal.specs.Joined.{Joined, IsJoinedOf, leaves_of}
 use Rattle.auth_journal.specs.Opening.{OpensAt, NotOpened}
 use Rattle.auth_journal.specs.Searching.{EndsAt, NotFound}
 use Rattle.auth_journal.specs.declared.error.Error as joined_error
 use Rattle.auth_journal.specs.declared.error.Error.TheVariants as joined
 use Rattle.auth_journal.proofs.LeafLemmas.{length-leaves_of}
+use Rattle.auth_journal.proofs.OpenedLemmas.{flush_lifted}
 use Rattle.log_model.specs.Good.{EndsWithCommit}
 use Rattle.log_model.specs.Meaning.{Meaning}
 use Rattle.log_model.specs.Operations.{floor_of, root_of}
@@ -44,7 +50,7 @@ use Rattle.chain_core.specs.declared.error.Error.TheVariants.{Merkle, Journal, D
 use Rattle.chain_core.specs.declared.error.DataFault.TheVariants.{NotACommit}
 use Rattle.keyless_db.specs.DbView.{DbView, IsHeldFor}
 use Rattle.keyless_db.specs.Errors.{from_joined}
-use Rattle.keyless_db.specs.Opening.{EndsHere, IsBuiltAt, IsHeldFrom, IsInitOf, IsOfOpening, IsSaidCommit, IsUnbegun, NotBuilt, NotInit, NotListed}
+use Rattle.keyless_db.specs.Opening.{EndsHere, IsBuiltAt, IsHeldFrom, IsInitOf, IsOfOpening, IsSaidCommit, NotBuilt, NotListed}
 use Rattle.keyless_db.proofs.ProofLemmas.{floor_at}
 use Rattle.keyless_db.proofs.SealLemmas.{leaves_are}
 use Rattle.keyless_db.proofs.SeveralLemmas.{taken_all}
@@ -166,6 +172,19 @@ logs_call one two map names a b same call =
 pub names_none : (names : Names) (s : State) → NamesCall names s s
 names_none names s = names_call_idle names s s refl (past_same s) (record { logs = λ name. refl; maps = λ name. refl })
 
+-- ---- what is left
+
+-- over a call that only reads it stays
+module _ (names : Names) (P : Image → Type 0) (a b c : State) (clock : c.clock ≡ b.clock) (past : PastStays b c) where
+  pub keeps_still : Keeps (NamesLeft names) P a b → Keeps (NamesLeft names) P a c
+  keeps_still ab = record {
+    past = past_joins a b c ab.past past;
+    during = λ t image lo hi at. ab.during t image lo (omega (arith, hi, clock)) (names_back names b c past t image (omega (arith, hi, clock)) at);
+  }
+
+  pub now_still : Now (NamesLeft names) P b → Now (NamesLeft names) P c
+  now_still has image at = has image (subst (λ (t : ℕ). NamesLeft names b t image) clock (names_back names b c past c.clock image (omega (arith, clock)) at))
+
 -- ---- what is durable
 
 -- over a call that only reads
@@ -178,7 +197,7 @@ durable_still view a b clock past contents durable image left =
 pub durable_same : {Cfg : Type 0} (old new : View Cfg) (state : State) → SameButBounds old new → IsDurable old state → IsDurable new state
 durable_same {Cfg = Cfg} old new state same durable = subst (λ (v : View Cfg). IsDurable v state) (sym same) durable
 
-capped_within : (most : Option ℕ) (end : ℕ) → capped most end ≤ end
+pub capped_within : (most : Option ℕ) (end : ℕ) → capped most end ≤ end
 capped_within None end = omega arith
 capped_within (Some n) end = omega arith
 
@@ -234,22 +253,18 @@ append_outside (joined.Journal x) d is tree log = absurd (log x refl)
 append_outside joined.Volume d is tree log = subst IsOutside (sym is) tt
 append_outside joined.Memory d is tree log = subst IsOutside (sym is) tt
 
-pub begun_refused : {F : Type 0} (D : Type 0) (s : Shape) (start end : ℕ) (e : Error F) → end ≡ 0 → IsOutside e ⊎ IsUnbegun D s e → NotBuilt D s start end e
-begun_refused D s start end e none (inl out) = inl out
-begun_refused D s start end e none (inr why) = inr (inl (none, why))
-
 -- a first commit is one, and it isn't too many
-pub first_refused : {F : Type 0} (D : Type 0) (s : Shape) (start end : ℕ) (floor : Option ℕ) (at : ℕ) (e : Error F) → floor ≡ Some at
-    → ((2 ^ 62 < 1) × (e ≡ Merkle (LocationOverflow 1))) ⊎ ((floor ≡ None) × (e ≡ DataCorrupted NotACommit)) → NotBuilt D s start end e
-first_refused D s start end floor at e is (inl high) = let lt = high.0 in absurd (omega (arith, lt))
-first_refused D s start end floor at e is (inr none) = let not = none.0 in absurd cc
+pub first_refused : {F : Type 0} (start end : ℕ) (floor : Option ℕ) (at : ℕ) (e : Error F) → floor ≡ Some at
+    → ((2 ^ 62 < 1) × (e ≡ Merkle (LocationOverflow 1))) ⊎ ((floor ≡ None) × (e ≡ DataCorrupted NotACommit)) → NotBuilt start end e
+first_refused start end floor at e is (inl high) = let lt = high.0 in absurd (omega (arith, lt))
+first_refused start end floor at e is (inr none) = let not = none.0 in absurd cc
 
-pub built_refused : {F : Type 0} (D : Type 0) (s : Shape) (start size end : ℕ) (floor : Option ℕ) (e : Error F) → size ≡ end → (floor ≡ None → ⊥)
-    → ((2 ^ 62 < size) × (e ≡ Merkle (LocationOverflow size))) ⊎ ((floor ≡ None) × (e ≡ DataCorrupted NotACommit)) → NotBuilt D s start end e
-built_refused D s start size end floor e same some (inl high) =
+pub built_refused : {F : Type 0} (start size end : ℕ) (floor : Option ℕ) (e : Error F) → size ≡ end → (floor ≡ None → ⊥)
+    → ((2 ^ 62 < size) × (e ≡ Merkle (LocationOverflow size))) ⊎ ((floor ≡ None) × (e ≡ DataCorrupted NotACommit)) → NotBuilt start end e
+built_refused start size end floor e same some (inl high) =
     let lt = high.0 in
-    inr (inr (inl (omega (arith, lt, same), high.1 ∙ ap (λ n. Merkle (LocationOverflow n)) same)))
-built_refused D s start size end floor e same some (inr none) = absurd (some none.0)
+    inr (inl (omega (arith, lt, same), high.1 ∙ ap (λ n. Merkle (LocationOverflow n)) same))
+built_refused start size end floor e same some (inr none) = absurd (some none.0)
 
 -- the item that is read before an end is a commit
 pub commit_there : {Op V : Type 0} (m : Meaning Op V) (items : Items Op) (end : ℕ) (op : Op) → ((x y : Op) → items.admits x → items.admits y → items.spelling x ≡ items.spelling y → x ≡ y)
@@ -264,26 +279,26 @@ commit_there {Op = Op} m items end op one here may some (inl at) none =
 commit_there m items end op one here may some (inr empty) none = let low = here.low in omega (arith, low, empty, some)
 
 -- a read before an end that fails
-pub read_refused : {F Op V : Type 0} (D : Type 0) (s : Shape) (m : Meaning Op V) (tells : Type 0) (told : tells) (items : Items Op) (end : ℕ) (e : JournalError) (d : Error F) → d ≡ from_journal e → end ≡ end_of items.log
-    → 0 < end → EndsHere m items end → ReadRefused tells items (end - 1) e → NotBuilt D s items.log.start end d
-read_refused D s m tells told items end journal.Volume d is reached some ends why = inl (subst IsOutside (sym is) tt)
-read_refused D s m tells told items end journal.Memory d is reached some ends why = inl (subst IsOutside (sym is) tt)
-read_refused D s m tells told items end (journal.ItemPruned q) d is reached some (inl at) why =
+pub read_refused : {F Op V : Type 0} (m : Meaning Op V) (tells : Type 0) (told : tells) (items : Items Op) (end : ℕ) (e : JournalError) (d : Error F) → d ≡ from_journal e → end ≡ end_of items.log
+    → 0 < end → EndsHere m items end → ReadRefused tells items (end - 1) e → NotBuilt items.log.start end d
+read_refused m tells told items end journal.Volume d is reached some ends why = inl (subst IsOutside (sym is) tt)
+read_refused m tells told items end journal.Memory d is reached some ends why = inl (subst IsOutside (sym is) tt)
+read_refused m tells told items end (journal.ItemPruned q) d is reached some (inl at) why =
     let y = (why.pruned q refl).1 told in
     let low = at.here.low in
     absurd (omega (arith, y, low))
-read_refused D s m tells told items end (journal.ItemPruned q) d is reached some (inr empty) why =
-    inr (inr (inr (empty, some, is ∙ ap (λ n. Journal (journal.ItemPruned n)) (why.pruned q refl).0)))
-read_refused D s m tells told items end (journal.ItemOutOfRange q) d is reached some ends why = let y = (why.past q refl).1 told in absurd (omega (arith, y, reached, some))
-read_refused D s m tells told items end (journal.Corruption q) d is reached some (inl at) why =
+read_refused m tells told items end (journal.ItemPruned q) d is reached some (inr empty) why =
+    inr (inr (empty, some, is ∙ ap (λ n. Journal (journal.ItemPruned n)) (why.pruned q refl).0))
+read_refused m tells told items end (journal.ItemOutOfRange q) d is reached some ends why = let y = (why.past q refl).1 told in absurd (omega (arith, y, reached, some))
+read_refused m tells told items end (journal.Corruption q) d is reached some (inl at) why =
     let y = (why.corrupt q refl).1 told in
     absurd (y.unspelled at.item at.allowed (same_item items.log (end - 1) y.bytes (items.spelling at.item) y.here at.here))
-read_refused D s m tells told items end (journal.Corruption q) d is reached some (inr empty) why =
+read_refused m tells told items end (journal.Corruption q) d is reached some (inr empty) why =
     let low = ((why.corrupt q refl).1 told).here.low in
     absurd (omega (arith, low, empty, some))
-read_refused D s m tells told items end journal.SizeOverflow d is reached some ends why = absurd (let bad = why.errors in cc)
-read_refused D s m tells told items end journal.EmptyAppend d is reached some ends why = absurd (let bad = why.errors in cc)
-read_refused D s m tells told items end (journal.Tree cause) d is reached some ends why = absurd (let bad = why.errors in cc)
+read_refused m tells told items end journal.SizeOverflow d is reached some ends why = absurd (let bad = why.errors in cc)
+read_refused m tells told items end journal.EmptyAppend d is reached some ends why = absurd (let bad = why.errors in cc)
+read_refused m tells told items end (journal.Tree cause) d is reached some ends why = absurd (let bad = why.errors in cc)
 
 -- what stands before an end stands there still in the log that is cut to it
 pub ends_here : {Op V : Type 0} (m : Meaning Op V) (items : Items Op) (later : Log) (cap : Option ℕ) (end : ℕ) → later ≡ cut_to items.log end → EndsAt items (IsSaidCommit m) cap end → 0 < end
@@ -310,10 +325,10 @@ pub built_some : {F D Op Cfg : Type 0} (first : Op) (end : ℕ) (db : DbView F D
 built_some first end db (inl past) = let some = past.0 in let is = past.1 in omega (arith, some, is)
 built_some first end db (inr begun) = let is = begun.1 in omega (arith, is)
 
--- a first commit's database is always built
-pub first_never : {F : Type 0} (floor : Option ℕ) (at : ℕ) (e : Error F) → floor ≡ Some at → ((2 ^ 62 < 1) × (e ≡ Merkle (LocationOverflow 1))) ⊎ ((floor ≡ None) × (e ≡ DataCorrupted NotACommit)) → IsOutside e
-first_never floor at e is (inl high) = let lt = high.0 in absurd (omega (arith, lt))
-first_never floor at e is (inr none) = let not = none.0 in absurd cc
+-- and of a journal with operations it has as many
+pub built_at : {F D Op Cfg : Type 0} (first : Op) (end : ℕ) (db : DbView F D Op Cfg) → 0 < end → IsBuiltAt first end db → db.state.size ≡ end
+built_at first end db some (inl past) = past.1
+built_at first end db some (inr begun) = absurd (let zero = begun.0 in omega (arith, some, zero))
 
 -- why there is no database of a journal that was opened of these items
 module _ {F D Op V : Type 0} (known : Type 0) (spelling : D → List ℕ) (admits : D → Type 0) (s : Shape) (map : Map) (log : Log) (items : Items Op) (m : Meaning Op V) (cap : Option ℕ) (start end : ℕ)
@@ -325,21 +340,10 @@ module _ {F D Op V : Type 0} (known : Type 0) (spelling : D → List ℕ) (admit
       let there = at.2 in
       inr (inr (at.0, at.1, omega (arith, some, there), why ∙ ap (λ n. Journal (journal.ItemPruned (n - 1))) there))
 
-  pub init_refused : (e : Error F) → NotBuilt D s start end e → NotInit known spelling admits s map log items m cap e
-  init_refused e (inl out) = inl (inl out)
-  init_refused e (inr (inl why)) = inr (subst (λ n. EndsAt items (IsSaidCommit m) cap n) why.0 found, why.1)
-  init_refused e (inr (inr (inl high))) = inl (inr (inl (joined.Merkle (LocationOverflow end), high.1, inl (inr (end, found, inl (high.0, refl))))))
-  init_refused e (inr (inr (inr empty))) = inl (empty_refused e empty.0 empty.1 empty.2 found)
-
-  init_listed : (e : Error F) → (end ≡ 0 → IsOutside e) → NotBuilt D s start end e → NotListed known spelling admits s map log items m cap e
-  init_listed e begun (inl out) = inl out
-  init_listed e begun (inr (inl why)) = inl (begun why.0)
-  init_listed e begun (inr (inr (inl high))) = inr (inl (joined.Merkle (LocationOverflow end), high.1, inl (inr (end, found, inl (high.0, refl)))))
-  init_listed e begun (inr (inr (inr empty))) = empty_refused e empty.0 empty.1 empty.2 found
-
-  pub listed_refused : {T : Type 0} (r : Result T (Error F)) → (end ≡ 0 → IfErr r IsOutside) → IfErr r (NotBuilt D s start end) → IfErr r (NotListed known spelling admits s map log items m cap)
-  listed_refused (Ok x) begun why = tt
-  listed_refused (Err e) begun why = init_listed e begun why
+  pub init_refused : (e : Error F) → NotBuilt start end e → NotListed known spelling admits s map log items m cap e
+  init_refused e (inl out) = inl out
+  init_refused e (inr (inl high)) = inr (inl (joined.Merkle (LocationOverflow end), high.1, inl (inr (end, found, inl (high.0, refl)))))
+  init_refused e (inr (inr empty)) = empty_refused e empty.0 empty.1 empty.2 found
 
 -- ---- errors, whatever the volume tells
 
@@ -347,12 +351,29 @@ pub built_errors : {F : Type 0} (size : ℕ) (floor : Option ℕ) (e : Error F) 
 built_errors size floor e (inl high) = inr (joined.Merkle (LocationOverflow size), high.1, tt)
 built_errors size floor e (inr none) = inl none.1
 
+-- what an append of one item fails by is wrapped well
+pub append_lifted : {F T : Type 0} (full : Type 0) (e : joined_error.Error F) → ((x : tree_error.Error F) → IsErrOf {T = T} (Err e) (joined.Merkle x) → full)
+    → (full → ((let r : Result T (joined_error.Error F) = Err e in r) ≡ Err joined.Memory) ⊎ ((let r : Result T (joined_error.Error F) = Err e in r) ≡ Err (joined.Merkle (LocationOverflow (2 ^ 62 + 1)))))
+    → ((x : JournalError) → IsErrOf {T = T} (Err e) (joined.Journal x) → x ≡ journal.SizeOverflow) → IsLifted e
+append_lifted {F = F} {T = T} full (joined.Merkle x) tree is log = by (is (tree x refl))
+  where
+    by : ((let r : Result T (joined_error.Error F) = Err (joined.Merkle x) in r) ≡ Err joined.Memory) ⊎ ((let r : Result T (joined_error.Error F) = Err (joined.Merkle x) in r) ≡ Err (joined.Merkle (LocationOverflow (2 ^ 62 + 1)))) → IsLifted (joined.Merkle x)
+    by (inl a) = absurd cc
+    by (inr b) = let same : x ≡ LocationOverflow (2 ^ 62 + 1) = cc in subst (λ (d : tree_error.Error F). IsLifted (joined.Merkle d)) (sym same) tt
+append_lifted {F = F} full (joined.Journal x) tree is log = subst (λ (d : JournalError). IsLifted {F = F} (joined.Journal d)) (sym (log x refl)) refl
+append_lifted full joined.Volume tree is log = tt
+append_lifted full joined.Memory tree is log = tt
+
+-- and so is what a flush fails by
+pub flush_wraps : {F D : Type 0} (s : Shape) (t : Full D) (e : joined_error.Error F) → IsFromTree (IsOfFlush s t) e → IsLifted e
+flush_wraps s t e why = subst IsLifted (sym why.1) (flush_lifted s t why.0 why.2)
+
 pub read_errors : {F : Type 0} (d : JournalError) (e : Error F) → e ≡ from_journal d → IsOfOpening e
 read_errors journal.Volume e is = inr (joined.Volume, is, tt)
 read_errors journal.Memory e is = inr (joined.Memory, is, tt)
-read_errors (journal.ItemPruned p) e is = inr (joined.Journal (journal.ItemPruned p), is, tt)
-read_errors (journal.ItemOutOfRange p) e is = inr (joined.Journal (journal.ItemOutOfRange p), is, tt)
-read_errors (journal.Corruption p) e is = inr (joined.Journal (journal.Corruption p), is, tt)
-read_errors journal.SizeOverflow e is = inr (joined.Journal journal.SizeOverflow, is, tt)
-read_errors journal.EmptyAppend e is = inr (joined.Journal journal.EmptyAppend, is, tt)
-read_errors (journal.Tree cause) e is = inr (joined.Journal (journal.Tree cause), is, tt)
+read_errors (journal.ItemPruned p) e is = inr (joined.Journal (journal.ItemPruned p), is, refl)
+read_errors (journal.ItemOutOfRange p) e is = inr (joined.Journal (journal.ItemOutOfRange p), is, refl)
+read_errors (journal.Corruption p) e is = inr (joined.Journal (journal.Corruption p), is, refl)
+read_errors journal.SizeOverflow e is = inr (joined.Journal journal.SizeOverflow, is, refl)
+read_errors journal.EmptyAppend e is = inr (joined.Journal journal.EmptyAppend, is, refl)
+read_errors (journal.Tree cause) e is = inr (joined.Journal (journal.Tree cause), is, refl)

@@ -1,20 +1,20 @@
 -- At which state a database is opened.
-use Rattle.std.specs.Prelude.{◌≡◌, ◌⊎◌, ℕ, ◌-◌, ◌^◌, ◌<◌, ◌≤◌, Bool, true, List, [], ◌∷◌, take, Option, Some, None, is_some}
+use Rattle.std.specs.Prelude.{◌≡◌, ◌⊎◌, ℕ, ◌-◌, ◌^◌, ◌<◌, ◌≤◌, Bool, true, List, [], ◌∷◌, take, Option, Some, None, is_some, Result}
 use Rattle.volume_base.specs.Log.{Log, end_of, appended}
-use Rattle.volume_base.specs.Moments.{Image}
-use Rattle.volume_base.specs.Volume.{Map}
+use Rattle.volume_base.specs.Moments.{Image, NamesLeft, Now, Steps}
+use Rattle.volume_base.specs.Names.{two_logs_and_map}
+use Rattle.volume_base.specs.Volume.{Map, State}
 use Rattle.volume_base.specs.declared.error.JournalError.TheVariants.{ItemPruned}
 use Rattle.journal_base.specs.Items.{Items}
 use Rattle.journal_base.specs.Matches.{IsAnswered}
 use Rattle.tree_shape.specs.Hashing.{Hashing}
 use Rattle.tree_shape.specs.Shape.{Shape}
 use Rattle.tree_store.specs.declared.error.Error.TheVariants.{LocationOverflow}
-use Rattle.merkle_full.specs.Flushing.{IsOfFlush}
-use Rattle.merkle_full.specs.Full.{Full}
-use Rattle.auth_journal.specs.Durable.{IsFromTree}
+use Rattle.auth_journal.specs.Errors.{IsLifted}
 use Rattle.auth_journal.specs.Joined.{Joined, IsJoinedOf}
 use Rattle.auth_journal.specs.Opening.{NotOpened}
 use Rattle.auth_journal.specs.Searching.{EndsAt}
+use Rattle.auth_journal.specs.Standing.{Marks, NamesStand, all_synced}
 use Rattle.log_model.specs.Meaning.{Meaning}
 use Rattle.chain_core.specs.Answers.{IsOutside}
 use Rattle.chain_core.specs.declared.error.Error.{Error}
@@ -31,36 +31,44 @@ IsSaidCommit m op is = is ≡ is_some (m.floor op)
 abbrev pub EndsHere : {Op V : Type 0} → Meaning Op V → Items Op → ℕ → Type 0
 EndsHere m items end = IsAnswered items (IsSaidCommit m) (end - 1) true ⊎ (items.log.start ≡ end)
 
--- A first commit's node isn't put into the node log: the flush of a tree of one leaf says why.
-abbrev pub IsUnbegun : {F : Type 0} → Type 0 → Shape → Error F → Type 0
-IsUnbegun {F} D s e = (t : Full D) × (t.tree.leaves ≡ 1) × IsFromJoined (IsFromTree (IsOfFlush s t)) e
-
--- Why there is no database of a journal that was opened between these bounds: by the outside; or it has no operation, and
--- the first commit's node isn't put into the node log; or it has too many; or the log is empty past 0.
-abbrev pub NotBuilt : {F : Type 0} → Type 0 → Shape → ℕ → ℕ → Error F → Type 0
-NotBuilt D s start end e =
+-- Why there is no database of a journal that was opened between these bounds: by the outside; or it has too many
+-- operations; or the log is empty past 0.
+abbrev pub NotBuilt : {F : Type 0} → ℕ → ℕ → Error F → Type 0
+NotBuilt start end e =
     IsOutside e
-    ⊎ (((end ≡ 0) × IsUnbegun D s e)
     ⊎ (((2 ^ 62 < end) × (e ≡ Merkle (LocationOverflow end)))
-    ⊎ ((start ≡ end) × (0 < end) × (e ≡ Journal (ItemPruned (end - 1))))))
+    ⊎ ((start ≡ end) × (0 < end) × (e ≡ Journal (ItemPruned (end - 1)))))
 
--- An error of an opening, whatever the volume holds: one of the journal's, or that the last operation is no commit.
+-- An error of an opening, whatever the volume holds: one of the journal's, which wraps neither want of memory nor a failure
+-- of the volume; or that the last operation is no commit.
 abbrev pub IsOfOpening : {F : Type 0} → Error F → Type 0
-IsOfOpening e = (e ≡ DataCorrupted NotACommit) ⊎ IsFromJoined (λ d. Unit {0}) e
+IsOfOpening e = (e ≡ DataCorrupted NotACommit) ⊎ IsFromJoined IsLifted e
 
--- Why no database is opened of these contents under a cap, or none, where the first commit can be put: by the outside; or
--- as the journal; or, without a cap, an empty log stands past 0.
+-- Why no database is opened of these contents under a cap, or none: by the outside; or as the journal; or, without a cap,
+-- an empty log stands past 0.
 abbrev pub NotListed : {F D Op V : Type 0} → Type 0 → (D → List ℕ) → (D → Type 0) → Shape → Map → Log → Items Op → Meaning Op V → Option ℕ → Error F → Type 0
 NotListed tells spelling admits s m log items meaning cap e =
     IsOutside e
     ⊎ (IsFromJoined (NotOpened tells spelling admits s m log items (IsSaidCommit meaning) cap) e
     ⊎ ((cap ≡ None) × (items.log.start ≡ end_of items.log) × (0 < end_of items.log) × (e ≡ Journal (ItemPruned (end_of items.log - 1)))))
 
--- Why none is opened of any contents: likewise; or the log begins at 0 without a commit, and the first commit's node isn't
--- put into the node log.
-abbrev pub NotInit : {F D Op V : Type 0} → Type 0 → (D → List ℕ) → (D → Type 0) → Shape → Map → Log → Items Op → Meaning Op V → Option ℕ → Error F → Type 0
-NotInit {D = D} tells spelling admits s m log items meaning cap e =
-    NotListed tells spelling admits s m log items meaning cap e ⊎ (EndsAt items (IsSaidCommit meaning) cap 0 × IsUnbegun D s e)
+-- Under a cap, or none, a log has an end at which it is opened, and isn't empty past 0. So many leaves' nodes are durable:
+-- those before its start at least, and none past that end.
+pub record HasOpening {Op V : Type 0} (m : Meaning Op V) (items : Items Op) (cap : Option ℕ) (durable : ℕ) : Type 0 where
+  pub end : ℕ
+  pub ends : EndsAt items (IsSaidCommit m) cap end
+  pub some : (items.log.start < end) ⊎ (end ≡ 0)
+  pub low : items.log.start ≤ durable
+  pub reached : durable ≤ end
+
+-- At each end at which a log is opened under a cap, or none, it keeps all that is durable.
+abbrev pub KeepsDurable : {Op V : Type 0} → Meaning Op V → Items Op → Option ℕ → Marks → Type 0
+KeepsDurable m items cap marks =
+    (end : ℕ) → EndsAt items (IsSaidCommit m) cap end → (marks.durable ≤ end) × (marks.node_durable ≤ end)
+
+-- It is opened past 0 alone.
+abbrev pub EndsPast : {Op V : Type 0} → Meaning Op V → Items Op → Option ℕ → Type 0
+EndsPast m items cap = (end : ℕ) → EndsAt items (IsSaidCommit m) cap end → 0 < end
 
 -- The first commit of a log: its floor is 0, and it has no metadata.
 pub record IsFirstCommit {Op V : Type 0} (m : Meaning Op V) (op : Op) : Type 0 where
@@ -95,3 +103,11 @@ module _ {F D Op V Cfg : Type 0} (s : Shape) (h : Hashing D) (m : Meaning Op V) 
   IsInitOf items cap list db image =
       (EndsAt items (IsSaidCommit m) cap db.state.size × IsHeldFor s h m digest admits spelling (take db.state.size list) db image)
       ⊎ (EndsAt items (IsSaidCommit m) cap 0 × IsFirstCommit m db.commit × IsHeldFor s h m digest admits spelling (db.commit ∷ []) db image)
+
+-- Where whatever a crash leaves of two logs and a map stands for no operation, a call takes it to this commit alone: it
+-- stands for that at each moment, and from a turn on that is durable.
+abbrev pub BeginsStanding : {T E D Op : Type 0} → Shape → Hashing D → (D → List ℕ) → (Op → List ℕ) → Op → Marks → List ℕ → List ℕ → List ℕ → State → State → Result T E → Type 0
+BeginsStanding s h digest spelling first marks items nodes metadata old new result =
+    Now (NamesLeft (two_logs_and_map items nodes metadata)) (NamesStand s h digest spelling [] marks items nodes metadata) old →
+    Steps (NamesLeft (two_logs_and_map items nodes metadata)) (NamesStand s h digest spelling (first ∷ []) marks items nodes metadata)
+    (NamesStand s h digest spelling (first ∷ []) (all_synced 1 marks) items nodes metadata) old new result

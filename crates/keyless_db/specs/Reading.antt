@@ -92,6 +92,18 @@ pub record IsReadFault {F Item : Type 0} (tells : Type 0) (items : Items Item) (
   pub out_of_range : (p : ℕ) → cause ≡ ItemOutOfRange p → (p ≡ position) × (tells → end_of items.log ≤ position)
   pub corrupt : (p : ℕ) → cause ≡ Corruption p → (p ≡ position) × (tells → IsCorrupt items position)
 
+-- An operation stands at this position, which is allowed.
+abbrev pub IsAllowedAt : {Op : Type 0} → Items Op → ℕ → Type 0
+IsAllowedAt {Op} items position = (op : Op) × Holds items position op × items.admits op
+
+-- It is the error of a read at one of these places, and the reads at all places before went well.
+pub record IsFirstFault {F : Type 0} (well : ℕ → Type 0) (fault : ℕ → Error F → Type 0) (ls : List ℕ) (e : Error F) : Type 0 where
+  pub place : ℕ
+  pub location : ℕ
+  pub here : slice_get ls place ≡ Some location
+  pub earlier : (i l : ℕ) → i < place → slice_get ls i ≡ Some l → well l
+  pub fails : fault location e
+
 -- An operation stands at this position, which is allowed, and it is no commit.
 pub record IsNoCommitAt {Op V : Type 0} (m : Meaning Op V) (items : Items Op) (position : ℕ) : Type 0 where
   pub op : Op
@@ -153,6 +165,10 @@ IsReadable {Op = Op} admits ops kept l = kept ≡ None → (op : Op) → slice_g
 abbrev pub IsChainFault : {F Op : Type 0} → Type 0 → Items Op → ℕ → Option Op → ℕ → Error F → Type 0
 IsChainFault tells items size kept l e =
     ((kept ≡ None) × (size ≤ l) × (e ≡ Journal (ItemPruned l))) ⊎ IsReadFault tells items l e
+
+-- Where the chain keeps no operation at a location, a database of so many has one there that is allowed.
+abbrev pub IsAllowedBelow : {Op : Type 0} → Type 0 → Items Op → ℕ → Option Op → ℕ → Type 0
+IsAllowedBelow tells items size kept l = kept ≡ None → (l < size) × (tells → IsAllowedAt items l)
 
 -- Which operations of a batch's list are kept: those from here on by its chain, and those within these bounds by a
 -- database.

@@ -22,7 +22,7 @@ fn last_of<O: KeylessOperation>(own: &[O], before: O) -> Result<O, CodecError>
 }
 
 impl<F: Family, O: KeylessOperation, C: Backing<Item = O>, H: Hasher> Keyless<F, O, C, H> {
-    ghost use Rattle.std.specs.Prelude.{◌<◌, ◌-◌, ◌∷◌, ◌+◌, ◌^◌, ◌++◌, ℕ, Some, List, IfErr, OnOk, IsErrOf, Contains};
+    ghost use Rattle.std.specs.Prelude.{◌<◌, ◌-◌, ◌∷◌, ◌+◌, ◌^◌, ◌++◌, ℕ, Some, List, length, IfErr, OnOk, IsErrOf, Contains};
     ghost use Rattle.journal_base.specs.View.{log_of};
     ghost use Rattle.volume_base.specs.Log.{end_of};
     ghost use Rattle.volume_base.specs.Moments.{Image, present};
@@ -67,6 +67,9 @@ impl<F: Family, O: KeylessOperation, C: Backing<Item = O>, H: Hasher> Keyless<F,
         ensures full { IsErrOf result (Error.Journal SizeOverflow) → ((V.state vol.new).clock ≡ (V.state vol.old).clock)
             × (V.tells →
             2 ^ 64 - 1 < end_of (log_of self.journal.items (V.state vol.old)) + batch.now.tree.nodes.leaves) }
+        ensures beyond { let lacking = unapplied batch.now.tree self.journal.tree.tree.leaves in
+            IsErrOf result (Error.Journal SizeOverflow) → V.tells →
+            2 ^ 64 - 1 < end_of (log_of self.journal.items (V.state vol.old)) + length lacking }
         ensures errors { IfErr result IsOfApply }
         ensures images { let admits = H.Digest.Read.admits tt in V.tells → (ops : List O) (marks : Marks) →
             IsHeldFor F.shape H.hash O.meaning H.Digest.spelling admits O.spelling ops self
@@ -137,6 +140,10 @@ impl<F: Family, O: KeylessOperation, C: Backing<Item = O>, H: Hasher> Keyless<F,
         ensures full { IsErrOf result (Error.Journal SizeOverflow) → ((V.state vol.new).clock ≡ (V.state vol.old).clock)
             × ((b : MerkleizedView F H.Digest O) → item_at pool.now id ≡ Some b → V.tells →
             2 ^ 64 - 1 < end_of (log_of self.journal.items (V.state vol.old)) + b.tree.nodes.leaves) }
+        // So much is what the log lacks of the batch; where that has no room, the apply isn't done.
+        ensures beyond { IsErrOf result (Error.Journal SizeOverflow) → (b : MerkleizedView F H.Digest O) →
+            item_at pool.now id ≡ Some b → V.tells → let lacking = unapplied b.tree self.journal.tree.tree.leaves in
+            2 ^ 64 - 1 < end_of (log_of self.journal.items (V.state vol.old)) + length lacking }
         // Of a batch of a list that begins with the database's there is room in the log.
         ensures room { let admits = H.Digest.Read.admits tt in IsErrOf result (Error.Journal SizeOverflow) →
             V.tells → (b : MerkleizedView F H.Digest O) → item_at pool.now id ≡ Some b → (ops more : List O) →

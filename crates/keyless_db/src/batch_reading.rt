@@ -26,7 +26,7 @@ impl<F: Family, H: Hasher, O: KeylessOperation> UnmerkleizedBatch<F, H, O> {
     ghost use Rattle.keyless_db.specs.Batches.{MerkleizedView, IsUnmerkleizedOf};
     ghost use Rattle.keyless_db.specs.DbView.{IsHeldFor, floor_in};
     ghost use Rattle.keyless_db.specs.Reading.{AnswersAs, AreKeptValues, AreReadBelow, IsReadable, IsReadBelow};
-    ghost use Rattle.keyless_db.specs.Reading.{IsChainFault, pending_item};
+    ghost use Rattle.keyless_db.specs.Reading.{IsAllowedBelow, IsChainFault, IsFirstFault, pending_item};
     ghost use Rattle.keyless_db.specs.Reading.{batch_answer, batch_many_answer, chain_start, first_refused};
     ghost use Rattle.keyless_db.specs.Reading.{floored_refusal, kept_over, kept_value, location_refusal};
     ghost use Rattle.keyless_db.specs.Reading.{locations_refusal, lost, read_floor, read_states};
@@ -211,6 +211,10 @@ impl<F: Family, H: Hasher, O: KeylessOperation> UnmerkleizedBatch<F, H, O> {
         ensures fault { let items = items_of O.spelling O.admits db.now.journal.items (V.state vol.old) in
             IfErr result (λ e. (l : ℕ) × Contains locs.now l
             × IsChainFault V.tells items db.now.state.size (pending_item pool.now self.now l) l e) }
+        ensures first { let items = items_of O.spelling O.admits db.now.journal.items (V.state vol.old) in
+            IfErr result (IsFirstFault
+            (λ l. IsAllowedBelow V.tells items db.now.state.size (pending_item pool.now self.now l) l)
+            (λ l. IsChainFault V.tells items db.now.state.size (pending_item pool.now self.now l) l) locs.now) }
         ensures reads { Reads V.tells Error.Volume (V.state vol.old) (V.state vol.new) result }
     {
         let mut values = Vec::new(db.alloc);
@@ -276,6 +280,14 @@ impl<F: Family, H: Hasher, O: KeylessOperation> UnmerkleizedBatch<F, H, O> {
             (read_floor pool.now self.now (floor_in O.meaning db.now)) locs.now ≡ None →
             IfErr result (λ e. (l : ℕ) × Contains locs.now l
             × IsChainFault V.tells items db.now.state.size (pending_item pool.now self.now l) l e) }
+        // It is that of the first that can't be read.
+        ensures first { let items = items_of O.spelling O.admits db.now.journal.items (V.state vol.old) in
+            Contains (read_states pool.now self.now) db.now.state →
+            floored_refusal (self.now.base.size + length self.now.tree.items)
+            (read_floor pool.now self.now (floor_in O.meaning db.now)) locs.now ≡ None →
+            IfErr result (IsFirstFault
+            (λ l. IsAllowedBelow V.tells items db.now.state.size (pending_item pool.now self.now l) l)
+            (λ l. IsChainFault V.tells items db.now.state.size (pending_item pool.now self.now l) l) locs.now) }
         ensures reads { Reads V.tells Error.Volume (V.state vol.old) (V.state vol.new) result }
     {
         let floor = match self.readable(pool, db) {

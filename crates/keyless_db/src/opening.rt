@@ -47,18 +47,18 @@ impl<F: Family, O: KeylessOperation, C: Backing<Item = O>, H: Hasher> Keyless<F,
     ghost use Rattle.volume_base.specs.Log.{end_of, appended, cut_to};
     ghost use Rattle.volume_base.specs.Moments.{Image, present};
     ghost use Rattle.volume_base.specs.Names.{two_logs_and_map, NamesCall};
-    ghost use Rattle.volume_base.specs.Volume.{Changes};
-    ghost use Rattle.merkle_full.specs.Full.{Full, Rests};
+    ghost use Rattle.volume_base.specs.Volume.{Changes, PastStays};
+    ghost use Rattle.merkle_full.specs.Full.{IsSeated, Rests};
     ghost use Rattle.auth_journal.specs.Joined.{IsJoinedOf, leaves_of};
     ghost use Rattle.auth_journal.specs.Searching.{EndsAt};
-    ghost use Rattle.auth_journal.specs.Standing.{names_of};
+    ghost use Rattle.auth_journal.specs.Standing.{Marks, NamesKeepStanding, NamesSettle, names_of};
     ghost use Rattle.auth_journal.specs.Opening.{NotOpened};
     ghost use Rattle.chain_core.specs.Answers.{IsOutside};
     ghost use Rattle.chain_core.specs.declared.error.Error.{Error};
     ghost use Rattle.chain_core.specs.declared.error.DataFault.TheVariants.{NotACommit};
     ghost use Rattle.keyless_db.specs.DbView.{IsHeldFor};
     ghost use Rattle.keyless_db.specs.Errors.{IsFromJoined};
-    ghost use Rattle.keyless_db.specs.Opening.{EndsHere, GoesOn, IsBuiltAt, IsHeldFrom, IsInitOf, IsOfOpening, IsOpenedOf, IsSaidCommit, IsUnbegun, NotBuilt, NotInit, NotListed};
+    ghost use Rattle.keyless_db.specs.Opening.{BeginsStanding, EndsHere, EndsPast, GoesOn, HasOpening, IsBuiltAt, KeepsDurable, IsHeldFrom, IsInitOf, IsOfOpening, IsOpenedOf, IsSaidCommit, NotBuilt, NotListed};
 
     /// The log and the tree up to the last commit at or below a size, or up to the last of all.
     fn open_journal<V: Volume>(
@@ -91,6 +91,7 @@ impl<F: Family, O: KeylessOperation, C: Backing<Item = O>, H: Hasher> Keyless<F,
         ensures durable { IfOk result (λ t. V.tells →
             IsDurable t.items (V.state vol.new) × IsDurable t.tree.log (V.state vol.new)) }
         ensures rests { IfOk result (λ t. Rests F.shape t.tree) }
+        ensures seated { IfOk result (λ t. V.tells → IsSeated F.shape t.tree (present (V.state vol.new))) }
         ensures start { let log = log_of (C.config cfg.log) (V.state vol.old) in IfOk result (λ t. V.tells →
             (t.items.start ≡ log.start) × IsHeld t.items (V.state vol.new)) }
         ensures cut { let view = C.config cfg.log in IfOk result (λ t. V.tells →
@@ -101,6 +102,19 @@ impl<F: Family, O: KeylessOperation, C: Backing<Item = O>, H: Hasher> Keyless<F,
             (old.log (string_bytes cfg.merkle.nodes)) items (IsSaidCommit O.meaning) max_size)) }
         ensures other { IfErr result (λ e. e ≢ Error.InvalidInitializationBound) }
         ensures errors { IfErr result IsOfOpening }
+        ensures images { let old = V.state vol.old in let view = C.config cfg.log in
+            let items = items_of O.spelling O.admits view old in V.tells → (list : List O) (marks : Marks) →
+            KeepsDurable O.meaning items max_size marks → Spells O.spelling list (log_of view old) →
+            length list ≤ 2 ^ 62 →
+            NamesKeepStanding F.shape H.hash H.Digest.spelling O.spelling list marks view.name
+            (string_bytes cfg.merkle.nodes) (string_bytes cfg.merkle.metadata) old (V.state vol.new) }
+        ensures settled { let old = V.state vol.old in let view = C.config cfg.log in
+            let items = items_of O.spelling O.admits view old in
+            IfOk result (λ t. V.tells → (list : List O) (marks : Marks) →
+            KeepsDurable O.meaning items max_size marks → Spells O.spelling list (log_of view old) →
+            length list ≤ 2 ^ 62 →
+            NamesSettle F.shape H.hash H.Digest.spelling O.spelling list t.items.end marks view.name
+            (string_bytes cfg.merkle.nodes) (string_bytes cfg.merkle.metadata) old (V.state vol.new)) }
         ensures changes { Changes V.tells Error.Volume (V.state vol.old) (V.state vol.new) result }
     {
         let Config {
@@ -160,11 +174,12 @@ impl<F: Family, O: KeylessOperation, C: Backing<Item = O>, H: Hasher> Keyless<F,
         ensures start { IfOk result (λ t. V.tells → IsHeld journal.items (V.state vol.old) →
             (t.items.start ≡ journal.items.start) × IsHeld t.items (V.state vol.new)) }
         ensures refused { V.tells → IsHeld journal.items (V.state vol.old) → journal.items.end ≡ 0 →
-            journal.tree.tree.leaves ≡ 0 →
-            IfErr result (λ e. IsOutside e ⊎ IsUnbegun H.Digest F.shape e) }
-        ensures outside { let admits = H.Digest.Read.admits tt in V.tells →
-            IsJoinedOf F.shape H.hash H.Digest.spelling admits O.spelling [] journal (present (V.state vol.old)) →
+            journal.tree.tree.leaves ≡ 0 → IsSeated F.shape journal.tree (present (V.state vol.old)) →
             IfErr result IsOutside }
+        ensures images { let admits = H.Digest.Read.admits tt in V.tells → (marks : Marks) →
+            IsJoinedOf F.shape H.hash H.Digest.spelling admits O.spelling [] journal (present (V.state vol.old)) →
+            BeginsStanding F.shape H.hash H.Digest.spelling O.spelling commit.now marks journal.items.name
+            journal.tree.log.name journal.tree.metadata (V.state vol.old) (V.state vol.new) result }
         ensures other { IfErr result (λ e. e ≢ Error.InvalidInitializationBound) }
         ensures errors { IfErr result IsOfOpening }
         ensures changes { Changes V.tells Error.Volume (V.state vol.old) (V.state vol.new) result }
@@ -250,12 +265,17 @@ impl<F: Family, O: KeylessOperation, C: Backing<Item = O>, H: Hasher> Keyless<F,
         ensures past { IfOk result (λ d. V.tells → IsHeld journal.items (V.state vol.old) → 0 < journal.items.end →
             journal.items.start < journal.items.end) }
         ensures refused { let items = items_of O.spelling O.admits journal.items (V.state vol.old) in V.tells →
-            IsHeld journal.items (V.state vol.old) → (0 < journal.items.end →
-            EndsHere O.meaning items journal.items.end) →
-            IfErr result (NotBuilt H.Digest F.shape items.log.start journal.items.end) }
-        ensures outside { let admits = H.Digest.Read.admits tt in V.tells → (list : List O) →
-            IsOpenedOf F.shape H.hash H.Digest.spelling admits O.spelling list journal (present (V.state vol.old)) →
-            journal.items.end ≡ 0 → IfErr result IsOutside }
+            IsHeld journal.items (V.state vol.old) → IsSeated F.shape journal.tree (present (V.state vol.old)) →
+            (0 < journal.items.end → EndsHere O.meaning items journal.items.end) →
+            IfErr result (NotBuilt items.log.start journal.items.end) }
+        ensures begins { let admits = H.Digest.Read.admits tt in V.tells → (marks : Marks) →
+            journal.items.end ≡ 0 →
+            IsJoinedOf F.shape H.hash H.Digest.spelling admits O.spelling [] journal (present (V.state vol.old)) →
+            BeginsStanding F.shape H.hash H.Digest.spelling O.spelling (O.committed None 0) marks journal.items.name
+            journal.tree.log.name journal.tree.metadata (V.state vol.old) (V.state vol.new) result }
+        // Of a log with operations the last is read, and no more.
+        ensures still { V.tells → 0 < journal.items.end → ((V.state vol.new).clock ≡ (V.state vol.old).clock)
+            × PastStays (V.state vol.old) (V.state vol.new) }
         ensures log { IfOk result (λ d. V.tells → GoesOn (O.spelling (O.committed None 0)) journal.items.end
             (log_of journal.items (V.state vol.old)) (log_of journal.items (V.state vol.new))) }
         ensures other { IfErr result (λ e. e ≢ Error.InvalidInitializationBound) }
@@ -291,16 +311,14 @@ impl<F: Family, O: KeylessOperation, C: Backing<Item = O>, H: Hasher> Keyless<F,
         ensures bound { max_size ≡ Some 0 → (result ≡ Err Error.InvalidInitializationBound) × (vol.new ≡ vol.old) }
         // So it is refused only then.
         ensures bound_only { IsErrOf result Error.InvalidInitializationBound → max_size ≡ Some 0 }
-        // Else it is refused by the outside, as the journal's opening, or as an empty log past 0; or, where it begins,
-        // since the first commit's node isn't put into the node log.
+        // Else it is refused by the outside, as the journal's opening, or as an empty log past 0.
         ensures refused { let old = V.state vol.old in let map = old.map (string_bytes cfg.merkle.metadata) in
             let items = items_of O.spelling O.admits (C.config cfg.log) old in V.tells → max_size ≢ Some 0 →
-            IfErr result (NotInit V.tells H.Digest.spelling (H.Digest.Read.admits tt) F.shape map
+            IfErr result (NotListed V.tells H.Digest.spelling (H.Digest.Read.admits tt) F.shape map
             (old.log (string_bytes cfg.merkle.nodes)) items O.meaning max_size) }
         // So it is whatever the volume tells.
         ensures errors { max_size ≢ Some 0 → IfErr result IsOfOpening }
-        // Where the log stands for a list, and the tree with perhaps more operations behind it, the first commit is
-        // put, but for the outside.
+        // So it is where the log stands for a list, and the tree with perhaps more operations behind it.
         ensures listed { let old = V.state vol.old in let view = C.config cfg.log in
             let nodes = old.log (string_bytes cfg.merkle.nodes) in let map = old.map
             (string_bytes cfg.merkle.metadata) in
@@ -310,6 +328,17 @@ impl<F: Family, O: KeylessOperation, C: Backing<Item = O>, H: Hasher> Keyless<F,
             (leaves_of F.shape H.hash O.spelling (list ++ rest)) durable (log_of view old).start nodes map →
             IfErr result (NotListed V.tells H.Digest.spelling (H.Digest.Read.admits tt) F.shape map nodes
             (items_of O.spelling O.admits view old) O.meaning max_size) }
+        // Where the list may be such, and can be opened under the bound, it is refused by the outside alone.
+        ensures outside { let old = V.state vol.old in let view = C.config cfg.log in
+            let nodes = old.log (string_bytes cfg.merkle.nodes) in let map = old.map
+            (string_bytes cfg.merkle.metadata) in
+            V.tells → max_size ≢ Some 0 → (list rest : List O) (durable : ℕ) →
+            Spells O.spelling list (log_of view old) →
+            length (list ++ rest) ≤ 2 ^ 62 → TreeStands F.shape H.hash H.Digest.spelling
+            (leaves_of F.shape H.hash O.spelling (list ++ rest)) durable (log_of view old).start nodes map →
+            AllByRecursion (O.admits view.codec) list →
+            HasOpening O.meaning (items_of O.spelling O.admits view old) max_size durable →
+            IfErr result IsOutside }
         ensures named { IfOk result
             (λ d. SameButBounds (C.config cfg.log) d.journal.items × (d.journal.failed ≡ false)) }
         // It is at an end of the log's operations; and where that is 0, it has the first commit alone. The log is cut
@@ -349,6 +378,29 @@ impl<F: Family, O: KeylessOperation, C: Backing<Item = O>, H: Hasher> Keyless<F,
         // An empty log past 0 isn't opened.
         ensures past { let log = log_of (C.config cfg.log) (V.state vol.old) in
             IfOk result (λ d. V.tells → log.start ≡ end_of log → log.start ≡ 0) }
+        // Where the log has no operation, and begins at 0, each image goes on standing for the first commit alone, and
+        // from a turn on that is durable.
+        ensures begins { let old = V.state vol.old in let view = C.config cfg.log in
+            let items = items_of O.spelling O.admits view old in V.tells → (marks : Marks) → max_size ≢ Some 0 →
+            KeepsDurable O.meaning items max_size marks → Spells O.spelling [] (log_of view old) →
+            BeginsStanding F.shape H.hash H.Digest.spelling O.spelling (O.committed None 0) marks view.name
+            (string_bytes cfg.merkle.nodes) (string_bytes cfg.merkle.metadata) old (V.state vol.new) result }
+        // Where it is opened past 0, and keeps all that is durable, each image of both logs and the map goes on
+        // standing for the list, whatever is answered. What is then left stands for the list up to the commit, and
+        // all of that is durable.
+        ensures images { let old = V.state vol.old in let view = C.config cfg.log in
+            let items = items_of O.spelling O.admits view old in V.tells → (list : List O) (marks : Marks) →
+            EndsPast O.meaning items max_size → KeepsDurable O.meaning items max_size marks →
+            Spells O.spelling list (log_of view old) → length list ≤ 2 ^ 62 →
+            NamesKeepStanding F.shape H.hash H.Digest.spelling O.spelling list marks view.name
+            (string_bytes cfg.merkle.nodes) (string_bytes cfg.merkle.metadata) old (V.state vol.new) }
+        ensures settled { let old = V.state vol.old in let view = C.config cfg.log in
+            let items = items_of O.spelling O.admits view old in
+            IfOk result (λ d. V.tells → (list : List O) (marks : Marks) →
+            EndsPast O.meaning items max_size → KeepsDurable O.meaning items max_size marks →
+            Spells O.spelling list (log_of view old) → length list ≤ 2 ^ 62 →
+            NamesSettle F.shape H.hash H.Digest.spelling O.spelling list d.state.size marks view.name
+            (string_bytes cfg.merkle.nodes) (string_bytes cfg.merkle.metadata) old (V.state vol.new)) }
         ensures changes { Changes V.tells Error.Volume (V.state vol.old) (V.state vol.new) result }
     {
         match check_bound(&max_size) {

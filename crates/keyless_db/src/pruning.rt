@@ -16,7 +16,7 @@ impl<F: Family, O: KeylessOperation, C: Backing<Item = O>, H: Hasher> Keyless<F,
     ghost use Rattle.volume_base.specs.Log.{no_log, pruned_to};
     ghost use Rattle.volume_base.specs.Moments.{present};
     ghost use Rattle.volume_base.specs.Names.{NamesCall};
-    ghost use Rattle.volume_base.specs.Volume.{OnlyLeft, Changes, Writes};
+    ghost use Rattle.volume_base.specs.Volume.{MapStays, OnlyLeft, Changes, Writes};
     ghost use Rattle.tree_shape.specs.Shape.{made};
     ghost use Rattle.merkle_full.specs.Full.{Rests};
     ghost use Rattle.merkle_full.specs.Pruning.{KeepsPins};
@@ -59,6 +59,17 @@ impl<F: Family, O: KeylessOperation, C: Backing<Item = O>, H: Hasher> Keyless<F,
             (present (V.state vol.old)) →
             let point = blob_start self.journal.tree.log.blob (length (made F.shape d.journal.items.start)) in
             d.journal.tree.log.start ≡ max self.journal.tree.log.start point) }
+        // Where the tree isn't pruned further, the node log begins where it did, and the map stays, as what a crash
+        // leaves of it.
+        ensures nodes_stay { let admits = H.Digest.Read.admits tt in IfOk result (λ d.
+            d.journal.items.start ≤ self.journal.tree.boundary → V.tells → (ops : List O) →
+            IsHeldFor F.shape H.hash O.meaning H.Digest.spelling admits O.spelling ops self
+            (present (V.state vol.old)) →
+            d.journal.tree.log.start ≡ self.journal.tree.log.start) }
+        ensures map_stays { let metadata = self.journal.tree.metadata in IfOk result (λ d.
+            d.journal.items.start ≤ self.journal.tree.boundary → V.tells →
+            ((V.state vol.new).map metadata ≡ (V.state vol.old).map metadata)
+            × MapStays metadata (V.state vol.old) (V.state vol.new)) }
         ensures pins { let metadata = self.journal.tree.metadata in OnOk result (V.tells →
             KeepsPins ((V.state vol.old).map metadata) ((V.state vol.new).map metadata)) }
         ensures log { IfOk result (λ d. 0 < self.journal.items.end → V.tells →

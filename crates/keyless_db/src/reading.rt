@@ -21,7 +21,8 @@ impl<F: Family, O: KeylessOperation, C: Backing<Item = O>, H: Hasher> Keyless<F,
     ghost use Rattle.chain_core.specs.Answers.{IsRefusedFor};
     ghost use Rattle.chain_core.specs.declared.error.Error.{Error};
     ghost use Rattle.keyless_db.specs.DbView.{IsHeldFor};
-    ghost use Rattle.keyless_db.specs.Reading.{AnswersAs, AreReadAt, IsChainFault, IsReadAt, IsReadFault};
+    ghost use Rattle.keyless_db.specs.Reading.{AnswersAs, AreReadAt, IsAllowedAt, IsChainFault, IsFirstFault};
+    ghost use Rattle.keyless_db.specs.Reading.{IsReadAt, IsReadFault};
     ghost use Rattle.keyless_db.specs.Reading.{below_start};
     ghost use Rattle.keyless_db.specs.Reading.{first_refused, from_start, kept_over, kept_value, locations_refusal};
 
@@ -132,6 +133,8 @@ impl<F: Family, O: KeylessOperation, C: Backing<Item = O>, H: Hasher> Keyless<F,
         ensures count { IfOk result (λ values. length values.items ≡ length locs.now) }
         ensures fault { let items = items_of O.spelling O.admits self.now.journal.items (V.state vol.old) in
             IfErr result (λ e. (l : ℕ) × Contains locs.now l × IsReadFault V.tells items l e) }
+        ensures first { let items = items_of O.spelling O.admits self.now.journal.items (V.state vol.old) in
+            IfErr result (IsFirstFault (λ l. V.tells → IsAllowedAt items l) (IsReadFault V.tells items) locs.now) }
         ensures reads { Reads V.tells Error.Volume (V.state vol.old) (V.state vol.new) result }
     {
         let mut values = Vec::new(self.alloc);
@@ -170,6 +173,10 @@ impl<F: Family, O: KeylessOperation, C: Backing<Item = O>, H: Hasher> Keyless<F,
         ensures fault { let items = items_of O.spelling O.admits self.now.journal.items (V.state vol.old) in
             locations_refusal self.now.state.size locs.now ≡ None →
             IfErr result (λ e. (l : ℕ) × Contains locs.now l × IsReadFault V.tells items l e) }
+        // It is that of the first that can't be read.
+        ensures first { let items = items_of O.spelling O.admits self.now.journal.items (V.state vol.old) in
+            locations_refusal self.now.state.size locs.now ≡ None →
+            IfErr result (IsFirstFault (λ l. V.tells → IsAllowedAt items l) (IsReadFault V.tells items) locs.now) }
         ensures reads { Reads V.tells Error.Volume (V.state vol.old) (V.state vol.new) result }
     {
         let size = self.state.size.as_u64();

@@ -16,7 +16,7 @@ ghost use Rattle.chain_core.specs.declared.error.Error.{Error};
 ghost use Rattle.keyless_db.specs.Batches.{IsMerkleizedOf};
 ghost use Rattle.keyless_db.specs.DbView.{IsHeldFor};
 ghost use Rattle.keyless_db.specs.Reading.{AnswersAs, AreKeptValues, AreReadBelow, IsInChain, IsReadable};
-ghost use Rattle.keyless_db.specs.Reading.{IsReadBelow, IsChainFault};
+ghost use Rattle.keyless_db.specs.Reading.{IsAllowedBelow, IsReadBelow, IsChainFault, IsFirstFault};
 ghost use Rattle.keyless_db.specs.Reading.{batch_answer, batch_many_answer, first_refused, floored_refusal};
 ghost use Rattle.keyless_db.specs.Reading.{kept_over, kept_value, location_refusal, locations_refusal, lost};
 
@@ -155,6 +155,10 @@ impl<F: Family, D: Digest, O: KeylessOperation> MerkleizedBatch<F, D, O> {
         ensures fault { let items = items_of O.spelling O.admits db.now.journal.items (V.state vol.old) in
             IfErr result (λ e. (l : ℕ) × Contains locs.now l
             × IsChainFault V.tells items db.now.state.size (kept_item self.now.tree l) l e) }
+        ensures first { let items = items_of O.spelling O.admits db.now.journal.items (V.state vol.old) in
+            IfErr result (IsFirstFault
+            (λ l. IsAllowedBelow V.tells items db.now.state.size (kept_item self.now.tree l) l)
+            (λ l. IsChainFault V.tells items db.now.state.size (kept_item self.now.tree l) l) locs.now) }
         ensures reads { Reads V.tells Error.Volume (V.state vol.old) (V.state vol.new) result }
     {
         let mut values = Vec::new(db.alloc);
@@ -204,6 +208,13 @@ impl<F: Family, D: Digest, O: KeylessOperation> MerkleizedBatch<F, D, O> {
             floored_refusal self.now.bounds.tip.size self.now.bounds.inactivity_floor locs.now ≡ None →
             IfErr result (λ e. (l : ℕ) × Contains locs.now l
             × IsChainFault V.tells items db.now.state.size (kept_item self.now.tree l) l e) }
+        // It is that of the first that can't be read.
+        ensures first { let items = items_of O.spelling O.admits db.now.journal.items (V.state vol.old) in
+            IsInChain self.now db.now →
+            floored_refusal self.now.bounds.tip.size self.now.bounds.inactivity_floor locs.now ≡ None →
+            IfErr result (IsFirstFault
+            (λ l. IsAllowedBelow V.tells items db.now.state.size (kept_item self.now.tree l) l)
+            (λ l. IsChainFault V.tells items db.now.state.size (kept_item self.now.tree l) l) locs.now) }
         ensures reads { Reads V.tells Error.Volume (V.state vol.old) (V.state vol.new) result }
     {
         match check_read(&self.bounds, db.commitment()) {

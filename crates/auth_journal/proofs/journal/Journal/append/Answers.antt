@@ -7,13 +7,14 @@ use Rattle.volume_base.specs.Log.{end_of, Grows}
 use Rattle.volume_base.specs.Volume.{LogCall}
 use Rattle.auth_journal.proofs.GrowLemmas.{items_grow, none_stands}
 use Rattle.volume_base.specs.Moments.{present}
+use Rattle.merkle_full.specs.Full.{IsSeated}
 use Rattle.merkle_full.specs.Lists.{AreDigests}
 use Rattle.auth_journal.specs.Joined.{Joined, IsJoinedOf, leaves_of}
 use Rattle.auth_journal.specs.declared.error.Error.TheVariants as joined
 use Rattle.auth_journal.proofs.AppendLemmas.{appends_not, appends_refused}
 use Rattle.auth_journal.proofs.BatchLemmas.{only_memory}
 use Rattle.auth_journal.proofs.ErrorLemmas.{answered_size, unwritten_below, memory_not_merkle, leaves_never}
-use Rattle.auth_journal.proofs.JoinedLemmas.{appended_joined}
+use Rattle.auth_journal.proofs.JoinedLemmas.{appended_joined, seated_later}
 use Rattle.auth_journal.proofs.LeafLemmas.{leaves_rest, all_digests}
 use Rattle.auth_journal.proofs.journal.Journal.append.Goals as goal
 
@@ -106,3 +107,14 @@ returns-clause-images g c tells list marks joined =
     let off = subst (λ (k : Joined g.row.H-Digest.Denot g.row.C-Item-Cfg.Denot). k.items.name ≢ k.tree.log.name) c.self.view_is c.self.invariant.apart in
     let call = subst (λ (k : Joined g.row.H-Digest.Denot g.row.C-Item-Cfg.Denot). LogCall k.items.name (Grows (log_of k.items a) (map spelling items)) a b) c.self.view_is (c.append_one.ensures.appends.log tells) in
     items_grow g.F.Family.shape g.H.Hasher.hash g.H.Digest.Spelled.spelling spelling list items c.args.self off g.met.F.Family.lawful marks a b joined.items call.images
+
+pub returns-clause-seated : goal.returns-clause-seated
+returns-clause-seated g c tells seated =
+    let s = g.F.Family.shape in
+    let old = g.V.Volume.state c.args.vol.now in
+    let new = g.V.Volume.state c.append_one.new.vol in
+    let here = subst (λ (k : Joined g.row.H-Digest.Denot g.row.C-Item-Cfg.Denot). IsSeated s k.tree (present old)) (sym c.self.view_is) seated in
+    let applied = c.in_ok-merkle.ensures {u = tt} in
+    let call = ((c.in_ok-journal.ensures {u = tt}).appends.log tells).others in
+    seated_later s c.self.inside.merkle c.in_ok-merkle.merkle old new applied.beside.log applied.longer.boundary
+    (call.logs c.self.inside.merkle.log.name (λ e. c.self.invariant.apart (sym e))) here

@@ -58,6 +58,20 @@ returns-in_err-journal-clause-overflow g c e at =
           omega (arith, past, ap length items, un.counted, ends),
     )
 
+pub returns-in_err-journal-clause-beyond : goal.returns-in_err-journal-clause-beyond
+returns-in_err-journal-clause-beyond g c e at told =
+    let f : Rc (ListOf g.row.C-Item.Denot) Global → List g.row.C-Item.Denot = λ r. r.value in
+    let state = g.V.Volume.state c.args.vol.now in
+    let b : SealedItems g.row.H-Digest.Denot g.row.C-Item.Denot = record { nodes = c.batch.inside.nodes; bagging = c.batch.inside.bagging; items = map f c.batch.inside.items.items } in
+    let tree : c.mem.result.now ≡ c.args.self.tree.tree = c.mem.ensures ∙ ap (λ (j : Joined g.row.H-Digest.Denot g.row.C-Item-Cfg.Denot). j.tree.tree) c.self.view_is in
+    let un = unapplied_from g.F.Family.shape c.mem.result.now c.args.self.tree.tree b c.args.batch.now c.in_ok-place.place c.leaves-leaves.ensures.sound c.batch.invariant (c.in_ok-place.ensures {u = tt}).place tree c.batch.view_is in
+    let items : joined_items (drop c.in_ok-place.place (map f c.deref.result.now)) ≡ unapplied c.args.batch.now c.args.self.tree.tree.leaves =
+    ap (λ ls. joined_items (drop c.in_ok-place.place (map f ls))) c.deref.ensures.value ∙ un.items in
+    let size = answered_size _ c.in_err-journal.field-0.0 e c.from_residual-in_err-journal.ensures.1 (c.in_err-journal.ensures {u = tt}).errors at in
+    let past = c.append_from.ensures.overflow told (c.in_err-journal.was {u = tt} ∙ ap Err size.0) in
+    let ends = ap (λ (j : Joined g.row.H-Digest.Denot g.row.C-Item-Cfg.Denot). end_of (log_of j.items state)) c.self.view_is in
+    omega (arith, past, ap length items, ends)
+
 pub returns-in_err-journal-clause-unwritten : goal.returns-in_err-journal-clause-unwritten
 returns-in_err-journal-clause-unwritten g c =
     unwritten_below (g.V.Volume.state c.args.vol.now) (g.V.Volume.state c.append_from.new.vol) c.append_from.result c.in_err-journal.field-0.0 _ (c.in_err-journal.was {u = tt}) c.from_residual-in_err-journal.ensures.1 c.append_from.ensures.refused

@@ -2,7 +2,8 @@ use Rattle.std.proofs.Common.{◌≡◌, ◌≢◌, inl, length, min, ℕ, refl,
 use Rattle.std.specs.Prelude.{Result}
 use Rattle.volume_base.specs.Log.{Log, Advances, end_of, pruned_to}
 use Rattle.volume_base.specs.Names.{log_and_map}
-use Rattle.volume_base.proofs.CallLemmas.{names_call_joins}
+use Rattle.volume_base.specs.Volume.{MapStays}
+use Rattle.volume_base.proofs.CallLemmas.{names_call_joins, names_call_none}
 use Rattle.volume_base.proofs.JoinLemmas.{changes_of_writes, changes_joins, went_of_writes, went_joins, writes_joins}
 use Rattle.volume_base.proofs.NameLemmas.{durable_after}
 use Rattle.journal_base.specs.Blobs.{blob_start}
@@ -13,13 +14,13 @@ use Rattle.tree_store.specs.declared.error.Error.TheVariants as tree
 use Rattle.auth_journal.specs.Durable.{IsFromTree, IsJournalUnpruned}
 use Rattle.auth_journal.specs.Errors.{IsOutside}
 use Rattle.auth_journal.specs.Joined.{Joined, IsSoundJoin, leaves_of}
-use Rattle.auth_journal.specs.Standing.{all_synced, pruned_below, names_of}
+use Rattle.auth_journal.specs.Standing.{all_synced, pruned_below, logs_of, names_of}
 use Rattle.auth_journal.specs.declared.error.Error.{Error}
 use Rattle.auth_journal.specs.declared.error.Error.TheVariants as joined
 use Rattle.auth_journal.proofs.DurableLemmas.{err_and, err_not_ok, fault_below, images_none}
-use Rattle.auth_journal.proofs.PruneLemmas.{items_advance, images_pruned, images_failed, images_empty, point_below, items_call, tree_call, pruned_moved, cut_full, cut_start, held_pruned, joined_pruned, keeps_behind, changes_done, nodes_pruned, pins_pruned, others_pruned, unpruned_tree, outside_from_tree}
+use Rattle.auth_journal.proofs.PruneLemmas.{items_advance, images_pruned, images_failed, images_empty, point_below, items_call, tree_call, pruned_moved, map_low, nodes_stay, cut_full, cut_start, held_pruned, joined_pruned, keeps_behind, changes_done, nodes_pruned, pins_pruned, others_pruned, unpruned_tree, outside_from_tree}
 use Rattle.auth_journal.proofs.ReadingLemmas.{run_end}
-use Rattle.auth_journal.proofs.StandingLemmas.{names_items, names_logs, names_tree_and_map}
+use Rattle.auth_journal.proofs.StandingLemmas.{logs_items, names_items, names_logs, names_tree_and_map}
 use Rattle.auth_journal.proofs.journal.Journal.prune.Goals as goal
 
 pub returns-then-end-eq0-clause-images : goal.returns-then-end-eq0-clause-images
@@ -388,3 +389,31 @@ returns-clause-others g c tells =
 
 pub returns-in_err-synced-clause-names : goal.returns-in_err-synced-clause-names
 returns-in_err-synced-clause-names g c tells = names_logs c.args.self (g.V.Volume.state c.args.vol.now) (g.V.Volume.state c.sync.new.vol) (c.in_err-synced.ensures.names tells)
+
+pub returns-clause-nodes_stay : goal.returns-clause-nodes_stay
+returns-clause-nodes_stay g c low tells list joined =
+    let synced = c.in_ok-synced.ensures {u = tt} in
+    let last = c.in_ok-pruned.ensures {u = tt} in
+    nodes_stay c.args.self c.in_ok-synced.synced c.in_ok-cut.cut c.in_ok-pruned.pruned synced.same (c.in_ok-cut.ensures {u = tt}).cut (synced.nodes tells list joined) last.items (λ le. (last.stays le).0) low
+
+pub returns-clause-map_stays : goal.returns-clause-map_stays
+returns-clause-map_stays g c low tells =
+    let j = c.args.self in
+    let a = g.V.Volume.state c.args.vol.now in
+    let b = g.V.Volume.state c.sync.new.vol in
+    let d = g.V.Volume.state c.prune_items.new.vol in
+    let k = c.in_ok-synced.synced in
+    let l = c.in_ok-cut.cut in
+    let m = c.in_ok-pruned.pruned in
+    let synced = c.in_ok-synced.ensures {u = tt} in
+    let did = c.in_ok-cut.ensures {u = tt} in
+    let last = c.in_ok-pruned.ensures {u = tt} in
+    let point = prune_point k.items c.args.loc b in
+    let call = names_call_joins (logs_of j) a b d (synced.names tells) (logs_items j b d (Advances point) (items_call j k l l synced.same did.cut (Advances point) b d (did.log tells))) in
+    subst (λ v. ((g.V.Volume.state v).map j.tree.metadata ≡ a.map j.tree.metadata) × MapStays j.tree.metadata a (g.V.Volume.state v))
+    (sym (last.stays (map_low j k l m synced.same did.cut last.items low)).1) (call.others.maps j.tree.metadata tt, call.images.maps j.tree.metadata tt)
+
+pub returns-then-end-eq0-clause-map_stays : goal.returns-then-end-eq0-clause-map_stays
+returns-then-end-eq0-clause-map_stays g c low tells =
+    let j = c.args.self in
+    (refl, (names_call_none (logs_of j) (g.V.Volume.state c.args.vol.now)).images.maps j.tree.metadata tt)

@@ -161,3 +161,13 @@ returns-in_err-merkle-clause-errors g c =
     let P = λ (k : Joined g.row.H-Digest.Denot g.row.C-Item-Cfg.Denot). IsTreeUnpruned {F = g.row.F.Denot} s tells k.tree (items_of digest admits k.tree.log b) k.items.start in
     err_and _ (from_tree e) (IsFromTree (P c.args.self)) c.from_residual.ensures.1
     (e, refl, subst (λ (k : Joined g.row.H-Digest.Denot g.row.C-Item-Cfg.Denot). P k e) c.self.view_is (subst (λ (n : ℕ). IsTreeUnpruned s tells m (items_of digest admits m.log b) n e) at why))
+
+pub returns-clause-stays : goal.returns-clause-stays
+returns-clause-stays g c low =
+    let at : c.new.result ≡ (g.C.Contiguous.view c.self.inside.journal).start = c.new.ensures ∙ c.bounds-start.ensures.start in
+    let t = c.self.inside.merkle in
+    let u = c.in_ok-merkle.merkle in
+    let did = c.in_ok-merkle.ensures {u = tt} in
+    let le : c.new.result ≤ t.boundary = omega (arith, low, at, ap (λ (k : Joined g.row.H-Digest.Denot g.row.C-Item-Cfg.Denot). k.items.start) c.self.view_is, ap (λ (k : Joined g.row.H-Digest.Denot g.row.C-Item-Cfg.Denot). k.tree.boundary) c.self.view_is) in
+    let both = c.prune.ensures.below (not_failed t.log.failed (λ is. let bad = (did.kept is).0 in cc)) le in
+    (same_made u t c.prune.result (c.in_ok-merkle.was {u = tt}) both.0 ∙ ap (λ (k : Joined g.row.H-Digest.Denot g.row.C-Item-Cfg.Denot). k.tree) c.self.view_is, both.1)

@@ -9,6 +9,7 @@ use Rattle.volume_base.proofs.JoinLemmas.{writes_joins}
 use Rattle.journal_base.specs.View.{SameLog, IsDurable}
 use Rattle.tree_store.specs.declared.error.Error.TheVariants as tree
 use Rattle.merkle_full.specs.Flushing.{IsOfFlush}
+use Rattle.merkle_full.specs.Full.{IsSeated}
 use Rattle.auth_journal.specs.Durable.{IsFromTree}
 use Rattle.auth_journal.specs.Errors.{IsOutside, from_journal, from_tree}
 use Rattle.auth_journal.specs.Joined.{Joined, IsSoundJoin, IsJoinedOf, leaves_of}
@@ -17,6 +18,7 @@ use Rattle.auth_journal.specs.declared.error.Error.{Error}
 use Rattle.auth_journal.specs.declared.error.Error.TheVariants as joined
 use Rattle.auth_journal.proofs.DurableLemmas.{err_and, err_not_ok, log_fails, tree_still, joined_behind, items_durable, run_synced, images_synced, images_none, images_unsynced, fault_below, writes_done}
 use Rattle.auth_journal.proofs.ErrorLemmas.{log_outside, tree_outside, volume_from_tree}
+use Rattle.auth_journal.proofs.JoinedLemmas.{seated_later}
 use Rattle.auth_journal.proofs.StandingLemmas.{logs_items, logs_tree}
 use Rattle.auth_journal.proofs.journal.Journal.sync.Goals as goal
 
@@ -214,3 +216,20 @@ returns-clause-nodes g c tells list joined =
     let synced = (c.in_ok-journal.ensures {u = tt}).log g.met.C.Backing.is_one_log tells in
     let tree = tree_still s h digest spelling list j c.self.invariant admits a b synced.others here.tree in
     (c.in_ok-merkle.ensures {u = tt}).start tells h (leaves_of s h spelling list) tree ∙ ap (λ (i : Joined g.row.H-Digest.Denot g.row.C-Item-Cfg.Denot). i.tree.log.start) c.self.view_is
+
+pub returns-in_err-journal-clause-bounded : goal.returns-in_err-journal-clause-bounded
+returns-in_err-journal-clause-bounded g c tells seated =
+    let e = c.in_err-journal.field-0.0 in
+    err_and _ (from_journal e) IsOutside c.from_residual.ensures.1 (log_outside g.row.F.Denot e ((c.in_err-journal.ensures {u = tt}).errors g.met.C.Backing.is_one_log))
+
+pub returns-in_err-merkle-clause-bounded : goal.returns-in_err-merkle-clause-bounded
+returns-in_err-merkle-clause-bounded g c tells seated =
+    let s = g.F.Family.shape in
+    let a = g.V.Volume.state c.args.vol.now in
+    let b = g.V.Volume.state c.sync.new.vol in
+    let t = c.self.inside.merkle in
+    let e = c.in_err-merkle.field-0.0 in
+    let here = subst (λ (k : Joined g.row.H-Digest.Denot g.row.C-Item-Cfg.Denot). IsSeated s k.tree (present a)) (sym c.self.view_is) seated in
+    let synced = (c.in_ok-journal.ensures {u = tt}).log g.met.C.Backing.is_one_log tells in
+    err_and _ (from_tree e) IsOutside c.from_residual-in_err-merkle.ensures.1
+    (tree_outside e ((c.in_err-merkle.ensures {u = tt}).bounded tells (seated_later s t t a b refl refl (synced.others.logs t.log.name (λ is. c.self.invariant.apart (sym is))) here)))

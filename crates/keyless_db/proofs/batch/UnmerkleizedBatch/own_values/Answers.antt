@@ -5,9 +5,9 @@ use Rattle.volume_base.proofs.ReadLemmas.{only_read_joins}
 use Rattle.journal_base.specs.Items.{items_of}
 use Rattle.log_model.specs.Reads.{value_at}
 use Rattle.chain_core.specs.declared.error.Error.TheVariants.{Volume, Memory}
-use Rattle.keyless_db.specs.Reading.{IsChainFault, IsReadable, IsReadBelow, chain_start, kept_over, lost, pending_item}
+use Rattle.keyless_db.specs.Reading.{IsAllowedBelow, IsChainFault, IsFirstFault, IsReadable, IsReadBelow, chain_start, kept_over, lost, pending_item}
 use Rattle.keyless_db.proofs.FaultLemmas.{contains_at, err_handed, fault_still, memory_fault, told_still}
-use Rattle.keyless_db.proofs.KeptReadLemmas.{each_more, each_all, some_of, kept_more, kept_all}
+use Rattle.keyless_db.proofs.KeptReadLemmas.{each_more, each_first, each_all, some_of, kept_more, kept_all}
 use Rattle.keyless_db.proofs.ReadLemmas.{all_at}
 use Rattle.keyless_db.proofs.SeveralLemmas.{fit_within, so_far_more, so_far_all, so_far_refused}
 use Rattle.keyless_db.proofs.StillLemmas.{held_still, reads_err, reads_memory}
@@ -126,3 +126,33 @@ returns-clause-told g c = each_all (λ n v. IsReadBelow g.O.Logged.meaning g.V.V
 
 pub returns-clause-count : goal.returns-clause-count
 returns-clause-count g c = omega (arith, c.loop-i.invariant.valued.count, c.loop-i.invariant.within, c.loop-i-test.false)
+
+pub returns-in_err-value-clause-first : goal.returns-in_err-value-clause-first
+returns-in_err-value-clause-first g c =
+    let tells = g.V.Volume.tells in
+    let a = g.V.Volume.state c.args.vol.now in
+    let db = c.args.db.now in
+    let locs = c.args.locs.now in
+    let l = c.as_u64-location.result in
+    let at : slice_get locs c.loop-i.i ≡ Some l =
+    slice_get_read locs (length locs) c.loop-i.i c.index-locs-i.result refl c.loop-i-test.true c.index-locs-i.is ∙ ap Some (sym c.as_u64-location.ensures) in
+    let kept = pending_item c.args.pool.now c.args.self.now in
+    let items = items_of g.O.Spelled.spelling g.O.Read.admits db.journal.items a in
+    let e = c.in_err-value.field-0.0 in
+    let fault = fault_still g.row.F.Denot tells g.O.Spelled.spelling g.O.Read.admits db.journal.items a (g.V.Volume.state c.loop-i.vol) c.loop-i.invariant.so_far.contents db.state.size (kept l) l e c.in_err-value.ensures.fault in
+    err_handed c.from_residual.result e (IsFirstFault (λ n. IsAllowedBelow tells items db.state.size (kept n) n) (λ n. IsChainFault tells items db.state.size (kept n) n) locs) c.from_residual.ensures.1
+    (each_first (λ n v. IsReadBelow g.O.Logged.meaning tells items db.state.size (kept n) n v) locs (λ n. IsAllowedBelow tells items db.state.size (kept n) n) (λ n. IsChainFault tells items db.state.size (kept n) n) c.loop-i.i l c.loop-i.values.items e (λ n v told none. let was = told none in (was.0, λ there. let is = was.1 there in (is.0, is.1, is.2))) at c.loop-i.invariant.valued fault)
+
+pub returns-in_err-push-clause-first : goal.returns-in_err-push-clause-first
+returns-in_err-push-clause-first g c =
+    let tells = g.V.Volume.tells in
+    let a = g.V.Volume.state c.args.vol.now in
+    let db = c.args.db.now in
+    let locs = c.args.locs.now in
+    let l = c.as_u64-location.result in
+    let at : slice_get locs c.loop-i.i ≡ Some l =
+    slice_get_read locs (length locs) c.loop-i.i c.index-locs-i.result refl c.loop-i-test.true c.index-locs-i.is ∙ ap Some (sym c.as_u64-location.ensures) in
+    let kept = pending_item c.args.pool.now c.args.self.now in
+    let items = items_of g.O.Spelled.spelling g.O.Read.admits db.journal.items a in
+    err_handed c.from_residual-in_err-push.result Memory (IsFirstFault (λ n. IsAllowedBelow tells items db.state.size (kept n) n) (λ n. IsChainFault tells items db.state.size (kept n) n) locs) c.from_residual-in_err-push.ensures.1
+    (each_first (λ n v. IsReadBelow g.O.Logged.meaning tells items db.state.size (kept n) n v) locs (λ n. IsAllowedBelow tells items db.state.size (kept n) n) (λ n. IsChainFault tells items db.state.size (kept n) n) c.loop-i.i l c.loop-i.values.items Memory (λ n v told none. let was = told none in (was.0, λ there. let is = was.1 there in (is.0, is.1, is.2))) at c.loop-i.invariant.valued (inr (memory_fault tells items l)))

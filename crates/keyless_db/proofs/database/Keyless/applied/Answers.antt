@@ -1,4 +1,4 @@
-use Rattle.std.proofs.Common.{◌≡◌, ◌<◌, ◌+◌, ◌-◌, ◌^◌, List, [], ◌++◌, Ok, Err, refl, sym, ◌∙◌, ap, subst}
+use Rattle.std.proofs.Common.{◌≡◌, ◌<◌, ◌+◌, ◌-◌, ◌^◌, List, [], length, ◌++◌, Ok, Err, refl, sym, ◌∙◌, ap, subst}
 use Rattle.volume_base.specs.Log.{Log, end_of}
 use Rattle.volume_base.specs.Moments.{present}
 use Rattle.volume_base.specs.declared.error.JournalError.TheVariants.{SizeOverflow}
@@ -153,6 +153,14 @@ returns-in-Err-clause-full g c is =
           let there = subst (λ (d : DbView g.row.F.Denot g.row.H-Digest.Denot g.row.O.Denot g.row.O-Cfg.Denot). 2 ^ 64 - 1 < end_of (log_of d.journal.items a) + c.batch.inside.tree.nodes.leaves) c.self.view_is past in
           subst (λ (x : MerkleizedView g.row.F.Denot g.row.H-Digest.Denot g.row.O.Denot). 2 ^ 64 - 1 < end_of (log_of c.args.self.journal.items a) + x.tree.nodes.leaves) c.batch.view_is there,
     )
+
+pub returns-in-Err-clause-beyond : goal.returns-in-Err-clause-beyond
+returns-in-Err-clause-beyond g c is tells =
+    let a = g.V.Volume.state c.args.vol.now in
+    let below = full_below c.in-Err.error c.from_apply.result SizeOverflow c.from_apply.ensures is in
+    let past = c.in-Err.ensures.beyond SizeOverflow (ap Err below) tells in
+    let there = subst (λ (d : DbView g.row.F.Denot g.row.H-Digest.Denot g.row.O.Denot g.row.O-Cfg.Denot). 2 ^ 64 - 1 < end_of (log_of d.journal.items a) + length (unapplied c.batch.inside.tree d.journal.tree.tree.leaves)) c.self.view_is past in
+    subst (λ (x : MerkleizedView g.row.F.Denot g.row.H-Digest.Denot g.row.O.Denot). 2 ^ 64 - 1 < end_of (log_of c.args.self.journal.items a) + length (unapplied x.tree c.args.self.journal.tree.tree.leaves)) c.batch.view_is there
 
 pub returns-in-Err-clause-errors : goal.returns-in-Err-clause-errors
 returns-in-Err-clause-errors g c =

@@ -80,6 +80,12 @@ returns-clause-full g c is =
           2 ^ 64 - 1 < end_of (log_of c.args.self.journal.items (g.V.Volume.state c.args.vol.now)) + x.tree.nodes.leaves) same (did.1 tells),
     )
 
+pub returns-clause-beyond : goal.returns-clause-beyond
+returns-clause-beyond g c is b at tells =
+    let same = one_item (item_at c.args.pool.now c.args.id) c.item-batch.result.now b c.item-batch.ensures at in
+    subst (λ (x : MerkleizedView g.row.F.Denot g.row.H-Digest.Denot g.row.O.Denot).
+    2 ^ 64 - 1 < end_of (log_of c.args.self.journal.items (g.V.Volume.state c.args.vol.now)) + length (unapplied x.tree c.args.self.journal.tree.tree.leaves)) same (c.applied.ensures.beyond is tells)
+
 pub returns-in-Err-clause-fits : goal.returns-in-Err-clause-fits
 returns-in-Err-clause-fits g c is b at ops more image held of marks here =
     let same = c.batch.view_is ∙ one_item (item_at c.args.pool.now c.args.id) c.item-batch.result.now b c.item-batch.ensures at in

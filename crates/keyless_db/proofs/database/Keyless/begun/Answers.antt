@@ -10,7 +10,8 @@ use Rattle.chain_core.specs.declared.error.Error.TheVariants.{Volume}
 use Rattle.auth_journal.proofs.LeafLemmas.{length-leaves_of}
 use Rattle.auth_journal.proofs.ReadingLemmas.{run_end}
 use Rattle.keyless_db.proofs.LiftLemmas.{ok_never, outside_above, volume_below}
-use Rattle.keyless_db.proofs.OpenLemmas.{append_outside, durable_same, logs_call}
+use Rattle.keyless_db.proofs.BeginningLemmas.{begins_not, begins_synced}
+use Rattle.keyless_db.proofs.OpenLemmas.{append_lifted, append_outside, durable_same, flush_wraps, logs_call}
 use Rattle.keyless_db.proofs.database.Keyless.begun.Goals as goal
 
 pub returns-in-Ok-sync-clause-listed : goal.returns-in-Ok-sync-clause-listed
@@ -108,15 +109,14 @@ returns-in-Ok-sync-clause-blob g c =
     ap (λ (v : View (Unit {0})). v.blob) c.in-Ok-sync.ensures.same.tree.log ∙ ap (λ (v : View (Unit {0})). v.blob) c.in-Ok.ensures.same.1.log
 
 pub returns-in-Err-clause-refused : goal.returns-in-Err-clause-refused
-returns-in-Err-clause-refused g c tells here none leaves =
-    inl (append_outside c.in-Err.error c.from_joined.result c.from_joined.ensures
+returns-in-Err-clause-refused g c tells here none leaves seated =
+    append_outside c.in-Err.error c.from_joined.result c.from_joined.ensures
     (λ x is. let full = c.in-Err.ensures.refused x (ap Err is) in omega (arith, full, leaves))
-    (λ x is. let full = (c.in-Err.ensures.overflow x (ap Err is)).1 tells in let end = here.end_is in omega (arith, full, none, end)))
+    (λ x is. let full = (c.in-Err.ensures.overflow x (ap Err is)).1 tells in let end = here.end_is in omega (arith, full, none, end))
 
 pub returns-in-Err-sync-clause-refused : goal.returns-in-Err-sync-clause-refused
-returns-in-Err-sync-clause-refused g c tells here none leaves =
-    let longer = c.in-Ok.ensures.longer.leaves in
-    inr (c.in-Ok.made.0.tree, omega (arith, longer, leaves), (c.in-Err-sync.error, c.from_joined-in-Err-sync.ensures, c.in-Err-sync.ensures.errors))
+returns-in-Err-sync-clause-refused g c tells here none leaves seated =
+    outside_above c.in-Err-sync.error c.from_joined-in-Err-sync.result c.from_joined-in-Err-sync.ensures (c.in-Err-sync.ensures.bounded tells (c.in-Ok.ensures.seated tells seated))
 
 pub returns-in-Ok-sync-clause-log : goal.returns-in-Ok-sync-clause-log
 returns-in-Ok-sync-clause-log g c tells =
@@ -127,20 +127,30 @@ returns-in-Ok-sync-clause-log g c tells =
     let there = ap (λ (v : View g.row.O-Cfg.Denot). mid.log v.name) same in
     sym here ∙ c.in-Ok-sync.ensures.contents tells ∙ there ∙ c.in-Ok.ensures.appends.appended tells
 
-pub returns-in-Err-clause-outside : goal.returns-in-Err-clause-outside
-returns-in-Err-clause-outside g c tells of =
-    let leaves = of.tree.tree.count ∙ length-leaves_of g.F.Family.shape g.H.Hasher.hash g.O.Spelled.spelling [] in
-    let end = run_end g.O.Spelled.spelling [] _ of.items in
-    append_outside c.in-Err.error c.from_joined.result c.from_joined.ensures
-    (λ x is. let full = c.in-Err.ensures.refused x (ap Err is) in omega (arith, full, leaves))
-    (λ x is. let full = (c.in-Err.ensures.overflow x (ap Err is)).1 tells in omega (arith, full, end))
-
-pub returns-in-Err-sync-clause-outside : goal.returns-in-Err-sync-clause-outside
-returns-in-Err-sync-clause-outside g c tells of =
-    outside_above c.in-Err-sync.error c.from_joined-in-Err-sync.result c.from_joined-in-Err-sync.ensures (c.in-Err-sync.ensures.outside tells _ (c.in-Ok.ensures.joined tells [] of))
-
 pub returns-in-Err-clause-errors : goal.returns-in-Err-clause-errors
-returns-in-Err-clause-errors g c = inr (c.in-Err.error, c.from_joined.ensures, tt)
+returns-in-Err-clause-errors g c =
+    inr (c.in-Err.error, c.from_joined.ensures, append_lifted _ c.in-Err.error c.in-Err.ensures.refused (λ full. (c.in-Err.ensures.full full).1) (λ x is. (c.in-Err.ensures.overflow x is).0))
 
 pub returns-in-Err-sync-clause-errors : goal.returns-in-Err-sync-clause-errors
-returns-in-Err-sync-clause-errors g c = inr (c.in-Err-sync.error, c.from_joined-in-Err-sync.ensures, tt)
+returns-in-Err-sync-clause-errors g c =
+    inr (c.in-Err-sync.error, c.from_joined-in-Err-sync.ensures, flush_wraps g.F.Family.shape c.in-Ok.made.0.tree c.in-Err-sync.error c.in-Err-sync.ensures.errors)
+
+pub returns-in-Err-clause-images : goal.returns-in-Err-clause-images
+returns-in-Err-clause-images g c tells marks of =
+    begins_not g.F.Family.shape g.H.Hasher.hash g.H.Digest.Spelled.spelling g.O.Spelled.spelling c.args.commit.now marks c.args.journal (g.V.Volume.state c.args.vol.now) (g.V.Volume.state c.append.new.vol) (g.V.Volume.state c.append.new.vol) _ tt (c.in-Err.ensures.images tells [] marks of)
+
+pub returns-in-Ok-sync-clause-images : goal.returns-in-Ok-sync-clause-images
+returns-in-Ok-sync-clause-images g c tells marks of =
+    let k = c.in-Ok.made.0 in
+    let added = c.in-Ok.ensures.same.1 in
+    begins_synced g.F.Family.shape g.H.Hasher.hash g.H.Digest.Spelled.spelling g.O.Spelled.spelling c.args.commit.now marks c.args.journal (g.V.Volume.state c.args.vol.now) (g.V.Volume.state c.append.new.vol) (g.V.Volume.state c.sync.new.vol) _ k (Ok c.in-Ok-sync.journal) tt
+    (ap (λ (v : View g.row.O-Cfg.Denot). v.name) added.items) (ap (λ (v : View (Unit {0})). v.name) added.log) added.metadata
+    (c.in-Ok.ensures.images tells [] marks of) (c.in-Ok-sync.ensures.images tells (c.args.commit.now ∷ []) marks (c.in-Ok.ensures.joined tells [] of))
+
+pub returns-in-Err-sync-clause-images : goal.returns-in-Err-sync-clause-images
+returns-in-Err-sync-clause-images g c tells marks of =
+    let k = c.in-Ok.made.0 in
+    let added = c.in-Ok.ensures.same.1 in
+    begins_synced g.F.Family.shape g.H.Hasher.hash g.H.Digest.Spelled.spelling g.O.Spelled.spelling c.args.commit.now marks c.args.journal (g.V.Volume.state c.args.vol.now) (g.V.Volume.state c.append.new.vol) (g.V.Volume.state c.sync.new.vol) _ k (Err c.in-Err-sync.error) tt
+    (ap (λ (v : View g.row.O-Cfg.Denot). v.name) added.items) (ap (λ (v : View (Unit {0})). v.name) added.log) added.metadata
+    (c.in-Ok.ensures.images tells [] marks of) (c.in-Err-sync.ensures.images tells (c.args.commit.now ∷ []) marks (c.in-Ok.ensures.joined tells [] of))

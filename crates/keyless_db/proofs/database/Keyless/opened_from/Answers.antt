@@ -1,4 +1,5 @@
-use Rattle.std.proofs.Common.{◌≡◌, ◌∷◌, [], ◌-◌, ◌<◌, List, length, take, None, Some, Err, inl, inr, refl, sym, ◌∙◌, ap, subst, arith}
+use Rattle.std.specs.Prelude.{Result}
+use Rattle.std.proofs.Common.{◌≡◌, ◌∷◌, [], ◌-◌, ◌<◌, List, length, take, None, Some, Ok, Err, inl, inr, refl, sym, ◌∙◌, ap, subst, arith}
 use Rattle.volume_base.specs.Log.{Log, appended, end_of}
 use Rattle.volume_base.specs.Moments.{Image, present}
 use Rattle.volume_base.proofs.CallLemmas.{names_call_idle}
@@ -11,9 +12,12 @@ use Rattle.merkle_full.proofs.ListLemmas.{there_is, taken}
 use Rattle.auth_journal.specs.Joined.{Joined, IsJoinedOf}
 use Rattle.auth_journal.specs.Standing.{names_of}
 use Rattle.auth_journal.proofs.ReadingLemmas.{run_end}
+use Rattle.chain_core.specs.declared.error.Error.{Error}
 use Rattle.keyless_db.specs.DbView.{IsHeldFor}
 use Rattle.keyless_db.proofs.LocationLemmas.{nothing_taken}
-use Rattle.keyless_db.proofs.OpenLemmas.{begun_refused, built_errors, built_refused, commit_there, durable_still, first_never, first_refused, if_err, if_ok, if_ok_both, read_errors, read_refused}
+use Rattle.keyless_db.specs.Opening.{BeginsStanding}
+use Rattle.keyless_db.proofs.BeginningLemmas.{begins_done, begins_like}
+use Rattle.keyless_db.proofs.OpenLemmas.{built_errors, built_refused, commit_there, durable_still, first_refused, if_err, if_ok, if_ok_both, read_errors, read_refused}
 use Rattle.keyless_db.proofs.ReadLemmas.{all_at}
 use Rattle.keyless_db.proofs.StillLemmas.{present_same}
 use Rattle.keyless_db.proofs.database.Keyless.opened_from.Goals as goal
@@ -177,20 +181,20 @@ returns-in-Ok-read-clause-log g c =
     if_ok _ _ c.built-in-Ok-read.result (λ d same. λ tells. inl (some, (read.contents tells).logs c.args.journal.items.name)) c.built-in-Ok-read.ensures.journal
 
 pub returns-in-Err-clause-refused : goal.returns-in-Err-clause-refused
-returns-in-Err-clause-refused g c tells here ends =
+returns-in-Err-clause-refused g c tells here seated ends =
     let j = c.args.journal in
     let none : j.items.end ≡ 0 = sym (c.as_u64-size.ensures ∙ c.size.ensures) ∙ c.if-size-eq0.true in
-    begun_refused g.row.H-Digest.Denot g.F.Family.shape _ j.items.end c.in-Err.error none (c.in-Err.ensures.refused tells here none (c.requires.whole ∙ none))
+    inl (c.in-Err.ensures.refused tells here none (c.requires.whole ∙ none) seated)
 
 pub returns-then-size-eq0-clause-refused : goal.returns-then-size-eq0-clause-refused
-returns-then-size-eq0-clause-refused g c tells here ends =
+returns-then-size-eq0-clause-refused g c tells here seated ends =
     let m = g.O.Logged.meaning in
     let is = ap m.floor c.commit-commit.ensures ∙ g.met.O.KeylessOperation.floored None 0 in
     if_err _ _ c.built.result
-    (λ e why. first_refused g.row.H-Digest.Denot g.F.Family.shape _ c.args.journal.items.end (m.floor c.commit-commit.result) 0 e is why) c.built.ensures.refused
+    (λ e why. first_refused _ c.args.journal.items.end (m.floor c.commit-commit.result) 0 e is why) c.built.ensures.refused
 
 pub returns-in-Ok-read-clause-refused : goal.returns-in-Ok-read-clause-refused
-returns-in-Ok-read-clause-refused g c tells here ends =
+returns-in-Ok-read-clause-refused g c tells here seated ends =
     let m = g.O.Logged.meaning in
     let j = c.args.journal in
     let old = g.V.Volume.state c.args.vol.now in
@@ -205,10 +209,10 @@ returns-in-Ok-read-clause-refused g c tells here ends =
     let one = λ (x y : g.row.O.Denot). one_value _ _ _ (g.met.O.Read.lawful j.items.codec) x y in
     let commit = commit_there m items j.items.end op one there read.admitted past (ends past) in
     if_err _ _ c.built-in-Ok-read.result
-    (λ e why. built_refused g.row.H-Digest.Denot g.F.Family.shape _ n j.items.end (m.floor op) e end commit why) c.built-in-Ok-read.ensures.refused
+    (λ e why. built_refused _ n j.items.end (m.floor op) e end commit why) c.built-in-Ok-read.ensures.refused
 
 pub returns-in-Err-read-clause-refused : goal.returns-in-Err-read-clause-refused
-returns-in-Err-read-clause-refused g c tells here ends =
+returns-in-Err-read-clause-refused g c tells here seated ends =
     let m = g.O.Logged.meaning in
     let j = c.args.journal in
     let old = g.V.Volume.state c.args.vol.now in
@@ -225,30 +229,7 @@ returns-in-Err-read-clause-refused g c tells here ends =
       errors = read.errors;
     } in
     let why = subst (λ k. ReadRefused g.V.Volume.tells items (k - 1) c.in-Err-read.error) end refused in
-    read_refused g.row.H-Digest.Denot g.F.Family.shape m g.V.Volume.tells tells items j.items.end c.in-Err-read.error _ c.from.ensures here.end_is past (ends past) why
-
-pub returns-in-Err-clause-outside : goal.returns-in-Err-clause-outside
-returns-in-Err-clause-outside g c tells list opened zero =
-    let j = c.args.journal in
-    let none : take j.items.end list ≡ [] = ap (λ n. take n list) zero ∙ nothing_taken list in
-    let empty = subst (λ (xs : List g.row.O.Denot). IsJoinedOf g.F.Family.shape g.H.Hasher.hash g.H.Digest.Spelled.spelling (g.H.Digest.Read.admits tt) g.O.Spelled.spelling xs j (present (g.V.Volume.state c.args.vol.now))) none opened.joined in
-    c.in-Err.ensures.outside tells empty
-
-pub returns-then-size-eq0-clause-outside : goal.returns-then-size-eq0-clause-outside
-returns-then-size-eq0-clause-outside g c tells list opened zero =
-    let m = g.O.Logged.meaning in
-    let is = ap m.floor c.commit-commit.ensures ∙ g.met.O.KeylessOperation.floored None 0 in
-    if_err _ _ c.built.result (λ e why. first_never (m.floor c.commit-commit.result) 0 e is why) c.built.ensures.refused
-
-pub returns-in-Ok-read-clause-outside : goal.returns-in-Ok-read-clause-outside
-returns-in-Ok-read-clause-outside g c tells list opened zero =
-    let end : c.as_u64-size.result ≡ c.args.journal.items.end = c.as_u64-size.ensures ∙ c.size.ensures in
-    absurd (omega (arith, c.if-size-eq0.false, end, zero))
-
-pub returns-in-Err-read-clause-outside : goal.returns-in-Err-read-clause-outside
-returns-in-Err-read-clause-outside g c tells list opened zero =
-    let end : c.as_u64-size.result ≡ c.args.journal.items.end = c.as_u64-size.ensures ∙ c.size.ensures in
-    absurd (omega (arith, c.if-size-eq0.false, end, zero))
+    read_refused m g.V.Volume.tells tells items j.items.end c.in-Err-read.error _ c.from.ensures here.end_is past (ends past) why
 
 pub returns-in-Err-clause-errors : goal.returns-in-Err-clause-errors
 returns-in-Err-clause-errors g c = c.in-Err.ensures.errors
@@ -263,3 +244,51 @@ returns-in-Ok-read-clause-errors g c =
 
 pub returns-in-Err-read-clause-errors : goal.returns-in-Err-read-clause-errors
 returns-in-Err-read-clause-errors g c = read_errors c.in-Err-read.error _ c.from.ensures
+
+pub returns-in-Err-clause-still : goal.returns-in-Err-clause-still
+returns-in-Err-clause-still g c tells some =
+    let zero : c.args.journal.items.end ≡ 0 = sym (c.as_u64-size.ensures ∙ c.size.ensures) ∙ c.if-size-eq0.true in
+    absurd (omega (arith, some, zero))
+
+pub returns-then-size-eq0-clause-still : goal.returns-then-size-eq0-clause-still
+returns-then-size-eq0-clause-still g c tells some =
+    let zero : c.args.journal.items.end ≡ 0 = sym (c.as_u64-size.ensures ∙ c.size.ensures) ∙ c.if-size-eq0.true in
+    absurd (omega (arith, some, zero))
+
+pub returns-in-Ok-read-clause-still : goal.returns-in-Ok-read-clause-still
+returns-in-Ok-read-clause-still g c tells some =
+    let read = (c.in-Ok-read.ensures {u = tt}).answers in
+    (read.clock, read.past tells)
+
+pub returns-in-Err-read-clause-still : goal.returns-in-Err-read-clause-still
+returns-in-Err-read-clause-still g c tells some =
+    let read = (c.in-Err-read.ensures {u = tt}).answers in
+    (read.clock, read.past tells)
+
+pub returns-in-Err-clause-begins : goal.returns-in-Err-clause-begins
+returns-in-Err-clause-begins g c tells marks zero of =
+    let j = c.args.journal in
+    let a = g.V.Volume.state c.args.vol.now in
+    let b = g.V.Volume.state c.begun.new.vol in
+    let below : Result (Joined g.row.H-Digest.Denot g.row.O-Cfg.Denot) (Error g.row.F.Denot) = Err c.in-Err.error in
+    begins_like g.F.Family.shape g.H.Hasher.hash g.H.Digest.Spelled.spelling g.O.Spelled.spelling (g.O.KeylessOperation.committed None 0) marks j.items.name j.tree.log.name j.tree.metadata a b below _ tt
+    (subst (λ (op : g.row.O.Denot). BeginsStanding g.F.Family.shape g.H.Hasher.hash g.H.Digest.Spelled.spelling g.O.Spelled.spelling op marks j.items.name j.tree.log.name j.tree.metadata a b below) c.commit-commit.ensures (c.in-Err.ensures.images tells marks of))
+
+pub returns-then-size-eq0-clause-begins : goal.returns-then-size-eq0-clause-begins
+returns-then-size-eq0-clause-begins g c tells marks zero of =
+    let j = c.args.journal in
+    let a = g.V.Volume.state c.args.vol.now in
+    let b = g.V.Volume.state c.begun.new.vol in
+    let below : Result (Joined g.row.H-Digest.Denot g.row.O-Cfg.Denot) (Error g.row.F.Denot) = Ok c.in-Ok.begun in
+    begins_done g.F.Family.shape g.H.Hasher.hash g.H.Digest.Spelled.spelling g.O.Spelled.spelling (g.O.KeylessOperation.committed None 0) marks j.items.name j.tree.log.name j.tree.metadata a b c.in-Ok.begun c.built.result
+    (subst (λ (op : g.row.O.Denot). BeginsStanding g.F.Family.shape g.H.Hasher.hash g.H.Digest.Spelled.spelling g.O.Spelled.spelling op marks j.items.name j.tree.log.name j.tree.metadata a b below) c.commit-commit.ensures (c.in-Ok.ensures.images tells marks of))
+
+pub returns-in-Ok-read-clause-begins : goal.returns-in-Ok-read-clause-begins
+returns-in-Ok-read-clause-begins g c tells marks zero of =
+    let end : c.as_u64-size.result ≡ c.args.journal.items.end = c.as_u64-size.ensures ∙ c.size.ensures in
+    absurd (omega (arith, c.if-size-eq0.false, end, zero))
+
+pub returns-in-Err-read-clause-begins : goal.returns-in-Err-read-clause-begins
+returns-in-Err-read-clause-begins g c tells marks zero of =
+    let end : c.as_u64-size.result ≡ c.args.journal.items.end = c.as_u64-size.ensures ∙ c.size.ensures in
+    absurd (omega (arith, c.if-size-eq0.false, end, zero))

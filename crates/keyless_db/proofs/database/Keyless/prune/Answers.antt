@@ -1,6 +1,7 @@
-use Rattle.std.proofs.Common.{◌≡◌, ◌<◌, length, max, false, Ok, Err, sym, ◌∙◌, ap, subst, arith}
+use Rattle.std.proofs.Common.{◌≡◌, ◌<◌, ◌≤◌, length, max, false, Ok, Err, sym, ◌∙◌, ap, subst, arith}
 use Rattle.volume_base.specs.Moments.{present}
 use Rattle.volume_base.specs.Names.{NamesCall}
+use Rattle.volume_base.specs.Volume.{MapStays}
 use Rattle.journal_base.specs.Blobs.{blob_start}
 use Rattle.journal_base.specs.Items.{items_of}
 use Rattle.journal_base.specs.View.{IsHeld, IsDurable, log_of, prune_point}
@@ -173,3 +174,20 @@ returns-in-Ok-clause-log g c =
     let b = g.V.Volume.state c.prune.new.vol in
     let same : c.self.inside.journal ≡ c.args.self.journal = ap (λ (d : DbView g.row.F.Denot g.row.H-Digest.Denot g.row.O.Denot g.row.O-Cfg.Denot). d.journal) c.self.view_is in
     subst (λ (x : Joined g.row.H-Digest.Denot g.row.O-Cfg.Denot). 0 < x.items.end → g.V.Volume.tells → IsHeld c.in-Ok.journal.items b) same c.in-Ok.ensures.held
+
+pub returns-in-Ok-clause-nodes_stay : goal.returns-in-Ok-clause-nodes_stay
+returns-in-Ok-clause-nodes_stay g c low tells ops held =
+    let a = g.V.Volume.state c.args.vol.now in
+    let b = g.V.Volume.state c.prune.new.vol in
+    let k = c.in-Ok.journal in
+    let same : c.self.inside.journal ≡ c.args.self.journal = ap (λ (d : DbView g.row.F.Denot g.row.H-Digest.Denot g.row.O.Denot g.row.O-Cfg.Denot). d.journal) c.self.view_is in
+    let here = joined_back g.F.Family.shape g.H.Hasher.hash g.H.Digest.Spelled.spelling (g.H.Digest.Read.admits tt) g.O.Spelled.spelling ops _ _ same a b held.journal in
+    subst (λ (x : Joined g.row.H-Digest.Denot g.row.O-Cfg.Denot). k.items.start ≤ x.tree.boundary → k.tree.log.start ≡ x.tree.log.start) same (λ le. c.in-Ok.ensures.nodes_stay le tells ops here) low
+
+pub returns-in-Ok-clause-map_stays : goal.returns-in-Ok-clause-map_stays
+returns-in-Ok-clause-map_stays g c low tells =
+    let a = g.V.Volume.state c.args.vol.now in
+    let b = g.V.Volume.state c.prune.new.vol in
+    let k = c.in-Ok.journal in
+    let same : c.self.inside.journal ≡ c.args.self.journal = ap (λ (d : DbView g.row.F.Denot g.row.H-Digest.Denot g.row.O.Denot g.row.O-Cfg.Denot). d.journal) c.self.view_is in
+    subst (λ (x : Joined g.row.H-Digest.Denot g.row.O-Cfg.Denot). k.items.start ≤ x.tree.boundary → (b.map x.tree.metadata ≡ a.map x.tree.metadata) × MapStays x.tree.metadata a b) same (λ le. c.in-Ok.ensures.map_stays le tells) low

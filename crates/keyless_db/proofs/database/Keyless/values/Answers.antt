@@ -6,9 +6,9 @@ use Rattle.merkle_full.proofs.ListLemmas.{there_is}
 use Rattle.journal_base.specs.Items.{items_of}
 use Rattle.log_model.specs.Reads.{value_at}
 use Rattle.chain_core.specs.declared.error.Error.TheVariants.{Volume, Memory}
-use Rattle.keyless_db.specs.Reading.{IsReadAt, IsReadFault, below_start, from_start}
+use Rattle.keyless_db.specs.Reading.{IsAllowedAt, IsFirstFault, IsReadAt, IsReadFault, below_start, from_start}
 use Rattle.keyless_db.proofs.FaultLemmas.{contains_at, err_handed, memory_fault, read_at_still, read_still}
-use Rattle.keyless_db.proofs.KeptReadLemmas.{each_more, each_all}
+use Rattle.keyless_db.proofs.KeptReadLemmas.{each_more, each_first, each_all}
 use Rattle.keyless_db.proofs.ReadLemmas.{all_at, value_there}
 use Rattle.keyless_db.proofs.SeveralLemmas.{answers_by, fit_within, so_far_more, so_far_all, so_far_refused}
 use Rattle.keyless_db.proofs.StillLemmas.{held_still, reads_err, reads_memory}
@@ -100,3 +100,31 @@ returns-clause-told g c tells k l v at there = each_all (λ n v. g.V.Volume.tell
 
 pub returns-clause-count : goal.returns-clause-count
 returns-clause-count g c = omega (arith, c.loop-i.invariant.valued.count, c.loop-i.invariant.within, c.loop-i-test.false)
+
+pub returns-in_err-value-clause-first : goal.returns-in_err-value-clause-first
+returns-in_err-value-clause-first g c =
+    let tells = g.V.Volume.tells in
+    let a = g.V.Volume.state c.args.vol.now in
+    let db = c.args.self.now in
+    let locs = c.args.locs.now in
+    let l = c.as_u64-location.result in
+    let at : slice_get locs c.loop-i.i ≡ Some l =
+    slice_get_read locs (length locs) c.loop-i.i c.index-locs-i.result refl c.loop-i-test.true c.index-locs-i.is ∙ ap Some (sym c.as_u64-location.ensures) in
+    let items = items_of g.O.Spelled.spelling g.O.Read.admits db.journal.items a in
+    let e = c.in_err-value.field-0.0 in
+    let fault = read_still g.row.F.Denot tells g.O.Spelled.spelling g.O.Read.admits db.journal.items a (g.V.Volume.state c.loop-i.vol) c.loop-i.invariant.so_far.contents l e c.in_err-value.ensures.fault in
+    err_handed c.from_residual.result e (IsFirstFault (λ n. tells → IsAllowedAt items n) (IsReadFault tells items) locs) c.from_residual.ensures.1
+    (each_first (λ n v. tells → IsReadAt g.O.Logged.meaning items n v) locs (λ n. tells → IsAllowedAt items n) (IsReadFault tells items) c.loop-i.i l c.loop-i.values.items e (λ n v told there. let was = told there in (was.0, was.1, was.2)) at c.loop-i.invariant.valued fault)
+
+pub returns-in_err-push-clause-first : goal.returns-in_err-push-clause-first
+returns-in_err-push-clause-first g c =
+    let tells = g.V.Volume.tells in
+    let a = g.V.Volume.state c.args.vol.now in
+    let db = c.args.self.now in
+    let locs = c.args.locs.now in
+    let l = c.as_u64-location.result in
+    let at : slice_get locs c.loop-i.i ≡ Some l =
+    slice_get_read locs (length locs) c.loop-i.i c.index-locs-i.result refl c.loop-i-test.true c.index-locs-i.is ∙ ap Some (sym c.as_u64-location.ensures) in
+    let items = items_of g.O.Spelled.spelling g.O.Read.admits db.journal.items a in
+    err_handed c.from_residual-in_err-push.result Memory (IsFirstFault (λ n. tells → IsAllowedAt items n) (IsReadFault tells items) locs) c.from_residual-in_err-push.ensures.1
+    (each_first (λ n v. tells → IsReadAt g.O.Logged.meaning items n v) locs (λ n. tells → IsAllowedAt items n) (IsReadFault tells items) c.loop-i.i l c.loop-i.values.items Memory (λ n v told there. let was = told there in (was.0, was.1, was.2)) at c.loop-i.invariant.valued (memory_fault tells items l))
