@@ -4,6 +4,7 @@ use codec_base::Bytes;
 use memory_volume::{LogChoice, MemoryVolume};
 use std::alloc::Global;
 use std::str::SplitWhitespace;
+use volume_base::Volume;
 
 /// More logs than a volume of the cases has.
 const MOST_LOGS: u64 = 8;
@@ -52,6 +53,21 @@ fn put(
     Ok(())
 }
 
+/// Begins a log at a later item, as a prune of that log alone does.
+fn begin(volume: &mut MemoryVolume, words: SplitWhitespace<'_>) -> Result<(), ScriptError> {
+    let mut words = words;
+    let Some(name) = words.next() else {
+        return Err(ScriptError::Script);
+    };
+    let place = number(&mut words);
+    let (start, end) = volume.log_bounds(name)?;
+    if place < start || end < place {
+        return Err(ScriptError::Script);
+    }
+    volume.log_prune(name, place)?;
+    Ok(())
+}
+
 /// Does with a volume what a line says that ends a run.
 pub(crate) fn change(
     alloc: Global,
@@ -63,6 +79,7 @@ pub(crate) fn change(
         "/again" => {}
         "/crash" => *volume = volume.crash(&choices(alloc, words)?)?,
         "/put" => put(alloc, volume, words)?,
+        "/start" => begin(volume, words)?,
         _ => return Err(ScriptError::Script),
     }
     Ok(())

@@ -102,6 +102,14 @@ fn print_end(rt: &impl Print, end: End) -> Result<(), ScriptError> {
     Ok(())
 }
 
+/// Whether a run ends as the last one did, by the same fault.
+fn is_alike(last: &Option<(End, String)>, end: End, fault: &str) -> bool {
+    match last {
+        Some((before, told)) => *before == end && told.as_str() == fault,
+        None => false,
+    }
+}
+
 /// Prints where the run ends with each call failing in turn, and then with none; of calls that end it alike, one after
 /// another, the first alone.
 fn print_ends(
@@ -118,11 +126,11 @@ fn print_ends(
             print!(rt; "done, ")?;
             return print_end(rt, end);
         };
-        if last != Some(end) {
+        if !is_alike(&last, end, fault.as_str()) {
             print!(rt; "stopped {fault} after {} replies, ", end.replies)?;
             print_end(rt, end)?;
         }
-        last = Some(end);
+        last = Some((end, fault));
     }
     Err(ScriptError::Script)
 }

@@ -1,6 +1,6 @@
 -- What a read of a batch answers, by what the batch's own read says.
 use Rattle.std.proofs.Common.{◌≡◌, ◌⊎◌, inl, inr, ℕ, List, [], ◌∷◌, Bool, true, false, Option, Some, None, Ok, Err, refl, sym, ◌∙◌, ap, subst}
-use Rattle.std.specs.Prelude.{Result, IfOk, IfErr, nat_le, nat_lt, Contains, if◌then◌else◌}
+use Rattle.std.specs.Prelude.{◌↔◌, Result, IfOk, IfErr, nat_le, nat_lt, Contains, if◌then◌else◌}
 use Rattle.std.proofs.lemmas.Option.{none-some, same_Some}
 use Rattle.volume_base.specs.Volume.{State, Reads}
 use Rattle.volume_base.specs.declared.error.JournalError.{JournalError}
@@ -20,6 +20,7 @@ use Rattle.keyless_db.specs.Reading.{IsChainFault, IsReadFault, last_past, locat
 use Rattle.command_text.specs.declared.command.Answer.{Answer}
 use Rattle.command_text.specs.declared.command.Answer.TheVariants as answer
 use Rattle.twin_run.specs.ReadRefusals.{unread_of, unread_or, batch_read}
+use Rattle.twin_run.specs.Unread.{IsUnreadBy}
 
 -- ---- refusals that bounds tell
 
@@ -105,6 +106,47 @@ module _ {Op : Type 0} (tells : Type 0) (items : Items Op) (size : ℕ) where
       → IfErr r (λ e. (l : ℕ) × Contains ls l × IsChainFault tells items size (kept l) l e) → IfErr r (λ e. unread_of e ≡ None)
   chain_faults_at kept ls (Ok x) fault = tt
   chain_faults_at kept ls (Err e) fault = chain_fault (kept fault.0) fault.0 e fault.2
+
+-- ---- for which reasons an answer is a refusal
+
+abbrev pub RefusedFor : Refusal → Result Answer (Error Mmr)
+RefusedFor why = Ok (answer.Refused why)
+
+-- it is one exactly for these
+abbrev pub RefusesSo : (Refusal → Type 0) → Result Answer (Error Mmr) → Type 0
+RefusesSo unread q = (why : Refusal) → (q ≡ RefusedFor why) ↔ unread why
+
+same_answer : (a : Answer) (why : Refusal) → Ok a ≡ RefusedFor why → a ≡ answer.Refused why
+same_answer a why e = cc
+
+same_refusal : (r why : Refusal) → RefusedFor r ≡ RefusedFor why → r ≡ why
+same_refusal r why e = cc
+
+refuses_one : (unread : Refusal → Type 0) (q : Result Answer (Error Mmr)) (r : Refusal) → q ≡ RefusedFor r → ((why : Refusal) → r ≡ why → unread why) → ((why : Refusal) → unread why → r ≡ why) → RefusesSo unread q
+refuses_one unread q r is to from why = (λ e. to why (same_refusal r why (sym is ∙ e)), λ u. is ∙ ap RefusedFor (from why u))
+
+module _ (unread : Refusal → Type 0) where
+  -- an answer, and an error
+  pub so_ok : (q : Result Answer (Error Mmr)) → RefusesSo unread q → IfOk q (λ a. (why : Refusal) → (a ≡ answer.Refused why) ↔ unread why)
+  so_ok (Ok a) so = λ why. (λ e. (so why).0 (ap Ok e), λ u. same_answer a why ((so why).1 u))
+  so_ok (Err e) so = tt
+
+  pub so_err : (q : Result Answer (Error Mmr)) → RefusesSo unread q → IfErr q (λ e. (why : Refusal) → unread why → e ≡ db_error.Memory)
+  so_err (Ok a) so = tt
+  so_err (Err e) so = λ why u. absurd (let never = (so why).1 u in cc)
+
+module _ (Here : Type 0) (fit : Option Refusal) where
+  stale_only : (Here → ⊥) → (why : Refusal) → IsUnreadBy Here fit why → refusal.StaleRead ≡ why
+  stale_only away why (inl at) = sym at.1
+  stale_only away why (inr at) = absurd (away at.0)
+
+  unfit_only : Here → (r : Refusal) → fit ≡ Some r → (why : Refusal) → IsUnreadBy Here fit why → r ≡ why
+  unfit_only here r is why (inl at) = absurd (at.0 here)
+  unfit_only here r is why (inr at) = same_Some r why (sym is ∙ at.1)
+
+  never_unfit : Here → fit ≡ None → (why : Refusal) → IsUnreadBy Here fit why → ⊥
+  never_unfit here is why (inl at) = at.0 here
+  never_unfit here is why (inr at) = none-some why (sym is ∙ at.1)
 
 -- ---- how a read ends
 
@@ -206,6 +248,22 @@ module _ {T : Type 0} (shown : T → Answer) where
     read_refused r Here fit (inl s) = stays_so (batch_read shown r) s.same
     read_refused r Here fit (inr (inl u)) = stays_so (batch_read shown r) u.same
     read_refused r Here fit (inr (inr f)) = passed_stays r f.errors
+
+  -- ---- what memory tells
+
+  module _ (never : IsShown) where
+    passed_known : (unread : Refusal → Type 0) → ((why : Refusal) → unread why → ⊥) → (p : Result T (Error Mmr)) → IfErr p (λ e. unread_of e ≡ None) → RefusesSo unread (batch_read shown p)
+    passed_known unread not (Ok x) errors why = (λ e. absurd (never x why (same_answer (shown x) why e)), λ u. absurd (not why u))
+    passed_known unread not (Err e) none why = (λ at. absurd (let so = sym (passed_err e none) ∙ at in cc), λ u. absurd (not why u))
+
+    pub read_known : (r : Result T (Error Mmr)) (Here Same : Type 0) (fit : Option Refusal) → Ends r Here Same fit → RefusesSo (λ why. IsUnreadBy Here fit why) (batch_read shown r)
+    read_known r Here Same fit (inl s) =
+        refuses_one (λ why. IsUnreadBy Here fit why) (batch_read shown r) refusal.StaleRead (read_err r db_error.StaleRead refusal.StaleRead s.is refl)
+        (λ why e. inl (s.away, sym e)) (stale_only Here fit s.away)
+    read_known r Here Same fit (inr (inl u)) =
+        refuses_one (λ why. IsUnreadBy Here fit why) (batch_read shown r) u.why (read_err r u.error u.why u.is u.told)
+        (λ why e. inr (u.here, u.unfit ∙ ap Some e)) (unfit_only Here fit u.here u.why u.unfit)
+    read_known r Here Same fit (inr (inr f)) = passed_known (λ why. IsUnreadBy Here fit why) (never_unfit Here fit f.here f.fits) r f.errors
 
   -- ---- of a good state
 

@@ -1,6 +1,6 @@
 -- The faults of both databases of a run, and what a volume is after a call that ends in one.
 use Rattle.std.proofs.Common.{◌≡◌, Option, Some, None, Ok, Err, refl, sym, ◌∙◌, ap, subst}
-use Rattle.std.specs.Prelude.{Result, IfErr, IsOk, IsErrOf, OnOk, MatchOption}
+use Rattle.std.specs.Prelude.{Result, IsErrOf, OnOk, MatchOption}
 use Rattle.log_model.specs.declared.refusal.Refusal.{Refusal}
 use Rattle.log_model.specs.declared.refusal.Refusal.TheVariants as refusal
 use Rattle.chain_core.specs.Answers.{IsOutside}

@@ -1,5 +1,5 @@
 -- What commands make of both sides of a run.
-use Rattle.std.proofs.Common.{◌≡◌, inl, inr, ℕ, ◌<◌, ◌≤◌, ◌^◌, List, [], ◌∷◌, Option, Some, None, Ok, Err, refl, sym, ◌∙◌, ap, subst}
+use Rattle.std.proofs.Common.{◌≡◌, inl, inr, ℕ, ◌<◌, ◌≤◌, ◌^◌, [], ◌∷◌, Option, Some, None, Ok, Err, refl, sym, ◌∙◌, ap, subst}
 use Rattle.std.specs.FinMap as finmap
 use Rattle.std.specs.Prelude.{Result, IfOk, IfErr, IsOk}
 use Rattle.std.proofs.lemmas.Bool.{cases_lt}
@@ -167,20 +167,17 @@ pub next_good : (config : Config) (s : State Operation) (c : Command) → IsGood
 next_good config s c good = are_good.runs config s (c ∷ []) good
 
 module _ (config : Config) (image : Image) (t : Twins) (s : State Operation) where
-  pub full_stands : IsTold s → IsTwinsOf config image t s
-      → StandsGood full_kind config image t.full.db t.full.numbers s
-  full_stands told is = record {
-    told = told;
+  pub full_stands : IsTwinsOf config image t s → StandsGood full_kind config image t.full.db t.full.numbers s
+  full_stands is = record {
     good = is.good;
     under = is.of.under.full_under;
     few = is.few;
     is = is.full;
   }
 
-  pub compact_stands : IsTold s → IsTwinsOf config image t s
+  pub compact_stands : IsTwinsOf config image t s
       → StandsGood compact_kind config image t.compact.db t.compact.numbers s
-  compact_stands told is = record {
-    told = told;
+  compact_stands is = record {
     good = is.good;
     under = is.of.under.compact_under;
     few = is.few;

@@ -1,6 +1,7 @@
 -- What a command makes of a side, under the command's name.
-use Rattle.std.proofs.Common.{◌≡◌, ℕ, Ok, Err, refl, sym, ap, subst}
-use Rattle.std.specs.Prelude.{Result, IfOk}
+use Rattle.std.proofs.Common.{◌≡◌, ℕ, Ok, Err, refl, sym, subst}
+use Rattle.std.specs.Prelude.{Result, IfOk, IfErr}
+use Rattle.std.proofs.lemmas.Result.{IfOk-weaker, IfErr-weaker}
 use Rattle.volume_base.specs.Moments.{Image, present}
 use Rattle.volume_base.specs.Volume as volume
 use Rattle.volume_base.specs.Volume.{SameContents}
@@ -61,20 +62,37 @@ module _ {Db S U : Type 0} (k : Kind Db S U) where
 
 -- what a question answers, under the name of its command
 module _ {Db S U E : Type 0} (k : Kind Db S U) (tells : Type 0) (was : Image) (db : Db) (n : Numbers S U) where
+  -- of a good state whose lists size and root tell
+  pub asked_told : (r : Result Answer E) (c d : Command) → c ≡ d
+      → IfOk r (λ a. tells → (config : Config) (s : State Operation) → IsTold s → StandsGood k config was db n s
+      → a ≡ (step config s d).0)
+      → IfOk r (λ a. tells → (config : Config) (s : State Operation) → IsTold s → StandsGood k config was db n s
+      → a ≡ (step config s c).0)
+  asked_told r c d e ok = subst (λ (x : Command). IfOk r (λ a. tells → (config : Config) (s : State Operation)
+      → IsTold s → StandsGood k config was db n s → a ≡ (step config s x).0)) (sym e) ok
+
+  -- or of any
   pub asked : (r : Result Answer E) (c d : Command) → c ≡ d
       → IfOk r (λ a. tells → (config : Config) (s : State Operation) → StandsGood k config was db n s
       → a ≡ (step config s d).0)
-      → IfOk r (λ a. tells → (config : Config) (s : State Operation) → StandsGood k config was db n s
+      → IfOk r (λ a. tells → (config : Config) (s : State Operation) → IsTold s → StandsGood k config was db n s
       → a ≡ (step config s c).0)
-  asked r c d e ok = subst (λ (x : Command). IfOk r (λ a. tells → (config : Config) (s : State Operation)
-      → StandsGood k config was db n s → a ≡ (step config s x).0)) (sym e) ok
+  asked r c d e ok =
+      asked_told r c d e (IfOk-weaker r _ _ (λ a is told config s lists. is told config s) ok)
+
+  -- what fails so of any, fails so of these
+  pub fails_as : (P : E → Type 0) (r : Result Answer E)
+      → IfErr r (λ e. tells → (config : Config) (s : State Operation) → StandsGood k config was db n s → P e)
+      → IfErr r (λ e. tells → (config : Config) (s : State Operation) → IsTold s → StandsGood k config was db n s
+      → P e)
+  fails_as P r fails = IfErr-weaker r _ _ (λ e is told config s lists. is told config s) fails
 
   -- where it is answered of each state for which the side stands
   pub asked_of : (r : Result Answer E) (c d : Command) → c ≡ d
       → IfOk r (λ a. (image : Image) (s : State Operation) → IsStateOf k image db n s → (config : Config)
       → a ≡ (step config s d).0)
-      → IfOk r (λ a. tells → (config : Config) (s : State Operation) → StandsGood k config was db n s
+      → IfOk r (λ a. tells → (config : Config) (s : State Operation) → IsTold s → StandsGood k config was db n s
       → a ≡ (step config s c).0)
-  asked_of (Ok a) c d e ok = λ told config s stands.
+  asked_of (Ok a) c d e ok = λ told config s lists stands.
       subst (λ (x : Command). a ≡ (step config s x).0) (sym e) (ok was s stands.is config)
   asked_of (Err f) c d e ok = tt

@@ -143,7 +143,6 @@ pub good_over : (c : Config) (was is : volume.State) → SameContents was is →
     (numbers : Numbers SealedView UnsealedView) (s : State Operation)
     → StandsGood compact_kind c (present was) db numbers s → StandsGood compact_kind c (present is) db numbers s
 good_over c was is same db numbers s good = record {
-  told = good.told;
   good = good.good;
   under = good.under;
   few = good.few;

@@ -2,7 +2,7 @@
 use Rattle.std.proofs.Common.{◌≡◌, ◌≢◌, inl, inr, ℕ, zero, suc, ◌+◌, ◌-◌, ◌^◌, ◌<◌, ◌≤◌, List, [], ◌∷◌, length, take, Option, Some, None, refl, sym, ◌∙◌, ap, subst, append-nil, arith}
 use Rattle.std.specs.Prelude.{slice_get, unwrap_or, IsSome, Result, Ok, Err, IfErr}
 use Rattle.codec_base.specs.Codec.{Reading, IsLawful}
-use Rattle.codec_base.specs.Combine.{through_at, through_lawful}
+use Rattle.codec_base.specs.Combine.{through_lawful}
 use Rattle.codec_base.specs.Parts.{byte_list, admits_bytes, byte_list_at, whole}
 use Rattle.codec_base.specs.PartsLaws.{byte_list_lawful}
 use Rattle.codec_base.specs.declared.error.CodecError.{CodecError}
@@ -36,6 +36,7 @@ use Rattle.compact_db.proofs.StateLemmas.{last_taken, kept_size}
 use Rattle.compact_db.proofs.SizeLemmas.{size_some}
 use Rattle.twin_run.specs.Operation.{Operation, meaning, sha}
 use Rattle.twin_run.specs.CompactKind.{CompactView, IsOpenable}
+use Rattle.twin_run.specs.Faults.{read_under}
 use Rattle.twin_run.proofs.CompactOpening.{under_cap}
 use Rattle.twin_run.proofs.CompactSizes.{IsFound, found_last}
 use Rattle.twin_run.proofs.CompactStanding.{has_states, is_latest, some_kept, log_fresh}
@@ -46,7 +47,7 @@ abbrev pub Admits : LengthCfg → Operation → Type 0
 Admits cfg op = variable_admits (admits_bytes cfg.max) (parts op)
 
 abbrev pub Reads : LengthCfg → List ℕ → Reading Operation
-Reads cfg = through_at of_parts (variable_at (byte_list_at cfg.max))
+Reads cfg = read_under cfg.max
 
 operation_lawful : (cfg : LengthCfg) → IsLawful meaning.encoding (Admits cfg) (Reads cfg)
 operation_lawful cfg =

@@ -12,7 +12,7 @@ use Rattle.volume_base.specs.Log.{Log, end_of}
 use Rattle.volume_base.specs.Moments.{Image, present}
 use Rattle.volume_base.specs.Volume.{State, Map}
 use Rattle.journal_base.specs.Items.{Items, Spells, items_of}
-use Rattle.journal_base.specs.View.{View, log_of, capped, IsHeld}
+use Rattle.journal_base.specs.View.{View, log_of, IsHeld}
 use Rattle.tree_shape.specs.Mmr.{mmr}
 use Rattle.tree_shape.specs.Sha256Codec.{bytes_of, IsDigest}
 use Rattle.tree_shape.specs.declared.mmr.Mmr.{Mmr}

@@ -1,6 +1,6 @@
 -- What reads of the full side stand on: a good state's list and its batches' lists, and what is kept of them.
-use Rattle.std.proofs.Common.{◌≡◌, ◌⊎◌, inl, inr, ℕ, zero, suc, ◌+◌, ◌<◌, ◌≤◌, ◌^◌, Bool, true, false, ◌||◌, List, [], ◌∷◌, ◌++◌, length, take, drop, get_or, Option, Some, None, Ok, Err, refl, sym, ◌∙◌, ap, subst, arith}
-use Rattle.std.specs.Prelude.{Result, IfOk, IfErr, IfSome, IsSomeAnd, Contains, min, slice_get, slice_index_or, unwrap_or, reverse}
+use Rattle.std.proofs.Common.{◌≡◌, ◌⊎◌, inl, inr, ℕ, zero, suc, ◌+◌, ◌<◌, ◌≤◌, ◌^◌, Bool, true, false, ◌||◌, List, [], ◌∷◌, ◌++◌, length, take, drop, Option, Some, None, refl, sym, ◌∙◌, ap, subst, arith}
+use Rattle.std.specs.Prelude.{IfSome, IsSomeAnd, Contains, min, slice_get, slice_index_or, unwrap_or, reverse}
 use Rattle.std.specs.Bool.{Decides}
 use Rattle.std.specs.List.{AllByRecursion}
 use Rattle.std.specs.Option.{option_map, option_map_or, ForSome}
@@ -18,17 +18,17 @@ use Rattle.auth_journal.specs.Batched.{IsSealedOfItems}
 use Rattle.op_codec.specs.Keyless.{parts, variable_admits}
 use Rattle.op_codec.specs.declared.keyless.Operation.TheVariants.{Append, Commit}
 use Rattle.log_model.specs.Good.{AnyList, EndsWithCommit, FloorFits, FloorsRise, ValuesAre, IsDurable, IsGoodList, IsGoodBatch, ParentFits, HasParent}
-use Rattle.log_model.specs.Machine.{State, batch_at, stands_at, max_leaves}
+use Rattle.log_model.specs.Machine.{State, batch_at, max_leaves}
 use Rattle.log_model.specs.Operations.{floor_of}
 use Rattle.log_model.specs.Reach.{as_sealed, linked, floor_below, stands_on, may_read_sealed, may_read_unsealed}
 use Rattle.log_model.specs.StateBatches as batches
 use Rattle.log_model.proofs.FloorLemmas.{floor_later, floor_within}
 use Rattle.log_model.proofs.LogLemmas.{ends_at}
-use Rattle.log_model.proofs.ReachLemmas.{floor_here, lists_decide}
-use Rattle.chain_core.specs.Commitments.{is_same, is_same_equivalence, is_same-exact}
+use Rattle.log_model.proofs.ReachLemmas.{lists_decide}
+use Rattle.chain_core.specs.Commitments.{is_same_equivalence, is_same-exact}
 use Rattle.chain_core.specs.MarkedPool.{NeverRise}
 use Rattle.chain_core.specs.Marks.{sizes_back}
-use Rattle.chain_core.specs.Reached.{item_at, linked_item, parent_floor}
+use Rattle.chain_core.specs.Reached.{linked_item}
 use Rattle.chain_core.specs.Slots.{slot_at, IsAlive}
 use Rattle.chain_core.specs.States.{sizes}
 use Rattle.chain_core.specs.declared.commitment.Commitment.{Commitment}
@@ -43,8 +43,9 @@ use Rattle.twin_run.specs.Commitments.{commitment_of, same_state, IsStateIn, Are
 use Rattle.twin_run.specs.Config.{Config}
 use Rattle.twin_run.specs.FullKind.{FullView, SealedView, UnsealedView, IsHeldIn, full_kind}
 use Rattle.twin_run.specs.Operation.{Operation, meaning, sha, one_list, same_operation, operation_decide}
-use Rattle.twin_run.specs.StateOf.{LinkIs, Stands, IsUnsealedOf, IsItemOf, IsSealedAs, IsUnsealedAs, same_lists, StandsGood}
+use Rattle.twin_run.specs.StateOf.{LinkIs, IsSealedAs, IsUnsealedAs, StandsGood}
 use Rattle.twin_run.specs.Step.{plain_commit}
+use Rattle.twin_run.specs.Told.{IsTold}
 use Rattle.twin_run.specs.declared.numbers.Numbers.{Numbers}
 use Rattle.twin_run.proofs.Fronts.{stands_decides}
 use Rattle.twin_run.proofs.Handlers.{stands_same, begins_where}
@@ -226,8 +227,8 @@ module _ (c : Config) (image : Image) (db : FullView) (n : Numbers SealedView Un
         let floor = sealed_good.4 in
         omega (arith, le, floor)
 
-    pub sealed_told : may_read_sealed same_state s d ≡ may_read_sealed one_list s d
-    sealed_told = stands.told.sealed_reads b d at
+    pub sealed_told : IsTold s → may_read_sealed same_state s d ≡ may_read_sealed one_list s d
+    sealed_told told = told.sealed_reads b d at
 
   -- What a read of a batch stands on: whether it may be read here, from which floor on, and that its chain keeps what
   -- the database hasn't.
@@ -241,9 +242,9 @@ module _ (c : Config) (image : Image) (db : FullView) (n : Numbers SealedView Un
   told_decides : (p q : Bool) (Here : Type 0) → p ≡ q → Decides p Here → Decides q Here
   told_decides p q Here same d = subst (λ t. Decides t Here) same d
 
-  pub reads_sealed : (b : ℕ) (x : SealedView) (d : batches.SealedBatch Operation) → batch_at s b ≡ batches.Sealed d → IsSealedAs full_kind x d → NeverRise (sizes_back x.bounds)
+  pub reads_sealed : IsTold s → (b : ℕ) (x : SealedView) (d : batches.SealedBatch Operation) → batch_at s b ≡ batches.Sealed d → IsSealedAs full_kind x d → NeverRise (sizes_back x.bounds)
       → CanRead (may_read_sealed one_list s d) (IsInChain x db) d.list d.floor x.bounds.inactivity_floor x.tree.nodes.first
-  reads_sealed b x d at like back = record {
+  reads_sealed told b x d at like back = record {
     decides = decides;
     front = λ here. let more = sealed_begins d (decides.1 here) in begins_front s.ops d.list more.0 more.1;
     floor_is = λ here. sym like.floor;
@@ -252,7 +253,7 @@ module _ (c : Config) (image : Image) (db : FullView) (n : Numbers SealedView Un
   }
     where
       decides : Decides (may_read_sealed one_list s d) (IsInChain x db)
-      decides = told_decides (may_read_sealed same_state s d) (may_read_sealed one_list s d) (IsInChain x db) (sealed_told b d at) (sealed_decides x d like)
+      decides = told_decides (may_read_sealed same_state s d) (may_read_sealed one_list s d) (IsInChain x db) (sealed_told b d at told) (sealed_decides x d like)
 
   -- ---- an unsealed batch
 
@@ -272,7 +273,7 @@ module _ (c : Config) (image : Image) (db : FullView) (n : Numbers SealedView Un
     pub item_is : linked_item pool u.parent ≡ None
     pub alone : w.parent ≡ None
 
-  module _ (b : ℕ) (u : UnsealedView) (w : batches.UnsealedBatch Operation) (at : batch_at s b ≡ batches.Unsealed w) (like : IsUnsealedAs full_kind u w) where
+  module _ (lists : IsTold s) (b : ℕ) (u : UnsealedView) (w : batches.UnsealedBatch Operation) (at : batch_at s b ≡ batches.Unsealed w) (like : IsUnsealedAs full_kind u w) where
     abbrev Pool : List (Option (HeldBatch SealedView))
     Pool = n.pool
 
@@ -400,7 +401,7 @@ module _ (c : Config) (image : Image) (db : FullView) (n : Numbers SealedView Un
     -- ---- either
 
     decides_told : Decides (may_read_unsealed same_state s w) (Contains (read_states Pool u) db.state) → Decides (may_read_unsealed one_list s w) (Contains (read_states Pool u) db.state)
-    decides_told told = told_decides (may_read_unsealed same_state s w) (may_read_unsealed one_list s w) (Contains (read_states Pool u) db.state) (stands.told.unsealed_reads b w at) told
+    decides_told told = told_decides (may_read_unsealed same_state s w) (may_read_unsealed one_list s w) (Contains (read_states Pool u) db.state) (lists.unsealed_reads b w at) told
 
     abbrev pub CanReadHere : Type 0
     CanReadHere = CanRead (may_read_unsealed one_list s w) (Contains (read_states Pool u) db.state) w.list (floor_below meaning s w) (read_floor Pool u (floor_in meaning db)) (chain_start Pool u)

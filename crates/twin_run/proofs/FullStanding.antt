@@ -1,5 +1,5 @@
 -- An opening of the full database over logs and a map that stand for a list.
-use Rattle.std.proofs.Common.{◌≡◌, ◌⊎◌, inl, inr, ℕ, ◌-◌, ◌+◌, ◌<◌, ◌≤◌, ◌^◌, false, List, ◌++◌, length, map, Option, Some, None, Ok, Err, refl, sym, ◌∙◌, ap, subst, arith, length-append}
+use Rattle.std.proofs.Common.{◌≡◌, ◌⊎◌, inl, inr, ℕ, ◌-◌, ◌+◌, ◌<◌, ◌≤◌, ◌^◌, false, List, ◌++◌, length, map, Option, Some, Ok, Err, sym, ap, subst, arith, length-append}
 use Rattle.std.specs.Prelude.{slice_get, Result, IfErr}
 use Rattle.volume_base.specs.Log.{Log, end_of}
 use Rattle.volume_base.specs.Volume.{Map}
@@ -15,7 +15,6 @@ use Rattle.tree_shape.specs.MmrPlaces.{mmr_lawful}
 use Rattle.tree_shape.specs.MmrSize.{mmr_small}
 use Rattle.tree_shape.specs.Sha256Codec.{bytes_of, IsDigest}
 use Rattle.tree_shape.specs.declared.mmr.Mmr.{Mmr}
-use Rattle.tree_shape.specs.declared.sha256.Sha256Digest.{Sha256Digest}
 use Rattle.tree_store.specs.Stored.{TreeStands}
 use Rattle.tree_store.specs.Stores as stores
 use Rattle.tree_store.specs.declared.error.Error as tree_error

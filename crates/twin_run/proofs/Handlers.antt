@@ -32,7 +32,6 @@ use Rattle.twin_run.specs.Commitments.{same_state, AreBounds}
 use Rattle.twin_run.specs.Told.{IsTold}
 use Rattle.volume_base.specs.Moments.{Image}
 use Rattle.twin_run.specs.Kind.{Kind, Kept, kept_of, with_list, size_of, snapshot_of}
-use Rattle.twin_run.specs.Config.{Config}
 use Rattle.twin_run.specs.Step.{Outcome, refused, refusal_in, metadata_length, sealed_or_lost, seal_refusal, begin, begin_on, append_to, seal, apply, hold, release, snapshot, size, metadata}
 use Rattle.twin_run.specs.StateOf.{HaveMarks, Likeness, LinkIs, IsUnsealedOf, IsItemOf, IsSealedOf, IsEntryOf, AreBatchesOf, AreFew, HasRoom, if_held, held_in, IsSealedAs, IsUnsealedAs, same_lists, any_lists, IsShaped, IsStateOf, Meets, AnyState, Follows, Answers, Takes}
 use Rattle.twin_run.specs.declared.numbers.Batch.{Batch}

@@ -1,15 +1,15 @@
 -- Reads of lists of which all that may be read is kept.
-use Rattle.std.proofs.Common.{◌≡◌, ◌⊎◌, inl, inr, ℕ, suc, ◌<◌, ◌≤◌, Bool, true, false, ◌||◌, List, [], ◌∷◌, length, map, Option, Some, None, Ok, Err, refl, sym, ◌∙◌, ap, subst, arith}
+use Rattle.std.proofs.Common.{◌≡◌, inl, inr, ℕ, ◌≤◌, Bool, true, false, ◌||◌, List, [], ◌∷◌, length, map, Option, Some, None, Ok, Err, refl, sym, ◌∙◌, ap, subst, arith}
 use Rattle.std.specs.Prelude.{Result, IfOk, IfErr, nat_le, nat_lt, not, ◌&&◌, if◌then◌else◌}
 use Rattle.std.specs.Bool.{Decides}
 use Rattle.std.specs.List.{AllByRecursion}
 use Rattle.tree_shape.specs.declared.mmr.Mmr.{Mmr}
 use Rattle.log_model.specs.Machine.{State}
 use Rattle.log_model.specs.Reads as log
-use Rattle.log_model.specs.Reads.{or_else, refuse_if, unless_refused, unordered, first_below, last_outside, read_refusal, many_refusal, value_at, Reading}
+use Rattle.log_model.specs.Reads.{or_else, refuse_if, unless_refused, unordered, first_below, read_refusal, many_refusal, value_at, Reading}
 use Rattle.log_model.specs.declared.refusal.Refusal.{Refusal}
 use Rattle.log_model.specs.declared.refusal.Refusal.TheVariants as refusal
-use Rattle.chain_core.specs.Answers.{IsOutside, read_refusal_of}
+use Rattle.chain_core.specs.Answers.{IsOutside}
 use Rattle.chain_core.specs.declared.error.Error.{Error}
 use Rattle.keyless_db.specs.Reading as db
 use Rattle.keyless_db.specs.Reading.{AnswersAs, Kept, lost, last_past, locations_refusal, location_refusal, floored_refusal, first_refused}

@@ -43,6 +43,7 @@ pub mod TreeStanding
 pub mod FullStanding
 pub mod FullAgain
 pub mod HeldLog
+pub mod Lasting
 pub mod LeftStates
 pub mod LeftStarts
 pub mod Spelled

@@ -1,6 +1,6 @@
 -- Commands that leave the volume and both databases, and steps under the names of their commands.
-use Rattle.std.proofs.Common.{◌≡◌, ℕ, Option, Some, None, refl, sym, ap, subst}
-use Rattle.std.specs.Prelude.{Result, Ok, Err}
+use Rattle.std.proofs.Common.{◌≡◌, ℕ, Some, None, refl, sym, ap, subst}
+use Rattle.std.specs.Prelude.{Result}
 use Rattle.volume_base.specs.Volume as volume
 use Rattle.volume_base.specs.Volume.{Reads}
 use Rattle.volume_base.proofs.MomentLemmas.{past_same}

@@ -4,6 +4,7 @@ use Rattle.chain_core.specs.Answers.{IsOutside}
 use Rattle.chain_core.specs.declared.commitment.Commitment.{Commitment}
 use Rattle.chain_core.specs.declared.error.Error.{Error}
 use Rattle.chain_core.specs.declared.error.Error.TheVariants as error
+use Rattle.codec_base.specs.Codec.{Reading}
 use Rattle.codec_base.specs.Combine.{through_at}
 use Rattle.codec_base.specs.Parts.{byte_list_at, whole}
 use Rattle.codec_base.specs.declared.error.CodecError.{CodecError}
@@ -52,9 +53,13 @@ IsOwnFault Memory = Unit {0}
 
 -- ---- openings
 
--- The operation of which these are the bytes, whose value has at most this length; or why they are none's.
+-- The operation with which bytes begin, whose value has at most this length.
+abbrev pub read_under : ℕ → List ℕ → Reading Operation
+read_under limit = through_at of_parts (variable_at (byte_list_at limit))
+
+-- The operation of which these are the bytes; or why they are none's.
 abbrev pub decoded_under : ℕ → List ℕ → Result Operation CodecError
-decoded_under limit bytes = whole (through_at of_parts (variable_at (byte_list_at limit)) bytes)
+decoded_under limit bytes = whole (read_under limit bytes)
 
 -- An error of an opening of the full database under a cap, or none, whatever the volume holds: one of its journal's, or
 -- that the last operation is no commit; or a cap of 0.

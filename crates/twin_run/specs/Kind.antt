@@ -1,5 +1,5 @@
 -- What a database of the run and its batches stand for.
-use Rattle.std.specs.Prelude.{◌≡◌, ◌⊎◌, ℕ, ◌+◌, max, List, [], length, Option}
+use Rattle.std.specs.Prelude.{◌≡◌, ℕ, ◌+◌, max, List, [], length, Option}
 use Rattle.volume_base.specs.Moments.{Image}
 use Rattle.volume_base.specs.Names.{Names, EachOf}
 use Rattle.volume_base.specs.Volume as volume

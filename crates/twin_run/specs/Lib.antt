@@ -7,6 +7,7 @@ pub mod Trace
 pub mod GoodRuns
 pub mod Told
 pub mod Starts
+pub mod Lasting
 pub mod Kind
 pub mod About
 pub mod CompactKind
@@ -15,6 +16,7 @@ pub mod Reopening
 pub mod Openings
 pub mod Proving
 pub mod ReadRefusals
+pub mod Unread
 pub mod StateOf
 pub mod Leaving
 pub mod Durability

@@ -4,6 +4,7 @@ use Rattle.std.specs.Io.KnownBytes.{Appends, IsAtEnd}
 use Rattle.codec_base.specs.Causes.{Rose}
 use Rattle.stream_base.specs.Writing.{WritesFront}
 use Rattle.volume_base.specs.Moments.{Image}
+use Rattle.volume_base.specs.Volume as disk
 use Rattle.log_model.specs.Machine.{State}
 use Rattle.command_text.specs.declared.command.Command.{Command}
 use Rattle.command_text.specs.declared.command.Reply.{Reply}
@@ -19,6 +20,7 @@ use Rattle.command_text.specs.Grammar.{InputSays}
 use Rattle.command_text.specs.Bad.{IsFirstBad}
 use Rattle.command_text.specs.Text.{text_of}
 use Rattle.twin_run.specs.Generator.{generated, summary_of}
+use Rattle.twin_run.specs.Lasting.{IsLasting, EndsStored}
 use Rattle.twin_run.specs.Operation.{Operation}
 use Rattle.twin_run.specs.Starts.{OfEachStart, IsLeft}
 use Rattle.twin_run.specs.Trace.{trace, state_after, IsBegun, TellOneRoot}
@@ -129,6 +131,13 @@ module _ (image : Image) (words : List (List ℕ)) (left left' : Option (List �
     pub asked : IsAsked words left left' task commands
     pub left_so : OfEachStart standard_config image commands
         (λ now. IsLeft standard_config image' (state_after standard_config now commands))
+
+-- Where the last command of the words' run makes durable what is there, a crash now leaves both logs as they are.
+pub record Outlasts (words : List (List ℕ)) (left left' : Option (List ℕ)) (now : disk.State) : Type 0 where
+  pub task : Task
+  pub commands : List Command
+  pub asked : IsAsked words left left' task commands
+  pub lasting : EndsStored commands → IsLasting standard_config now
 
 -- The program ends before its run.
 abbrev pub IsEarly : Status → Type 0

@@ -46,7 +46,8 @@ pub record KeepsOperations (limit : ℕ) (cap : Option ℕ) (size : ℕ) (old ne
   pub later : old.start < size
   pub goes_on : GoesOn (meaning.encoding plain_commit) end (cut_to old end) new
 
--- Under a cap, or none, a log of witnesses is cut behind the last one within the cap, which is of this size.
+-- Under a cap, or none, a log of witnesses is cut behind one within the cap, which is of this size; the next one isn't
+-- within it, or there is none. Where their sizes rise it is the last one within the cap.
 pub record IsCutBehind (cap : Option ℕ) (size : ℕ) (old new : Log) : Type 0 where
   pub end : ℕ
   pub witness : Witness Mmr Sha256Digest
@@ -60,8 +61,8 @@ pub record GetsFirstWitness (size : ℕ) (old new : Log) : Type 0 where
   pub sized : size ≡ 1
   pub begun : new ≡ appended no_log (witness_text mmr sha meaning bytes_of (plain_commit ∷ []) 1 ∷ [])
 
--- Under a cap, or none, a log of witnesses is opened at this size, which isn't 0: it is cut behind the last one within
--- the cap; or it was empty from 0 on, and gets the first commit's.
+-- Under a cap, or none, a log of witnesses is opened at this size, which isn't 0: it is cut behind one within the cap;
+-- or it was empty from 0 on, and gets the first commit's.
 pub record KeepsWitnesses (cap : Option ℕ) (size : ℕ) (old new : Log) : Type 0 where
   pub some : 0 < size
   pub kept : IsCutBehind cap size old new ⊎ GetsFirstWitness size old new

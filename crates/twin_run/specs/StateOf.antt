@@ -14,13 +14,11 @@ use Rattle.chain_core.specs.Slots.{slot_at, holds_of}
 use Rattle.chain_core.specs.States.{sizes}
 use Rattle.chain_core.specs.declared.pool.HeldBatch.{HeldBatch}
 use Rattle.command_text.specs.declared.command.Answer.{Answer}
-use Rattle.command_text.specs.declared.command.Command.{Command}
 use Rattle.command_text.specs.declared.command.Reply.{Reply}
 use Rattle.twin_run.specs.Kind.{Kind, kept_of}
 use Rattle.twin_run.specs.Step.{Outcome, step, reply}
 use Rattle.twin_run.specs.Config.{Config}
 use Rattle.twin_run.specs.GoodRuns.{IsGoodState}
-use Rattle.twin_run.specs.Told.{IsTold}
 use Rattle.twin_run.specs.declared.numbers.Batch.{Batch}
 use Rattle.twin_run.specs.declared.numbers.Holding.{Holding}
 use Rattle.twin_run.specs.declared.numbers.Numbers.{Numbers}
@@ -172,11 +170,9 @@ module _ {Db S U : Type 0} (k : Kind Db S U) where
     pub batches : AreBatchesOf same_lists n.batches.items n.pool s.batches
     pub marks : HaveMarks n.batches.items n.pool
 
-  -- With these contents a side stands for a good state, which size and root tell, under the configuration that its
-  -- database was opened under.
+  -- With these contents a side stands for a good state, under the configuration that its database was opened under.
   pub record StandsGood (config : Config) (image : Image) (db : Db) (n : Numbers S U) (s : State Operation)
       : Type 0 where
-    pub told : IsTold s
     pub good : IsGoodState AnyList config.value_limit s
     pub under : k.is_under config db
     pub few : config.value_limit < 2 ^ 64

@@ -1,5 +1,5 @@
 -- What both databases of a run keep, and what they stand for.
-use Rattle.std.specs.Prelude.{◌≡◌, ℕ, ◌^◌, ◌<◌, length}
+use Rattle.std.specs.Prelude.{◌≡◌, ◌^◌, ◌<◌, length}
 use Rattle.volume_base.specs.Moments.{Image}
 use Rattle.volume_base.specs.Names.{Names, AreApart, joined}
 use Rattle.volume_base.specs.Volume as volume

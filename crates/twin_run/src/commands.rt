@@ -95,10 +95,10 @@ impl Side<Full> {
     ) -> Result<Answer, Error<Mmr>>
         requires shaped { IsShaped full_kind self.now.numbers }
         requires about { about_of command.now ≡ topic.Question }
-        ensures ok { IfOk result (λ a. V.tells → (c : Config) (s : State Operation) →
+        ensures ok { IfOk result (λ a. V.tells → (c : Config) (s : State Operation) → IsTold s →
             StandsGood full_kind c (present (V.state volume.old)) self.now.db self.now.numbers s →
             a ≡ (step c s command.now).0) }
-        ensures errors { IfErr result (λ e. V.tells → (c : Config) (s : State Operation) →
+        ensures errors { IfErr result (λ e. V.tells → (c : Config) (s : State Operation) → IsTold s →
             StandsGood full_kind c (present (V.state volume.old)) self.now.db self.now.numbers s → IsOutside e) }
         ensures no_item { NeedsNoItem command.now → (V.state volume.new).reads ≡ (V.state volume.old).reads }
         ensures reads { Reads V.tells Error.Volume (V.state volume.old) (V.state volume.new) result }

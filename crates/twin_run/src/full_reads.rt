@@ -12,6 +12,8 @@ ghost use Rattle.twin_run.specs.Operation.{Operation};
 ghost use Rattle.twin_run.specs.ReadRefusals.{batch_read, kept_refusal, kept_refusals};
 ghost use Rattle.twin_run.specs.StateOf.{IsShaped, StandsGood};
 ghost use Rattle.twin_run.specs.Step.{get, get_many, batch_get, batch_get_many};
+ghost use Rattle.twin_run.specs.Told.{IsTold};
+ghost use Rattle.twin_run.specs.Unread.{IsUnreadAt, AreUnreadAt};
 
 use crate::full_side::Full;
 use crate::numbers::Batch;
@@ -114,11 +116,14 @@ impl Side<Full> {
         location: u64,
     ) -> Result<Answer, Error<Mmr>>
         requires { IsShaped full_kind self.now.numbers }
-        ensures ok { IfOk result (λ a. V.tells → (c : Config) (s : State Operation) →
+        ensures ok { IfOk result (λ a. V.tells → (c : Config) (s : State Operation) → IsTold s →
             StandsGood full_kind c (present (V.state volume.old)) self.now.db self.now.numbers s →
             a ≡ (batch_get s b location (batch_at s b)).0) }
-        ensures errors { IfErr result (λ e. V.tells → (c : Config) (s : State Operation) →
+        ensures errors { IfErr result (λ e. V.tells → (c : Config) (s : State Operation) → IsTold s →
             StandsGood full_kind c (present (V.state volume.old)) self.now.db self.now.numbers s → IsOutside e) }
+        // Over any contents it refuses exactly what memory tells.
+        ensures known { (why : Refusal) → (result ≡ Ok (answer.Refused why))
+            ↔ IsUnreadAt self.now.db self.now.numbers b location why }
         ensures refused { IfOk result (λ a. (why : Refusal) → a ≡ answer.Refused why → volume.new ≡ volume.old) }
         ensures reads { Reads V.tells Error.Volume (V.state volume.old) (V.state volume.new) result }
     {
@@ -146,11 +151,16 @@ impl Side<Full> {
         locations: &Locations,
     ) -> Result<Answer, Error<Mmr>>
         requires { IsShaped full_kind self.now.numbers }
-        ensures ok { IfOk result (λ a. V.tells → (c : Config) (s : State Operation) →
+        ensures ok { IfOk result (λ a. V.tells → (c : Config) (s : State Operation) → IsTold s →
             StandsGood full_kind c (present (V.state volume.old)) self.now.db self.now.numbers s →
             a ≡ (batch_get_many s b locations.now (batch_at s b)).0) }
-        ensures errors { IfErr result (λ e. V.tells → (c : Config) (s : State Operation) →
+        ensures errors { IfErr result (λ e. V.tells → (c : Config) (s : State Operation) → IsTold s →
             StandsGood full_kind c (present (V.state volume.old)) self.now.db self.now.numbers s → IsOutside e) }
+        // Over any contents it refuses exactly what memory tells; or it fails there for want of memory.
+        ensures known { IfOk result (λ a. (why : Refusal) → (a ≡ answer.Refused why)
+            ↔ AreUnreadAt self.now.db self.now.numbers b locations.now why) }
+        ensures lacking { IfErr result (λ e. (why : Refusal) →
+            AreUnreadAt self.now.db self.now.numbers b locations.now why → e ≡ Error.Memory) }
         ensures refused { IfOk result (λ a. (why : Refusal) → a ≡ answer.Refused why → volume.new ≡ volume.old) }
         ensures reads { Reads V.tells Error.Volume (V.state volume.old) (V.state volume.new) result }
     {

@@ -10,7 +10,8 @@ ghost use Rattle.command_text.specs.declared.command.Command.{Command};
 ghost use Rattle.command_text.specs.Bad.{IsFirstBad};
 ghost use Rattle.command_text.specs.Grammar.{InputSays};
 ghost use Rattle.twin_run.specs.Config.{standard_config};
-ghost use Rattle.twin_run.specs.Outcome.{IsValid, IsWhole, IsInput, Runs, AreToRun, IsAtFault, HasLeft, IsAnswered, IsCutOff, IsStopped, IsEarly, IsReadStatus, IsRunStatus, fault_status, output_of};
+ghost use Rattle.twin_run.specs.Outcome.{IsValid, IsWhole, IsInput, Runs, AreToRun, IsAtFault, HasLeft, Outlasts, IsAnswered, IsCutOff, IsStopped, IsEarly, IsReadStatus, IsRunStatus, fault_status, output_of};
+ghost use Rattle.twin_run.specs.Lasting.{IsLasting, EndsStored};
 ghost use Rattle.twin_run.specs.Starts.{OfEachStart, IsLeft, twin_names};
 ghost use Rattle.twin_run.specs.Trace.{state_after};
 ghost use Rattle.twin_run.specs.Words.{WordsSay, HaveNoForm, texts_of};
@@ -122,6 +123,8 @@ fn run_and_write<O: Sink, V: Volume>(
         OfEachStart standard_config (present (V.state volume.old)) commands.now
         (λ now. IsLeft standard_config (present (V.state volume.new))
         (state_after standard_config now commands.now)) }
+    ensures durable { ((result ≡ Status.Done) ⊎ (result ≡ Status.WriteFault)) → V.tells →
+        EndsStored commands.now → IsLasting standard_config (V.state volume.new) }
     ensures no_fault { ((result ≡ Status.Done) ⊎ (result ≡ Status.WriteFault)) →
         (V.state volume.new).faults ≡ (V.state volume.old).faults }
     ensures names { V.tells → NamesCall (twin_names standard_config) (V.state volume.old) (V.state volume.new) }
@@ -180,6 +183,9 @@ pub fn twins_main<I: Source, O: Sink, V: Volume>(
     ensures left { ((result ≡ Status.Done) ⊎ (result ≡ Status.WriteFault)) → V.tells →
         HasLeft (present (V.state volume.old)) (texts_of words.now) (I.left input.old) (I.left input.new)
         (present (V.state volume.new)) }
+    // And where its last command is a commit or a sync, or it has none, a crash leaves both as they are.
+    ensures lasting { ((result ≡ Status.Done) ⊎ (result ≡ Status.WriteFault)) → V.tells →
+        Outlasts (texts_of words.now) (I.left input.old) (I.left input.new) (V.state volume.new) }
     ensures no_fault { ((result ≡ Status.Done) ⊎ (result ≡ Status.WriteFault)) →
         (V.state volume.new).faults ≡ (V.state volume.old).faults }
 

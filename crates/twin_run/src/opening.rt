@@ -48,8 +48,8 @@ fn lowered<V: Volume>(
     ensures standing { IfErr result (λ e. V.tells → (list : List Operation) (sizes : List ℕ) (start wstart : ℕ) →
         IsFullDbOf (kept_full list sizes start wstart) (present (V.state volume.old)) full →
         OpensAgain config.now start size list → IsOutside e) }
-    // Whatever the volume holds, it fails by one of these alone. What a first opening has left of a log of operations is
-    // then what an opening under this size leaves of that log.
+    // Whatever the volume holds, it fails by one of these alone. What a first opening has left of a log of operations
+    // is then what an opening under this size leaves of that log.
     ensures errors { IfErr result (IsOfFullOpening (Some size)) }
     ensures operations { IfOk result (λ db. V.tells → (first : Log) → db.state.size ≡ size →
         KeepsOperations config.now.value_limit None full.state.size first
@@ -91,8 +91,9 @@ pub fn realign<V: Volume>(
     // Whatever the volume holds, an error that is told of contents is one of that database's opening.
     ensures causes { IfErr result (IsOfOpenings V.tells config.now) }
     // And the log of operations keeps a front of what it has, up to its last commit within the one size; or it begins
-    // at 0 and has none there, and gets the first commit. That of witnesses keeps the most that the operations allow;
-    // or it was empty from 0 on, and gets the first commit's. Neither is opened where it is empty past 0.
+    // at 0 and has none there, and gets the first commit. That of witnesses keeps a front whose last witness is within
+    // what the operations allow, and the next one isn't, or there is none: the most, where their sizes rise. Or it was
+    // empty from 0 on, and gets the first commit's. Neither is opened where it is empty past 0.
     ensures operations { IfOk result (λ r. V.tells → let size = (full_kind.state r.0).size in
         KeepsOperations config.now.value_limit (Some size) size
         ((V.state volume.old).log config.now.log) ((V.state volume.new).log config.now.log)) }

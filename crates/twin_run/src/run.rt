@@ -5,6 +5,7 @@ ghost use Rattle.volume_base.specs.Moments.{present};
 ghost use Rattle.volume_base.specs.Names.{NamesCall};
 ghost use Rattle.volume_base.specs.Volume.{Changes, StaysSteady};
 ghost use Rattle.twin_run.specs.Faults.{IsCorrupt, IsOwnFault};
+ghost use Rattle.twin_run.specs.Lasting.{IsLasting, EndsStored};
 ghost use Rattle.twin_run.specs.Starts.{OfEachStart, IsLeft, twin_names};
 ghost use Rattle.twin_run.specs.Trace.{trace, state_after, IsBegun, TellOneRoot};
 ghost use Rattle.twin_run.specs.declared.ending.Fault.TheVariants.{Volume, Memory};
@@ -36,6 +37,7 @@ fn answer_all<V: Volume>(
     ensures fewer { OnErr result (length replies.new ≤ length commands.now) }
     ensures left { OnOk result (V.tells → OfEachStart config.now (present (V.state volume.old)) commands.now
         (λ now. IsLeft config.now (present (V.state volume.new)) (state_after config.now now commands.now))) }
+    ensures durable { OnOk result (V.tells → EndsStored commands.now → IsLasting config.now (V.state volume.new)) }
     ensures corrupt { IfErr result (λ fault. V.tells → OfEachStart config.now (present (V.state volume.old))
         commands.now (λ now. IsCorrupt fault → ⊥)) }
     ensures own { IfErr result IsOwnFault }
@@ -85,10 +87,13 @@ pub fn run_twins<V: Volume>(
     ensures equal_so_far { IfErr result (λ s. TellOneRoot s.replies) }
 
     // After a whole run the operation log holds what is kept of the list machine's last list, the node log and the map
-    // stand for its tree, and the witness log has its witnesses at the applied sizes. All this stands for the last state
-    // without its batches, so the next run may begin there.
+    // stand for its tree, and the witness log has its witnesses at the applied sizes. All this stands for the last
+    // state without its batches, so the next run may begin there.
     ensures left { V.tells → OfEachStart config.now (present (V.state volume.old)) commands.now (λ now. OnOk result
         (IsLeft config.now (present (V.state volume.new)) (state_after config.now now commands.now))) }
+    // Whatever the volume holds, behind a whole run whose last command is a commit or a sync, or that has none, a crash
+    // leaves the operation log and the witness log as they are.
+    ensures durable { OnOk result (V.tells → EndsStored commands.now → IsLasting config.now (V.state volume.new)) }
 
     // When each fault comes. A database's error that is told of the contents is none of the volume and no want of
     // memory, and sizes or roots that are told differ.

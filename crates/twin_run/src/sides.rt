@@ -66,8 +66,9 @@ impl Twins {
         // Whatever the volume holds, an error that is told of contents is one of that database's opening.
         ensures causes { IfErr result (IsOfOpenings V.tells config.now) }
         // And the log of operations keeps a front of what it has, up to its last commit within the one size; or it
-        // begins at 0 and has none there, and gets the first commit. That of witnesses keeps the most that the
-        // operations allow; or it was empty from 0 on, and gets the first commit's.
+        // begins at 0 and has none there, and gets the first commit. That of witnesses keeps a front whose last witness
+        // is within what the operations allow, and the next one isn't, or there is none: the most, where their sizes
+        // rise. Or it was empty from 0 on, and gets the first commit's.
         ensures operations { IfOk result (λ r. V.tells → let size = (full_kind.state r.0.full.db).size in
             KeepsOperations config.now.value_limit (Some size) size
             ((V.state volume.old).log config.now.log) ((V.state volume.new).log config.now.log)) }

@@ -89,6 +89,14 @@ returns-in-Ok-clause-left g c = λ whole told. record {
   left_so = rw c.deref.ensures.value at (c.run_and_write.ensures.left whole told);
 }
 
+pub returns-in-Ok-clause-lasting : goal.returns-in-Ok-clause-lasting
+returns-in-Ok-clause-lasting g c = λ whole told. record {
+  task = c.in-Some.task;
+  commands = c.in-Ok.commands.items;
+  asked = record { said = c.in-Some.ensures; runs = c.in-Ok.ensures.runs };
+  lasting = rw c.deref.ensures.value at (c.run_and_write.ensures.durable whole told);
+}
+
 pub returns-in-Ok-clause-no_fault : goal.returns-in-Ok-clause-no_fault
 returns-in-Ok-clause-no_fault g c = c.run_and_write.ensures.no_fault
 

@@ -1,4 +1,4 @@
-use Rattle.std.proofs.Common.{◌≡◌, ◌≤◌, Some, None, [], sym, ◌∙◌, ap, subst, arith}
+use Rattle.std.proofs.Common.{◌≡◌, Some, None, [], sym, ◌∙◌, ap, subst}
 use Rattle.volume_base.specs.Moments.{present}
 use Rattle.volume_base.proofs.CallLemmas.{names_call_joins}
 use Rattle.volume_base.proofs.JoinLemmas.{went_joins, went_none, went_of}

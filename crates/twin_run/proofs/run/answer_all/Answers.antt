@@ -9,7 +9,9 @@ use Rattle.twin_run.specs.Told.{StatesAreTold}
 use Rattle.twin_run.specs.Trace.{trace, state_after, IsBegun, TellOneRoot}
 use Rattle.twin_run.specs.declared.ending.Fault.TheVariants as fault
 use Rattle.twin_run.proofs.HeldLog.{state_left}
+use Rattle.twin_run.proofs.Lasting.{lasting_after, lasting_opened, stores_last, stores_next}
 use Rattle.twin_run.proofs.RunGood.{way_begins, way_told, way_next}
+use Rattle.twin_run.proofs.WentLemmas.{changes_err}
 use Rattle.twin_run.proofs.RunLemmas.{none_begun, first_pushed, one_more, told_first, told_more, told_begun, told_all, none_tell, more_tell, state_next, state_last}
 use Rattle.twin_run.proofs.run.answer_all.Goals as goal
 
@@ -52,6 +54,8 @@ loop-command-init g c =
       taken = done.taken;
       went = went_of _ _ _ _ _ done.changes;
       names = done.names;
+      within = omega arith;
+      durable = λ told stores. lasting_opened config c.in-Ok.opened.0 _ done.of (done.durable told);
     }
 
 pub loop-command-preserved : goal.loop-command-preserved
@@ -91,6 +95,9 @@ loop-command-preserved g c =
       taken = omega (arith, done.taken, inv.taken);
       went = went_joins _ _ _ _ inv.went (went_of _ _ _ _ _ done.changes);
       names = λ told. names_call_joins (twin_names config) _ _ _ (inv.names told) (done.names told config inv.of);
+      within = omega (arith, lt);
+      durable = λ told stores. lasting_after config c.in-Ok-step.step.0 _ (done.of config inv.of) command
+          (stores_next commands i command is stores) (done.durable told);
     }
 
 pub returns-in-Err-step-clause-err : goal.returns-in-Err-step-clause-err
@@ -145,6 +152,12 @@ returns-in_default-push-clause-names g c = λ told.
     let config = c.args.config.now in
     names_call_joins (twin_names config) _ _ _ (inv.names told) (c.in-Ok-step.ensures.names told config inv.of)
 
+pub returns-in_default-push-clause-changes : goal.returns-in_default-push-clause-changes
+returns-in_default-push-clause-changes g c =
+    changes_err g.V.Volume.tells fault.Volume fault.Memory (g.V.Volume.state c.args.volume.now)
+    (g.V.Volume.state c.step.new.volume) (λ is. cc)
+    (went_joins _ _ _ _ c.loop-command.invariant.went (went_of _ _ _ _ _ c.in-Ok-step.ensures.changes))
+
 pub returns-clause-ok : goal.returns-clause-ok
 returns-clause-ok g c = λ told s start clear.
     let config = c.args.config.now in
@@ -152,6 +165,12 @@ returns-clause-ok g c = λ told s start clear.
     let t = c.loop-command.invariant.told told s start clear in
     told_all config t.0 c.args.commands.now c.loop-command.replies c.loop-command.command-index
     (trace config first c.args.commands.now) c.loop-command-test.false t.3
+
+pub returns-clause-durable : goal.returns-clause-durable
+returns-clause-durable g c = λ told ends.
+    let inv = c.loop-command.invariant in
+    inv.durable told (stores_last c.args.commands.now c.loop-command.command-index inv.within
+    c.loop-command-test.false ends)
 
 pub returns-clause-left : goal.returns-clause-left
 returns-clause-left g c = λ told s start clear.

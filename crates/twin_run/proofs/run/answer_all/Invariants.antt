@@ -1,8 +1,9 @@
-use Rattle.std.proofs.Common.{◌≡◌, ◌+◌, ◌++◌, drop, length}
+use Rattle.std.proofs.Common.{◌≡◌, ◌≤◌, ◌+◌, ◌++◌, drop, length}
 use Rattle.log_model.specs.Machine.{State}
 use Rattle.volume_base.specs.Moments.{present}
 use Rattle.volume_base.specs.Names.{NamesCall}
 use Rattle.volume_base.proofs.JoinLemmas.{Went}
+use Rattle.twin_run.specs.Lasting.{IsLasting, StoresAt}
 use Rattle.twin_run.specs.Operation.{Operation}
 use Rattle.twin_run.specs.Starts.{OfEachStart, twin_names}
 use Rattle.twin_run.specs.Trace.{trace, replies_from, state_after, TellOneRoot}
@@ -27,4 +28,6 @@ invariant-loop-command g l =
       taken : l.twins.full.numbers.taken ≡ l.command-index;
       went : Went g.V.Volume.tells old now;
       names : g.V.Volume.tells → NamesCall (twin_names l.config) old now;
+      within : l.command-index ≤ length l.commands;
+      durable : g.V.Volume.tells → StoresAt l.commands l.command-index → IsLasting l.config now;
     }

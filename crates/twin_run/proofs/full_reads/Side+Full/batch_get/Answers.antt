@@ -9,9 +9,10 @@ use Rattle.chain_core.specs.declared.error.Error.{Error}
 use Rattle.command_text.specs.declared.command.Answer.{Answer}
 use Rattle.twin_run.specs.Operation.{Operation, meaning}
 use Rattle.twin_run.specs.Step.{batch_get}
+use Rattle.twin_run.specs.Unread.{IsUnreadAt}
 use Rattle.twin_run.proofs.FullReads.{Admits}
 use Rattle.twin_run.proofs.Matching.{read_at}
-use Rattle.twin_run.proofs.ReadAnswers.{IsRead, held_lives, other_one, parent_alive, past_one, reads_nothing, sealed_value, unsealed_value}
+use Rattle.twin_run.proofs.ReadAnswers.{IsRead, asked_at, held_lives, no_batch, other_bounds, other_one, parent_alive, past_bounds, past_one, reads_nothing, sealed_value, unsealed_value}
 use Rattle.twin_run.proofs.full_reads.Side+Full.batch_get.Goals as goal
 
 pub item-batch-requires : goal.item-batch-requires
@@ -29,9 +30,9 @@ returns-in-Some g c =
     sealed_value g.V.Volume.tells old new db n b (c.get.new.vol ≡ c.args.volume.now) (λ same. ap g.V.Volume.state same) (items_of meaning.encoding (λ (cfg : LengthCfg) (op : Operation). Admits cfg.max op) db.journal.items old)
     c.in-Some.held c.item-batch.result.now (sym c.in-Some.ensures.held) c.item-batch.ensures (λ v. v) c.get.result c.new-place.result c.args.location c.new-place.ensures said.stale said.unfit said.answer said.fault said.reads in
     let is =
-    subst (λ (q : Result Answer (Error Mmr)). IsRead g.V.Volume.tells (present old) db n (λ (s : State Operation). (batch_get s b c.args.location (batch_at s b)).0) (c.get.new.vol ≡ c.args.volume.now) old new q)
+    subst (λ (q : Result Answer (Error Mmr)). IsRead g.V.Volume.tells (present old) db n (λ (s : State Operation). (batch_get s b c.args.location (batch_at s b)).0) (c.get.new.vol ≡ c.args.volume.now) (λ why. IsUnreadAt db n b c.args.location why) old new q)
     (sym c.value_answer.ensures) read in
-    record { ok = is.ok; errors = is.errors; refused = is.refused; reads = is.reads }
+    record { ok = is.ok; errors = is.errors; known = is.known; refused = is.refused; reads = is.reads }
 
 pub returns-then-b-len : goal.returns-then-b-len
 returns-then-b-len g c =
@@ -39,6 +40,7 @@ returns-then-b-len g c =
     record {
       ok = past_one g.V.Volume.tells (present (g.V.Volume.state c.args.volume.now)) c.args.self.now.db n c.args.b c.args.location (omega arith);
       errors = tt;
+      known = no_batch c.args.self.now.db n c.args.b (asked_at c.args.location) (past_bounds c.args.self.now.db n c.args.b (omega arith));
       refused = λ why is. refl;
       reads = reads_nothing g.V.Volume.tells (g.V.Volume.state c.args.volume.now) _ (λ never. absurd (cc));
     }
@@ -50,6 +52,8 @@ returns-in_default-index g c =
     record {
       ok = other_one g.V.Volume.tells (present (g.V.Volume.state c.args.volume.now)) c.args.self.now.db n c.args.b (sym c.in_default.ensures.held) (λ u at. c.in_default-index.not-Unsealed u (sym e ∙ at)) c.args.location;
       errors = tt;
+      known = no_batch c.args.self.now.db n c.args.b (asked_at c.args.location)
+          (other_bounds c.args.self.now.db n c.args.b (sym c.in_default.ensures.held) (λ u at. c.in_default-index.not-Unsealed u (sym e ∙ at)));
       refused = λ why is. refl;
       reads = reads_nothing g.V.Volume.tells (g.V.Volume.state c.args.volume.now) _ (λ never. absurd (cc));
     }
@@ -73,6 +77,6 @@ returns g c =
     unsealed_value g.V.Volume.tells old new db n b (c.get-2.new.vol ≡ c.args.volume.now) (λ same. ap g.V.Volume.state same) (items_of meaning.encoding (λ (cfg : LengthCfg) (op : Operation). Admits cfg.max op) db.journal.items old)
     c.in-Unsealed.batch e (λ v. v) c.get-2.result c.new-place.result c.args.location c.new-place.ensures said.stale said.unfit said.answer said.fault said.reads in
     let is =
-    subst (λ (q : Result Answer (Error Mmr)). IsRead g.V.Volume.tells (present old) db n (λ (s : State Operation). (batch_get s b c.args.location (batch_at s b)).0) (c.get-2.new.vol ≡ c.args.volume.now) old new q)
+    subst (λ (q : Result Answer (Error Mmr)). IsRead g.V.Volume.tells (present old) db n (λ (s : State Operation). (batch_get s b c.args.location (batch_at s b)).0) (c.get-2.new.vol ≡ c.args.volume.now) (λ why. IsUnreadAt db n b c.args.location why) old new q)
     (sym c.value_answer-2.ensures) read in
-    record { ok = is.ok; errors = is.errors; refused = is.refused; reads = is.reads }
+    record { ok = is.ok; errors = is.errors; known = is.known; refused = is.refused; reads = is.reads }

@@ -1,4 +1,4 @@
-use Rattle.std.proofs.Common.{Ok, Err, sym, ◌∙◌, ap}
+use Rattle.std.proofs.Common.{Ok, sym, ◌∙◌, ap}
 use Rattle.volume_base.specs.Moments.{present}
 use Rattle.twin_run.specs.ReadRefusals.{kept_refusal}
 use Rattle.twin_run.specs.Step.{get}

@@ -1,7 +1,7 @@
 use Rattle.std.proofs.Common.{ap}
 use Rattle.log_model.specs.Machine.{committed, synced}
 use Rattle.command_text.specs.declared.command.Command.TheVariants as command
-use Rattle.twin_run.specs.Step.{Outcome, step}
+use Rattle.twin_run.specs.Step.{step}
 use Rattle.twin_run.proofs.Commanding.{stored_state, durable_as}
 use Rattle.twin_run.proofs.side.Side.store.Goals as goal
 

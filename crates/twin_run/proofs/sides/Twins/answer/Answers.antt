@@ -111,7 +111,7 @@ returns-in-Ok-ask-clause-ok g c = λ told config s lists of.
     let about = sym c.topic_of.ensures ∙ c.in-Question.is in
     kept_meet config _ c.args.self s c.in-Ok-ask.answer (step config s c.args.command.now)
     (asked_same s config c.args.command.now about)
-    (c.in-Ok-ask.ensures.ok told config s (full_stands config _ c.args.self s lists of))
+    (c.in-Ok-ask.ensures.ok told config s lists (full_stands config _ c.args.self s of))
     (twins_over config _ _ c.args.self s (c.in-Ok-ask.ensures.reads.contents told) of)
 
 pub returns-in-Ok-ask-clause-goes_on : goal.returns-in-Ok-ask-clause-goes_on
@@ -156,7 +156,7 @@ returns-in-Ok-ask-clause-changes g c =
 pub returns-in-Err-ask-clause-corrupt : goal.returns-in-Err-ask-clause-corrupt
 returns-in-Err-ask-clause-corrupt g c = λ told config s lists of.
     full_is_outside c.in-Err-ask.error _ c.full_fault.ensures
-    (c.in-Err-ask.ensures.errors told config s (full_stands config _ c.args.self s lists of))
+    (c.in-Err-ask.ensures.errors told config s lists (full_stands config _ c.args.self s of))
 
 pub returns-in-Err-ask-clause-own : goal.returns-in-Err-ask-clause-own
 returns-in-Err-ask-clause-own g c = full_is_own c.in-Err-ask.error _ c.full_fault.ensures
@@ -182,7 +182,7 @@ returns-in-Ok-prove_commit-clause-ok g c = λ told config s lists of.
     (named_proof config s c.args.command.now c.in-CommitProof.n about)
     (kept_meet config _ c.args.self s c.in-Ok-prove_commit.answer (prove_commit s c.in-CommitProof.n)
     (proved_same s c.in-CommitProof.n)
-    (c.in-Ok-prove_commit.ensures.ok told config s (compact_stands config _ c.args.self s lists of))
+    (c.in-Ok-prove_commit.ensures.ok told config s (compact_stands config _ c.args.self s of))
     (twins_over config _ _ c.args.self s (c.in-Ok-prove_commit.ensures.reads.contents told) of))
 
 pub returns-in-Ok-prove_commit-clause-goes_on : goal.returns-in-Ok-prove_commit-clause-goes_on
@@ -232,7 +232,7 @@ returns-in-Ok-prove_commit-clause-changes g c = changes_as _ _ _ _ _ _ _ (λ is.
 pub returns-in-Err-prove_commit-clause-corrupt : goal.returns-in-Err-prove_commit-clause-corrupt
 returns-in-Err-prove_commit-clause-corrupt g c = λ told config s lists of.
     compact_is_outside c.in-Err-prove_commit.error _ c.compact_fault.ensures
-    (c.in-Err-prove_commit.ensures.errors told config s (compact_stands config _ c.args.self s lists of))
+    (c.in-Err-prove_commit.ensures.errors told config s (compact_stands config _ c.args.self s of))
 
 pub returns-in-Err-prove_commit-clause-own : goal.returns-in-Err-prove_commit-clause-own
 returns-in-Err-prove_commit-clause-own g c = compact_is_own c.in-Err-prove_commit.error _ c.compact_fault.ensures

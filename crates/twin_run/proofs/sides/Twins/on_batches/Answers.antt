@@ -1,4 +1,3 @@
-use Rattle.std.proofs.Common.{refl}
 use Rattle.twin_run.specs.Twins.{AreKept}
 use Rattle.twin_run.specs.declared.sides.Twins.{Twins}
 use Rattle.twin_run.proofs.BothFaults.{full_is_own, full_is_memory, compact_is_own, compact_is_memory, memory_untold, memory_other, other_failed}
