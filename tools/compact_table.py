@@ -2,15 +2,24 @@
 
 Computed by trees.py and proofs.py and from these rules alone.
 
-A history begins with a commit of floor 0, and has three batches, each of some numbers and a commit behind them. Without
-keys each number is appended. With keys a number gives its key a value; of a key that is set again the later value
-stays, and the operations stand in the order of keys. A variable operation is its tag, its byte lists with their length
-in front, and of a commit an option byte and the floor as varint; a fixed one has numbers of eight bytes and zeros up to
-one width. Tags: 0 a commit and 1 an append; with keys 0 a set and 1 a commit.
+A database begins with a commit of floor 0, and a batch is some numbers and a commit behind them; no commit has
+metadata. Without keys each number is appended. With keys a number gives its key a value; of a key that is set again the
+later value stays, and the operations stand in the order of keys. A variable operation is its tag, then its byte lists
+with their length in front, or of a commit a zero for no metadata and the floor as varint. A fixed one is its tag and
+its numbers, each of eight bytes, or of a commit nine zeros and the floor, and then zeros up to one width. Tags: 0 a
+commit and 1 an append; with keys 0 a set and 1 a commit.
 
-A batch's proof is that of its own operations in its tree, with as many inactive peaks as end at or below its floor; its
-pins are the peaks before them. A cap opens the greatest size within it, and 0 none. What is served of a kept size is
-its commit, with the proof of it in the tree of that size and the peaks before it.
+A state is a size that a commit ends and that was applied, with the root of its tree over as many inactive peaks as end
+at or below its floor. A batch's proof is that of its own operations in its tree with these inactive peaks, and its pins
+are the peaks before them. It goes from the state that it is on to its own, its chain began at the database's, and it is
+on as many batches as lie between; the next operation of one that isn't sealed goes behind those that it has. A batch
+may be applied at the state where its chain began, and at the own state of one that it is on.
+
+A cap opens the greatest state within it, and where there is none, nothing. What is served of a state that is kept is
+its commit, with the proof of it in the state's tree, and beside these the peaks before it unless it is asked for as an
+operation; of another size nothing is served. What is imported of it is that state alone: nothing is pruned before it is
+written, and then it is opened and goes on as any other. An append is no commit: where it is to be imported, the answer
+is where it stands.
 """
 from proofs import cover
 from trees import Mmb, Mmr, node, number, peaks, root
@@ -87,11 +96,12 @@ class Database:
     def __init__(self, family, operations, floors):
         self.family, self.operations, self.floors = family, operations, floors
 
+    def root(self, size):
+        count = inactive(self.family, size, self.floors[size])
+        return root(self.family, self.operations[:size], count, True).hex()
+
     def state(self, size):
-        floor = self.floors[size]
-        elements = self.operations[:size]
-        digest = root(self.family, elements, inactive(self.family, size, floor), True)
-        return f"size {size} floor {floor} root {digest.hex()}"
+        return f"size {size} floor {self.floors[size]} root {self.root(size)}"
 
     def proof(self, start, size):
         count = inactive(self.family, size, self.floors[size])
@@ -102,12 +112,16 @@ class Database:
     def pins(self, leaves):
         return f"    pins:{joined(node(self.family, self.operations, *peak) for peak in peaks(self.family, leaves))}"
 
-    def print_batch(self, own, floor):
+    def print_batch(self, own, floor, begun=None, below=0):
+        """A batch on as many others as lie below it, whose chain began at a size, or at its own base."""
         base = len(self.operations)
         self.operations = self.operations + own
         size = len(self.operations)
         self.floors = {**self.floors, size: floor}
+        begun = base if begun is None else begun
+        states = f"from {base} to {size}, begun at {begun}, on {below}, floor {floor}"
         print(f"  operations from {base}:{joined(own)}")
+        print(f"    {states} root {self.root(size)}")
         print(self.proof(base, size))
         print(self.pins(base))
         print(f"  {self.state(size)}")
@@ -141,17 +155,21 @@ class Database:
 
 
 def print_calls(family, made, encoding):
-    """A snapshot, and a batch on it that is given up; a batch on a batch, of which only the upper one is applied; two
-    more batches; and what is kept before a prune and behind it. Two witnesses stand in a blob, and a prune lets go
-    whole blobs below the first witness whose size is at or past its place."""
+    """A snapshot, which is the pool's first batch, and a batch on it that is given up; a batch on a batch, both applied
+    by one call, so that no witness is written between them; two more batches; and what is kept before a prune and
+    behind it. Two witnesses stand in a blob, and a prune lets go whole blobs below the first witness whose size is at
+    or past its place. A snapshot and a batch are held once, and once more for each batch on them."""
     database = Database(family, made(encoding, [], 0), {1: 0})
-    print("  a snapshot may be applied\n  with a batch on it it is held 2\n  without, 1")
+    print("  a snapshot may be applied")
+    print(f"  a batch at {len(made(encoding, range(0, 3), 0))} on 0")
+    print("  with a batch on it it is held 2\n  without, 1")
     print("  a batch on a batch may be applied")
     database.operations = database.operations + made(encoding, range(0, 2), 1)
-    database.print_batch(made(encoding, range(2, 4), 2), 2)
+    database.print_batch(made(encoding, range(2, 4), 2), 2, 1, 1)
     print("  the batch below it may not be applied\n  no metadata")
     size = len(database.operations)
-    print(f"  target {size} {database.state(size).split()[-1]}")
+    print(f"  applied {size} {database.root(size)}")
+    print(f"  target {size} {database.root(size)}")
     database.print_batch(made(encoding, range(4, 6), 3), 3)
     database.print_batch(made(encoding, range(6, 9), 9), 9)
     database.print_places(0)
@@ -187,6 +205,7 @@ def main():
         print_kind("fixed values", family, keyless, Fixed)
         print_keyed("variable keys and values", family, Variable)
         print_keyed("fixed keys and values", family, Fixed)
+    print("an append is imported: unexpected data at 3")
 
 
 if __name__ == "__main__":

@@ -2,19 +2,22 @@
 
 Computed by trees.py and proofs.py and from these rules alone.
 
-A database begins with a commit of floor 0, and a batch is some values and a commit behind them. A variable
-operation is its tag, its byte list with its length in front, and of a commit an option byte and the floor as
-varint; a fixed one has numbers of eight bytes and zeros up to one width. Tags: 0 a commit and 1 an append. The
-value of a number is one byte, by 96 greater than it, or the number.
+A database begins with a commit of floor 0, and a batch is some values and a commit behind them, which may have one
+more value as metadata. A variable operation is its tag, its byte list with its length in front, and of a commit an
+option byte, the metadata if there is some, and the floor as varint; a fixed one has numbers of eight bytes, zeros for
+metadata that isn't there, and zeros up to one width. Tags: 0 a commit and 1 an append. The value of a number is one
+byte, by 96 greater than it, or the number.
 
-A read answers a value, of a commit none, unless the place is at or past the size or below the start. Of several
+A read answers a value, of a commit its metadata, unless the place is at or past the size or below the start. Of several
 places, they have to rise. A proof of a size that a commit ends has the operations from a place on, at most so many,
 and the digests beside them, with as many inactive peaks as end at or below the floor. The pins of a place are the
-peaks of as many leaves; a follower is given operations as by such a proof, or one with the pins of its place. A prune at or below the floor lets go whole blobs of seven operations. A batch stands on
-one list, and is read and proved where the database has that list's front at the batch's base, or where it has the
-batch, at its floor or above it; it is sealed and applied at its base, or at an equal state. Its floor is no less
-than the database's, and at most its commit's place. A cap opens the greatest size within it that a commit ends, and
-0 none. The compact database of the same list has the same root.
+peaks of as many leaves; a follower is given operations as by such a proof, or one with the pins of its place. A prune
+at or below the floor lets go whole blobs of seven operations. A batch stands on one list, and is read and proved where
+the database has that list's front at the batch's base, or where it has the batch, at its floor or above it; it is
+sealed and applied at its base, or at an equal state. Its floor is no less than the database's, and at most its commit's
+place. A snapshot is a batch of nothing, and a batch that isn't sealed has its values behind the list that it is on. A
+cap opens the greatest size within it that a commit ends, and 0 none. The compact database of the same list has the
+same root.
 
 Where calls of the volume fail in turn, each step has a call that fails; each image opens at a state of the history
 that is no older than the durable one, and each state is opened.
@@ -43,9 +46,10 @@ class Variable:
     def append(cls, n):
         return bytes([1, 1]) + cls.value(n)
 
-    @staticmethod
-    def commit(floor):
-        return bytes([0, 0, floor])
+    @classmethod
+    def commit(cls, floor, metadata=None):
+        value = bytes([0]) if metadata is None else bytes([1, 1]) + cls.value(metadata)
+        return bytes([0]) + value + bytes([floor])
 
 
 class Fixed:
@@ -61,9 +65,10 @@ class Fixed:
     def append(cls, n):
         return b"\1" + cls.value(n) + bytes(9)
 
-    @staticmethod
-    def commit(floor):
-        return bytes([0, 0]) + bytes(8) + number(floor)
+    @classmethod
+    def commit(cls, floor, metadata=None):
+        value = bytes(9) if metadata is None else bytes([1]) + cls.value(metadata)
+        return bytes([0]) + value + number(floor)
 
 
 def joined(texts):
@@ -76,9 +81,10 @@ class Log:
     def __init__(self, values, operations, floors):
         self.values, self.operations, self.floors = values, operations, floors
 
-    def longer(self, encoding, numbers, floor):
-        values = self.values + [encoding.value(n) for n in numbers] + [None]
-        operations = self.operations + [encoding.append(n) for n in numbers] + [encoding.commit(floor)]
+    def longer(self, encoding, numbers, floor, metadata=None):
+        told = None if metadata is None else encoding.value(metadata)
+        values = self.values + [encoding.value(n) for n in numbers] + [told]
+        operations = self.operations + [encoding.append(n) for n in numbers] + [encoding.commit(floor, metadata)]
         return Log(values, operations, {**self.floors, len(operations): floor})
 
     def size(self):
@@ -143,10 +149,10 @@ class Database:
         log = self.log
         return f" start {self.start} size {log.size()} floor {log.floor()} root {log.root(self.family).hex()}"
 
-    def seal(self, parent, first, last, floor):
+    def seal(self, parent, first, last, floor, metadata=None):
         below = self.batches[parent].log if parent is not None else self.log
         before = self.batches[parent].before + [below] if parent is not None else [below]
-        made = Batch(below.longer(self.encoding, range(first, last), floor), below.size(), before)
+        made = Batch(below.longer(self.encoding, range(first, last), floor, metadata), below.size(), before)
         if not made.is_at(self.log.operations):
             raise Refused("stale batch")
         if floor < below.floor():
@@ -381,6 +387,35 @@ def answer(call, *given):
         return f" {why}"
 
 
+def may(batch, database):
+    return "may be applied" if batch.is_at(database.log.operations) else "may not be applied"
+
+
+def print_calls(family, encoding):
+    """A batch with metadata, which is applied; and of the database then a snapshot, the first batch of a pool, with a
+    batch on it that is read and given up. A batch is held once, and once more for each batch on it."""
+    database = Database(family, encoding)
+    print(" a batch with metadata, and a snapshot")
+    database.seal(None, 1, 3, 0, 9)
+    sealed = database.batches[0]
+    log, base = sealed.log, sealed.base
+    print(f"  operations from {base}:{joined(operation.hex() for operation in log.operations[base:])}")
+    states = f"from {base} to {log.size()}, begun at {sealed.before[0].size()}, on {len(sealed.before) - 1}"
+    print(f"  {states}, floor {log.floor()}")
+    print(f"  it {may(sealed, database)}")
+    database.apply(0)
+    print(f"  once more it {may(sealed, database)}")
+    print(f"  applied {log.size()} {log.root(family).hex()}")
+    print(f"  metadata: {log.value(log.size() - 1)}")
+    print(f"  a snapshot {may(Batch(log, log.size(), [log]), database)}")
+    values = log.values + [encoding.value(n) for n in (3, 4)]
+    print(f"  a batch at {len(values)} on 0")
+    for place in (2, 5):
+        print(f"  get {place}: {values[place].hex()}")
+    print(f"  get many 1 3 4:{joined(values[place].hex() for place in (1, 3, 4))}")
+    print("  with a batch on it it is held 2\n  without, 1")
+
+
 def print_kind(family, encoding):
     print(encoding.name)
     first = Log([None], [encoding.commit(0)], {1: 0}).longer(encoding, [1, 2], 0)
@@ -392,6 +427,8 @@ def print_kind(family, encoding):
         database = Database(family, encoding)
         for label, call, *given in steps:
             print(f"  {label}:{answer(getattr(database, call), *given)}")
+        if steps is FOLLOWED:
+            print_calls(family, encoding)
     whole = database.log
     for cap in CAPS:
         database.log = whole

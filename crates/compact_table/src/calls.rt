@@ -73,6 +73,21 @@ where
     Ok(())
 }
 
+/// Prints where a batch adds its next operation, and which batch it is on.
+fn print_unsealed<F: Family, O: Kind<F>>(
+    rt: &impl Print,
+    batch: &UnmerkleizedBatch<F, O, Sha256Hasher>,
+) -> Result<(), TableError>
+where
+    O::Value: Drop,
+{
+    match batch.parent() {
+        Some(id) => println!(rt; "  a batch at {} on {}", batch.size().as_u64(), id.number())?,
+        None => println!(rt; "  a batch at {} on none", batch.size().as_u64())?,
+    }
+    Ok(())
+}
+
 /// Prints how often a sealed batch is held with a batch on it, and when that is given up.
 fn print_held<F: Family, O: Kind<F>>(
     rt: &impl Print,
@@ -84,6 +99,7 @@ where
     O::Value: Drop,
 {
     let batch = child(alloc, pool, id, 0, 3)?;
+    print_unsealed(rt, &batch)?;
     if !pool.is_alive(id) {
         return Err(TableError::Database);
     }
@@ -142,6 +158,21 @@ where
         }
         None => println!(rt; "  no metadata")?,
     }
+    Ok(())
+}
+
+/// Prints the applied state.
+fn print_commitment<F: Family, O: Kind<F>>(
+    rt: &impl Print,
+    alloc: Global,
+    db: &Db<F, O>,
+) -> Result<(), TableError>
+where
+    O::Value: Drop,
+{
+    let state = db.commitment();
+    let root = hex::encode(alloc, state.root.as_slice())?;
+    println!(rt; "  applied {} {root}", state.size.as_u64())?;
     Ok(())
 }
 
@@ -328,6 +359,7 @@ where
     print_snapshot(rt, alloc, &db)?;
     let db = print_chain(rt, alloc, &mut vol, db)?;
     print_metadata(rt, &db)?;
+    print_commitment(rt, alloc, &db)?;
     print_target(rt, alloc, &db)?;
     let db = print_synced(rt, alloc, &mut vol, db)?;
     let db = print_pruned(rt, alloc, &mut vol, db)?;

@@ -9,7 +9,7 @@ use compact_db::{CompactConfig, MerkleizedBatch, UnmerkleizedBatch};
 use memory_volume::MemoryVolume;
 use std::alloc::Global;
 use std::num::NonZeroU64;
-use tree_core::{Family, Location, Sha256Digest, Sha256Hasher};
+use tree_core::{Digest, Family, Location, Sha256Digest, Sha256Hasher};
 
 /// The batches of the history: from which number to which, and the floor of the commit behind.
 const BATCHES: [(u8, u8, u64); 3] = [(0, 1, 0), (1, 4, 2), (4, 9, 3)];
@@ -126,7 +126,30 @@ where
     print_digests(rt, alloc, pins.as_slice())
 }
 
-/// Prints the operations of a sealed batch, and their proof and pins over its database.
+/// Prints the states of a sealed batch: between which its operations are, where its chain began, how many batches are
+/// below it, and the floor and the root.
+fn print_bounds<F: Family, O: Kind<F>>(
+    rt: &impl Print,
+    alloc: Global,
+    batch: &MerkleizedBatch<F, O, Sha256Digest>,
+) -> Result<(), TableError>
+where
+    O::Value: Drop,
+{
+    let bounds = batch.bounds();
+    let root = hex::encode(alloc, batch.root().as_slice())?;
+    print!(rt;
+        "    from {} to {}, begun at {}, on {}",
+        bounds.base.size.as_u64(),
+        bounds.tip.size.as_u64(),
+        bounds.db.size.as_u64(),
+        bounds.ancestors.len()
+    )?;
+    println!(rt; ", floor {} root {root}", bounds.inactivity_floor.as_u64())?;
+    Ok(())
+}
+
+/// Prints the operations and states of a sealed batch, and its proof and pins over its database.
 fn print_batch<F: Family, O: Kind<F>>(
     rt: &impl Print,
     alloc: Global,
@@ -137,6 +160,7 @@ where
     O::Value: Drop,
 {
     print_own(rt, alloc, batch)?;
+    print_bounds(rt, alloc, batch)?;
     print_proof(rt, alloc, &batch.proof(db)?)?;
     print_pins(rt, alloc, batch, db)
 }

@@ -10,6 +10,7 @@ mod imported;
 mod kinds;
 mod opened;
 mod texts;
+mod uncommitted;
 
 use crate::calls::print_calls;
 use crate::error::TableError;
@@ -17,6 +18,7 @@ use crate::history::{print_history, print_order};
 use crate::imported::print_imported;
 use crate::kinds::{FixedKeyed, FixedKeyless, Keyed, Kind, VariableKeyed, VariableKeyless};
 use crate::opened::print_opened;
+use crate::uncommitted::print_uncommitted;
 use memory_volume::MemoryVolume;
 use std::alloc::Global;
 use tree_core::{Family, Mmb, Mmr};
@@ -62,5 +64,6 @@ fn print_family<F: Family>(rt: &impl Print, alloc: Global, name: &str) -> Result
 
 fn main(rt: HostRuntime) -> Result<(), TableError> {
     print_family::<Mmr>(&rt, rt.alloc(), "mmr")?;
-    print_family::<Mmb>(&rt, rt.alloc(), "mmb")
+    print_family::<Mmb>(&rt, rt.alloc(), "mmb")?;
+    print_uncommitted(&rt, rt.alloc())
 }

@@ -14,7 +14,10 @@ use target_codec::{Request, Response};
 use tree_core::{Family, Location, Proof, Sha256Digest};
 
 /// Locations of these numbers.
-fn locations<F: Family>(alloc: Global, places: &[u64]) -> Result<Vec<Location<F>>, TableError> {
+pub(crate) fn locations<F: Family>(
+    alloc: Global,
+    places: &[u64],
+) -> Result<Vec<Location<F>>, TableError> {
     let mut found = Vec::new(alloc);
     for place in places {
         found.push(Location::new(*place))?;
@@ -23,7 +26,7 @@ fn locations<F: Family>(alloc: Global, places: &[u64]) -> Result<Vec<Location<F>
 }
 
 /// The answer of a read.
-fn print_one<F: Family, O: Kind>(
+pub(crate) fn print_one<F: Family, O: Kind>(
     rt: &impl Print,
     alloc: Global,
     answer: Result<Option<O::Value>, Error<F>>,
@@ -55,7 +58,7 @@ fn print_values<O: Kind>(
 }
 
 /// The answer of a read of several places.
-fn print_many<F: Family, O: Kind>(
+pub(crate) fn print_many<F: Family, O: Kind>(
     rt: &impl Print,
     alloc: Global,
     answer: Result<Vec<Option<O::Value>>, Error<F>>,

@@ -20,7 +20,7 @@ pub(crate) struct Batches<F: Family, O: Kind> {
 }
 
 /// Adds the values of a batch.
-fn fill<F: Family, O: Kind>(
+pub(crate) fn fill<F: Family, O: Kind>(
     alloc: Global,
     batch: &mut UnmerkleizedBatch<F, Sha256Hasher, O>,
     values: Values,

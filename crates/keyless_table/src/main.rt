@@ -1,10 +1,12 @@
 //! Prints what full databases answer, in both families and both encodings: small histories of batches, each with what
-//! is read, proved, pruned and refused of it, and beside the first the root of its compact database; what is opened of
-//! a history under each cap; and how what a crash leaves is opened where each call of the volume fails in turn.
+//! is read, proved, pruned and refused of it, and beside the first the root of its compact database; a batch with
+//! metadata and a snapshot, with what their other calls answer; what is opened of a history under each cap; and how
+//! what a crash leaves is opened where each call of the volume fails in turn.
 #![tactic(auto)]
 
 mod answers;
 mod batches;
+mod calls;
 mod changes;
 mod compact;
 mod error;
@@ -17,6 +19,7 @@ mod steps;
 mod stores;
 mod texts;
 
+use crate::calls::print_calls;
 use crate::error::TableError;
 use crate::failing::print_failing;
 use crate::histories::{print_bounded, print_history};
@@ -69,6 +72,7 @@ where
     print_history::<F, O, C>(rt, alloc, "a prune above the floor", &ABOVE)?;
     print_history::<F, O, C>(rt, alloc, "a batch after another history", &REPLACED)?;
     print_history::<F, O, C>(rt, alloc, "followed, and taken away", &FOLLOWED)?;
+    print_calls::<F, O, C>(rt, alloc)?;
     print_bounded::<F, O, C>(rt, alloc)
 }
 
