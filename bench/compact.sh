@@ -12,10 +12,8 @@
 # the start of the program is taken off, and of five rounds the best counts.
 set -eu
 top=$(cd -- "$(dirname -- "$0")/.." && pwd -P)
-home=$top/crates/bench_compact
-(cd -- "$home" && rt run >/dev/null 2>&1) || { echo "bench_compact is not proved" >&2; exit 1; }
 . "$top/bench/seconds.sh"
-program=$home/out/bench_compact
+built bench_compact
 
 first=
 for kept in 10 1000 100000; do
@@ -41,15 +39,4 @@ for kept in 10 1000 100000; do
         printf "a look-up takes %.2f us, ratio %.2f; an apply takes %.2f us, ratio %.2f\n", $3, $3 / $7, $4, $4 / $8 }'
 done
 
-first=
-for batches in 1000 10000 100000; do
-    runs=$((200000 / batches))
-    started=$(least "$runs" "$program" grow 0)
-    grown=$(least "$runs" "$program" grow "$batches")
-    hashes=$(least "$runs" "$program" hash "$batches")
-    alone=$(least "$runs" "$program" hash 0)
-    each=$(awk -v s="$started" -v g="$grown" 'BEGIN { printf "%.4f", (g - s) * 5 }')
-    if [ -z "$first" ]; then first=$each; fi
-    awk -v n="$batches" -v e="$each" -v h="$hashes" -v a="$alone" -v f="$first" \
-        'BEGIN { printf "%d batches: %.2f us each, hash calls alone %.2f us, ratio %.2f; to that of the fewest %.2f\n", n, e, (h - a) * 5, e / ((h - a) * 5), e / f }'
-done
+beside 200000 batches grow 'hash calls alone' hash 1000 10000 100000

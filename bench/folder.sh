@@ -5,10 +5,8 @@
 # five rounds the best counts.
 set -eu
 top=$(cd -- "$(dirname -- "$0")/.." && pwd -P)
-home=$top/crates/bench_folder
-(cd -- "$home" && rt run >/dev/null 2>&1) || { echo "bench_folder is not proved" >&2; exit 1; }
 . "$top/bench/seconds.sh"
-program=$home/out/bench_folder
+built bench_folder
 folder=$(mktemp -d)
 trap 'rm -rf -- "$folder"' EXIT
 

@@ -6,19 +6,7 @@
 # database is taken off, and of five rounds the best counts.
 set -eu
 top=$(cd -- "$(dirname -- "$0")/.." && pwd -P)
-home=$top/crates/bench_keyless
-(cd -- "$home" && rt run >/dev/null 2>&1) || { echo "bench_keyless is not proved" >&2; exit 1; }
 . "$top/bench/seconds.sh"
+built bench_keyless
 
-first=
-for batches in 100 1000 10000; do
-    runs=$((20000 / batches))
-    started=$(least "$runs" "$home/out/bench_keyless" 0)
-    applied=$(least "$runs" "$home/out/bench_keyless" "$batches")
-    hashes=$(least "$runs" "$home/out/bench_keyless" hashes "$batches")
-    alone=$(least "$runs" "$home/out/bench_keyless" hashes 0)
-    each=$(awk -v s="$started" -v a="$applied" 'BEGIN { printf "%.4f", (a - s) * 50 }')
-    if [ -z "$first" ]; then first=$each; fi
-    awk -v n="$batches" -v e="$each" -v h="$hashes" -v a="$alone" -v f="$first" \
-        'BEGIN { printf "%d batches: %.2f us each, hash calls alone %.2f us, ratio %.2f; to that of the fewest %.2f\n", n, e, (h - a) * 50, e / ((h - a) * 50), e / f }'
-done
+beside 20000 batches '' 'hash calls alone' hashes 100 1000 10000

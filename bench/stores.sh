@@ -6,10 +6,8 @@
 # opening and the appends taken off, the best of five rounds counts.
 set -eu
 top=$(cd -- "$(dirname -- "$0")/.." && pwd -P)
-home=$top/crates/bench_stores
-(cd -- "$home" && rt run >/dev/null 2>&1) || { echo "bench_stores is not proved" >&2; exit 1; }
 . "$top/bench/seconds.sh"
-program=$home/out/bench_stores
+built bench_stores
 
 first=
 for kept in 10 1000 100000; do

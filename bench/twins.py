@@ -23,7 +23,6 @@ from trees import Mmr  # noqa: E402
 
 RUNS, NUMBER, COUNTS = 3, 7, (100, 1000, 10000)
 TMPFS = "/dev/shm"
-LOG_BLOB, NODE_BLOB, WITNESS_BLOB = 64, 128, 64
 HEAD, PART = 8, 4               # bytes before the items of a log's file, and before each item
 PIN, BOUNDARY = 9 + 32 + 2 * PART, 9 + 8 + 2 * PART
 
@@ -73,7 +72,7 @@ def seconds_a_block(hashes):
 # ---- what is generated, and the bytes that its files need
 
 class Rounds:
-    """Generated rounds: their operations, the size behind each, and the floor of the last prune."""
+    """Generated rounds: their operations, the size behind each, and the location of the last prune."""
 
     def __init__(self, count):
         self.operations, self.sizes, self.pruned, self.written = [commit(None, 0)], [1], 0, 1
@@ -89,13 +88,13 @@ class Rounds:
                 self.pruned = int(words[0]) if words else self.pruned
 
     def floor(self):
-        """The bytes that the format asks for, of what is kept: operations, nodes as far as they are written, witnesses, and pins."""
-        start = self.pruned // LOG_BLOB * LOG_BLOB
-        kept = sum(PART + len(operation.text) for operation in self.operations[start:])
-        nodes = Mmr.size(self.written) - Mmr.size(start) // NODE_BLOB * NODE_BLOB
-        first = next(i for i, size in enumerate(self.sizes) if size >= self.pruned) // WITNESS_BLOB * WITNESS_BLOB
-        witnesses = sum(PART + self.witness(size) for size in self.sizes[first:])
-        pins = PIN * bin(start).count("1") + BOUNDARY if start else 0
+        """The bytes that the format asks for, of what has to be kept behind the last prune: the operations from its location on, the nodes
+        from that location's position on as far as they are written, its pins and the boundary, and the witnesses of the sizes that
+        aren't below it. What is kept before it, up to the start of a blob, counts against the program."""
+        kept = sum(PART + len(operation.text) for operation in self.operations[self.pruned:])
+        nodes = Mmr.size(self.written) - Mmr.size(self.pruned)
+        witnesses = sum(PART + self.witness(size) for size in self.sizes if size >= self.pruned)
+        pins = PIN * bin(self.pruned).count("1") + BOUNDARY if self.pruned else 0
         return 3 * HEAD + kept + (PART + 32) * nodes + witnesses + pins
 
     def witness(self, size):

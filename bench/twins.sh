@@ -8,5 +8,6 @@ command -v python3 >/dev/null 2>&1 || { echo 'skipped: no python3, which drives 
 scratch=$(mktemp -d)
 trap 'rm -rf -- "$scratch"' EXIT
 "$top/twins" "$scratch/first" </dev/null >/dev/null
-(cd -- "$top/crates/bench_keyless" && rt run >/dev/null 2>&1) || { echo "bench_keyless is not proved" >&2; exit 1; }
-python3 "$top/bench/twins.py" "$top/crates/twins/out/twins" "$top/crates/bench_keyless/out/bench_keyless" "${1:-$scratch}"
+. "$top/bench/seconds.sh"
+built bench_keyless
+python3 "$top/bench/twins.py" "$top/crates/twins/out/twins" "$program" "${1:-$scratch}"

@@ -4,16 +4,12 @@
 # is run as often as makes 1000000 appends, the start of the program is taken off, and of five rounds the best counts.
 set -eu
 top=$(cd -- "$(dirname -- "$0")/.." && pwd -P)
-home=$top/crates/bench_volume
-(cd -- "$home" && rt run >/dev/null 2>&1) || { echo "bench_volume is not proved" >&2; exit 1; }
 . "$top/bench/seconds.sh"
+built bench_volume
 
 first=
 for appends in 10000 100000 1000000; do
-    runs=$((1000000 / appends))
-    started=$(least "$runs" "$home/out/bench_volume" 0)
-    taken=$(least "$runs" "$home/out/bench_volume" "$appends")
-    each=$(awk -v s="$started" -v t="$taken" 'BEGIN { printf "%.4f", t - s }')
-    if [ -z "$first" ]; then first=$each; fi
-    awk -v n="$appends" -v e="$each" -v f="$first" 'BEGIN { printf "%d appends: %.2f us each, ratio %.2f\n", n, e, e / f }'
+    append=$(cost 1000000 "$appends" "$program")
+    first=${first:-$append}
+    awk -v n="$appends" -v e="$append" -v f="$first" 'BEGIN { printf "%d appends: %.2f us each, ratio %.2f\n", n, e, e / f }'
 done

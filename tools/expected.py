@@ -252,6 +252,9 @@ def history(settings, lines):
             out.append(f"stopped {fault}\n")
         if line is not None:
             name, *words = line.split(" ")
+            if name == "/start":
+                assert words[0] == "log" and machine.start <= int(words[1]) <= machine.floor()
+                machine.start = int(words[1])
             begun, fault, left = [], None, crashed(machine, words) if name == "/crash" else machine.left()
             if name == "/put":
                 assert words[0] == "witness" and len(words) - 1 == len(machine.sizes)

@@ -14,11 +14,12 @@ import os
 import shutil
 import subprocess
 import sys
-import tempfile
 from pathlib import Path
 
 import expected
+import faults
 from machine import Machine
+from runs import text_of
 from standing import Found
 
 NO_MEMORY = (8, b"twins: out of memory\n")
@@ -32,8 +33,9 @@ OPENED = 10                     # of how many of these what is left is opened ag
 class Program:
     """The program, with a library before the C library's by which one allocation fails, and a folder to run it on."""
 
-    def __init__(self, path, library, scratch):
-        self.path, self.library, self.told, self.folder = path, library, f"{scratch}/told", f"{scratch}/folder"
+    def __init__(self, path, scratch):
+        self.path, self.told, self.folder = path, f"{scratch}/told", f"{scratch}/folder"
+        self.library = faults.library_in(scratch, "fail_alloc")
 
     def run(self, text, failing=0, output=subprocess.PIPE):
         """The ending and the output of a run on a folder that isn't there."""
@@ -51,16 +53,6 @@ class Program:
 
     def allocations(self):
         return int(Path(self.told).read_text())
-
-
-def input_of(lines):
-    return "".join(line + "\n" for line in lines).encode()
-
-
-def fronts(text):
-    """The texts of a first part of these lines, which isn't all of them."""
-    lines = text.splitlines(keepends=True)
-    return {b"".join(lines[:count]) for count in range(len(lines))}
 
 
 def told_at_last(lines, whole):
@@ -82,7 +74,7 @@ def tried(count):
 
 def faults_of(program, name, lines):
     """How many allocations of a run were made to fail, how many of them weren't needed, and what was wrong."""
-    text = input_of(lines)
+    text = text_of(lines)
     whole = expected.run(lines).encode()
     ending, output = program.run(text)
     if (ending, output) != (DONE, whole):
@@ -92,7 +84,7 @@ def faults_of(program, name, lines):
         ending, output = program.run(text, number)
         if (ending, output) == (DONE, whole):
             spared += 1
-        elif ending != NO_MEMORY or output not in fronts(whole):
+        elif ending != NO_MEMORY or output not in faults.fronts(whole):
             wrong.append(f"{name}: allocation {number} of {count}: {ending}, {len(output)} bytes written")
         elif len(output) < told:
             wrong.append(f"{name}: allocation {number} of {count}: fewer replies than where an earlier one fails")
@@ -107,7 +99,7 @@ def faults_of(program, name, lines):
 
 def faults_without_output(program, name, lines):
     """What is wrong where nothing can be written either: want of memory goes before a write fault, where the allocation is needed."""
-    text = input_of(lines)
+    text = text_of(lines)
     with open(FULL, "wb") as full:
         program.run(text, 0, full)
         endings = [(number, program.run(text, number, full)[0]) for number in tried(program.allocations())]
@@ -115,42 +107,14 @@ def faults_without_output(program, name, lines):
             for number, ending in endings if ending != NO_MEMORY and not (ending == NO_OUTPUT and program.run(text, number)[0] == DONE)]
 
 
-def begun(words, usage):
-    """The status with which a check of a program ends at once: 2 without the program, 0 without a C compiler; None where it can go on."""
-    if len(words) != 1:
-        print(usage.strip(), file=sys.stderr)
-        return 2
-    if not sys.platform.startswith("linux") or shutil.which("cc") is None:
-        print("skipped: no C compiler, so nothing is made to fail")
-        return 0
-    return None
-
-
-def library_in(folder, name="fail_alloc"):
-    """Makes the library by which an allocation fails, or another of these, and gives its path."""
-    library = f"{folder}/{name}.so"
-    source = Path(__file__).with_name(f"{name}.c")
-    subprocess.run(["cc", "-O1", "-shared", "-fPIC", "-o", library, source, "-ldl"], check=True)
-    return library
-
-
-def main(words):
-    ended = begun(words, __doc__)
-    if ended is not None:
-        return ended
-    with tempfile.TemporaryDirectory() as scratch:
-        program = Program(words[0], library_in(scratch), scratch)
-        runs = list(expected.runs())
-        results = [faults_of(program, name, lines) for name, lines in runs]
-        unwritten = faults_without_output(program, *runs[1]) if os.path.exists(FULL) else []
+def check(path, scratch):
+    program, runs = Program(path, scratch), list(expected.runs())
+    results = [faults_of(program, name, lines) for name, lines in runs]
+    unwritten = faults_without_output(program, *runs[1]) if os.path.exists(FULL) else []
     wrong = [line for _, _, lines in results for line in lines] + unwritten
-    for line in wrong:
-        print(line)
     count, spared = (sum(result[at] for result in results) for at in (0, 1))
-    print(f"{count} failing allocations in {len(runs)} runs, {spared} of them not needed: "
-          f"{'as it should be' if not wrong else f'{len(wrong)} faults'}")
-    return 1 if wrong else 0
+    return f"{count} failing allocations in {len(runs)} runs, {spared} of them not needed", wrong
 
 
 if __name__ == "__main__":
-    sys.exit(main(sys.argv[1:]))
+    sys.exit(faults.main(sys.argv[1:], __doc__, check))

@@ -13,12 +13,12 @@ import random
 import shutil
 import subprocess
 import sys
-import tempfile
 from pathlib import Path
 
-from fail_alloc import begun, fronts, library_in
-from kill_runs import Failed, opened_again, states_of, text_of
+import faults
+from kill_runs import opened_again, states_of
 from machine import Machine, run
+from runs import Failed, text_of
 from scripts import Script
 
 FAILED, DONE = (6, b"twins: volume failed\n"), (0, b"")
@@ -42,7 +42,7 @@ class Program:
     """The program, with a library before the C library's by which one call on its files fails, and folders to run it on."""
 
     def __init__(self, path, top):
-        self.path, self.top, self.library = path, top, library_in(top, "fail_calls")
+        self.path, self.top, self.library = path, top, faults.library_in(top, "fail_calls")
         self.first, self.folder, self.told = f"{top}/first", f"{top}/folder", f"{top}/told"
         subprocess.run([path, self.first], input=text_of(first_lines()), stdout=subprocess.DEVNULL, check=True)
 
@@ -66,34 +66,26 @@ def begun_machine():
     return machine
 
 
-def main(words):
-    ended = begun(words, __doc__)
-    if ended is not None:
-        return ended
+def check(path, top):
     machine, wrong, stopped = begun_machine(), [], 0
     whole = run(second_lines(), machine).encode()
-    with tempfile.TemporaryDirectory() as top:
-        program = Program(os.path.abspath(words[0]), top)
-        if program.run(0) != (DONE, whole):
-            wrong.append("not answered where no call fails")
-        count = program.calls()
-        for failing in range(1, count + 1):
-            ending, output = program.run(failing)
-            stopped += ending == FAILED
-            if (ending, output) != (DONE, whole) and (ending != FAILED or output not in fronts(whole) | {b""}):
-                wrong.append(f"call {failing} of {count}: {ending}, {len(output)} bytes written")
-            machine = begun_machine()
-            try:
-                states = states_of(machine, second_lines())
-                opened_again(program.path, program.folder, machine, Script(random.Random(failing), machine), states)
-            except Failed as failed:
-                wrong.append(f"call {failing} of {count}: {failed}")
-    for line in wrong:
-        print(line)
-    print(f"{count} failing calls on the files of a run, {count - stopped} of them not needed: "
-          f"{'as it should be' if not wrong else f'{len(wrong)} faults'}")
-    return 1 if wrong else 0
+    program = Program(path, top)
+    if program.run(0) != (DONE, whole):
+        wrong.append("not answered where no call fails")
+    count = program.calls()
+    for failing in range(1, count + 1):
+        ending, output = program.run(failing)
+        stopped += ending == FAILED
+        if (ending, output) != (DONE, whole) and (ending != FAILED or output not in faults.fronts(whole) | {b""}):
+            wrong.append(f"call {failing} of {count}: {ending}, {len(output)} bytes written")
+        machine = begun_machine()
+        try:
+            states = states_of(machine, second_lines())
+            opened_again(program.path, program.folder, machine, Script(random.Random(failing), machine), states)
+        except Failed as failed:
+            wrong.append(f"call {failing} of {count}: {failed}")
+    return f"{count} failing calls on the files of a run, {count - stopped} of them not needed", wrong
 
 
 if __name__ == "__main__":
-    sys.exit(main(sys.argv[1:]))
+    sys.exit(faults.main(sys.argv[1:], __doc__, check))

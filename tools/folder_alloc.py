@@ -12,10 +12,9 @@ import os
 import shutil
 import subprocess
 import sys
-import tempfile
 from pathlib import Path
 
-from fail_alloc import begun, library_in
+import faults
 
 BEFORE = b"append log one . three\nsync log\nreplace map k v\n"
 CALLS = ["append log four five", "append new one", "sync log", "cut log 1", "prune log 2", "clear log 7", "clear new 7",
@@ -32,8 +31,8 @@ class Calls:
     """The program, with a library before the C library's by which one allocation fails."""
 
     def __init__(self, path, scratch):
-        self.path, self.scratch, self.told = os.path.abspath(path), Path(scratch), f"{scratch}/told"
-        self.library = library_in(scratch)
+        self.path, self.scratch, self.told = path, Path(scratch), f"{scratch}/told"
+        self.library = faults.library_in(scratch, "fail_alloc")
 
     def run(self, script, failing=None):
         settings = dict(os.environ)
@@ -68,20 +67,12 @@ def faults_of(calls, call, is_there):
     return count, wrong
 
 
-def main(words):
-    ended = begun(words, __doc__)
-    if ended is not None:
-        return ended
-    with tempfile.TemporaryDirectory() as scratch:
-        calls = Calls(words[0], scratch)
-        results = [faults_of(calls, call, is_there) for call in CALLS for is_there in (True, False)]
-    wrong = [line for _, lines in results for line in lines]
-    for line in wrong:
-        print(line)
-    print(f"{sum(count for count, _ in results)} failing allocations in {len(results)} calls on a folder: "
-          f"{'as it should be' if not wrong else f'{len(wrong)} faults'}")
-    return 1 if wrong else 0
+def check(path, scratch):
+    calls = Calls(path, scratch)
+    results = [faults_of(calls, call, is_there) for call in CALLS for is_there in (True, False)]
+    count, wrong = sum(count for count, _ in results), [line for _, lines in results for line in lines]
+    return f"{count} failing allocations in {len(results)} calls on a folder", wrong
 
 
 if __name__ == "__main__":
-    sys.exit(main(sys.argv[1:]))
+    sys.exit(faults.main(sys.argv[1:], __doc__, check))

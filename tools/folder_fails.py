@@ -12,11 +12,11 @@ would be after a crash there, and each folder that it stands in.
 import os
 import subprocess
 import sys
-import tempfile
 from pathlib import Path
 
-from fail_alloc import begun, library_in
+import faults
 from folder_files import LOG, MAP
+from runs import text_of
 
 # Which call of a line has to outlast a crash, and the ending of the file that it writes.
 LASTS = {"sync": "log", "clear": "log", "remove": "log", "replace": "map", "take": "map"}
@@ -129,8 +129,7 @@ class World:
     def run(self, lines, failing=0, kind="", folder="folder"):
         """The answers to lines, where a call fails, or all of a kind. What is answered as done has to outlast a crash."""
         settings = dict(os.environ, LD_PRELOAD=self.library, FAIL_CALL=str(failing), FAIL_KIND=kind, FAIL_CALL_TOLD=self.told)
-        text = "".join(line + "\n" for line in lines).encode()
-        ended = subprocess.run([self.program, folder], input=text, capture_output=True, cwd=self.top, env=settings, timeout=60)
+        ended = subprocess.run([self.program, folder], input=text_of(lines), capture_output=True, cwd=self.top, env=settings, timeout=60)
         answers = ended.stdout.decode().split("\n")[:-1]
         self.expect(f"{lines}: not all of it was answered", ended.returncode == 0 and len(answers) == len(lines))
         self.follow(lines, folder)
@@ -301,29 +300,19 @@ def one_program_at_a_time(worlds):
     second.end()
 
 
-def main(words):
-    ended = begun(words, __doc__)
-    if ended is not None:
-        return ended
-    program = os.path.abspath(words[0])
-    made = []
-    with tempfile.TemporaryDirectory() as top:
-        library = library_in(top, "fail_calls")
+def check(program, top):
+    library, made = faults.library_in(top, "fail_calls"), []
 
-        def worlds(name):
-            made.append(World(program, library, top, name))
-            return made[-1]
+    def worlds(name):
+        made.append(World(program, library, top, name))
+        return made[-1]
 
-        count = each_call_fails(worlds) + names_outlast(worlds)
-        for scenario in (a_failed_sync_stays_failed, a_lost_name_stays_lost, a_folder_above_is_closed, a_removed_log_is_synced,
-                         what_cannot_be_locked_is_used, what_can_only_be_read_is_read, one_program_at_a_time):
-            scenario(worlds)
-    wrong = [line for world in made for line in world.wrong]
-    for line in wrong:
-        print(line)
-    print(f"{count} failing calls on the files of a folder: {'as it should be' if not wrong else f'{len(wrong)} faults'}")
-    return 1 if wrong else 0
+    count = each_call_fails(worlds) + names_outlast(worlds)
+    for scenario in (a_failed_sync_stays_failed, a_lost_name_stays_lost, a_folder_above_is_closed, a_removed_log_is_synced,
+                     what_cannot_be_locked_is_used, what_can_only_be_read_is_read, one_program_at_a_time):
+        scenario(worlds)
+    return f"{count} failing calls on the files of a folder", [line for world in made for line in world.wrong]
 
 
 if __name__ == "__main__":
-    sys.exit(main(sys.argv[1:]))
+    sys.exit(faults.main(sys.argv[1:], __doc__, check))

@@ -8,37 +8,25 @@ for byte. Behind each run the files of the folder have to stand for the machine'
 """
 import random
 import shutil
-import subprocess
 import sys
 import tempfile
 
 from machine import Machine
+from runs import Failed, compare_replies, text_of
 from scripts import Script, reason
 from standing import Found, why_not
 
 COUNT, RUNS = 10000, [1, 2, 2, 2, 3, 4]
-SECONDS = 600                   # how long a run may take, also where others take the processors
-
-
-class Failed(Exception):
-    """A run is answered otherwise, or leaves something else."""
-
-
-def text_of(lines):
-    return "".join(line + "\n" for line in lines)
 
 
 def run(program, folder, script):
     """One run on a folder: its replies, and its lines."""
     opened = script.machine.opened()
     lines, answers = script.run()
-    wanted = "".join([opened] + answers)
-    ended = subprocess.run([program, folder], input=text_of(lines).encode(), capture_output=True, timeout=SECONDS)
-    if ended.returncode != 0 or ended.stdout.decode("ascii", "replace") != wanted:
-        raise Failed(f"is answered otherwise, with status {ended.returncode}; its lines are\n{text_of(lines)}")
+    compare_replies(program, folder, lines, [opened] + answers)
     why = why_not(Found(folder), script.machine.whole, script.machine.sizes, [script.machine.marks()])
     if why:
-        raise Failed(f"leaves {why}; its lines are\n{text_of(lines)}")
+        raise Failed(f"leaves {why}; its lines are\n{text_of(lines).decode()}")
     return [opened] + answers
 
 

@@ -16,6 +16,7 @@ Then a tree begins in a sync at each number of leaves, over a tree of none and o
 than the start has peaks it is refused. Without pins each peak of the start comes from the log, and the first that the log doesn't have
 is missing. A log that has a leaf past the start is kept up to the end, from the blob of the start's position on; else it is cleared.
 """
+from histories import images, print_failing
 from trees import Mmb, Mmr, peaks, root
 
 LEAVES, SYNCED, BLOB = 20, 14, 3
@@ -87,42 +88,6 @@ class History:
             self.start = start
 
 
-def versions(calls):
-    """The bounds of the log after each change since the last sync, the newest first."""
-    found = [(0, 0)]
-    for change in calls:
-        start, end = found[-1]
-        if change is None:
-            continue
-        if change[0] == "append":
-            found += [(start, end + i + 1) for i in range(change[1])]
-        elif change[0] == "prune":
-            found.append((change[1], end))
-        else:
-            found = [(start, end)]
-    return found[::-1]
-
-
-def images(calls):
-    found = versions(calls)
-    least_end, greatest_start = min(end for _, end in found), max(start for start, _ in found)
-    count = 0
-    for start, end in (found + found[-1:])[:2]:
-        for first in range(start, min(greatest_start, end) + 1):
-            count += end + 1 - max(least_end, first)
-    return count
-
-
-def print_history(family):
-    history = History(family)
-    changes = [change for _, change in history.calls]
-    for number, (step, _) in enumerate(history.calls, 1):
-        print(f"{family.name} call {number} fails in step {step}: ", end="")
-        print_images(history, changes[: number - 1])
-    print(f"{family.name} ends: ", end="")
-    print_images(history, changes)
-
-
 def print_images(history, changes):
     """A step that isn't a flush makes its leaves durable where it ends."""
     done = len(changes)
@@ -130,7 +95,7 @@ def print_images(history, changes):
     for step, (leaves, call) in enumerate(STEPS, 1):
         if call != "flush" and all(place < done for place, (at, _) in enumerate(history.calls) if at == step):
             durable = leaves
-    count = images(changes)
+    count = images([change for change in changes if change])
     print(f"{count} of {count} images open as reckoned, {durable} leaves durable")
 
 
@@ -160,7 +125,7 @@ def main():
         for boundary in range(LEAVES + 1):
             print_pruned(family, boundary)
     for family in (Mmr, Mmb):
-        print_history(family)
+        print_failing(family.name, History(family), print_images)
     for family in (Mmr, Mmb):
         print_syncs(family)
 

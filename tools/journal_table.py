@@ -16,6 +16,7 @@ last sync, of which an append makes one with each item, here the two newest; and
 the least end of all versions, the start at most the greatest start. Each image of the log of items is opened beside each of the node log.
 All of these open as the program reckons, and with what is durable.
 """
+from histories import images, print_failing
 from proofs import cover
 from trees import Mmb, Mmr, node, peaks, root
 
@@ -225,48 +226,14 @@ class History:
             self.node_start = start
 
 
-def versions(log, calls):
-    """The bounds of the log after each change since the last sync, the newest first."""
-    found = [(0, 0)]
-    for change in calls:
-        start, size = found[-1]
-        if not change or change[0] != log:
-            continue
-        if change[1] == "append":
-            found += [(start, size + i + 1) for i in range(change[2])]
-        elif change[1] == "prune":
-            found.append((change[2], size))
-        elif change[1] == "cut":
-            found.append((start, change[2]))
-        else:
-            found = [(start, size)]
-    return found[::-1]
-
-
-def images(log, calls):
-    found = versions(log, calls)
-    least_end, greatest_start = min(end for _, end in found), max(start for start, _ in found)
-    count = 0
-    for start, last in (found + found[-1:])[:2]:
-        for first in range(start, min(greatest_start, last) + 1):
-            count += last + 1 - max(least_end, first)
-    return count
+def images_of(log, changes):
+    return images([change[1:] for change in changes if change[:1] == (log,)])
 
 
 def print_images(history, changes):
     least = [least for place, least in history.leasts if place <= len(changes)]
-    count = images("items", changes) * images("nodes", changes)
+    count = images_of("items", changes) * images_of("nodes", changes)
     print(f"{count} of {count} images open as reckoned, {least[-1] if least else 0} items durable")
-
-
-def print_history(family, kind):
-    history = History(family)
-    changes = [change for _, change in history.calls]
-    for number, (step, _) in enumerate(history.calls, 1):
-        print(f"{named(family, kind)} call {number} fails in step {step}: ", end="")
-        print_images(history, changes[: number - 1])
-    print(f"{named(family, kind)} ends: ", end="")
-    print_images(history, changes)
 
 
 def main():
@@ -275,8 +242,8 @@ def main():
         print_rows(*pair)
     for pair in pairs:
         print_calls(*pair)
-    for pair in pairs:
-        print_history(*pair)
+    for family, kind in pairs:
+        print_failing(named(family, kind), History(family), print_images)
 
 
 if __name__ == "__main__":

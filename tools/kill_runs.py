@@ -20,6 +20,7 @@ import tempfile
 import time
 
 from machine import Machine
+from runs import Failed, compare_replies, text_of
 from scripts import Script
 from standing import Found, why_not
 
@@ -27,15 +28,6 @@ COUNT = 200
 ON_ONE_FOLDER = 10              # how many runs are killed before the next folder begins
 BATCHES = range(100, 300)       # how many batches a long run has
 NEXT_LINES = 30                 # how many lines the run behind it has, at most
-SECONDS = 600                   # how long that run may take, also where others take the processors
-
-
-class Failed(Exception):
-    """What is left isn't what may be left, or a run is answered otherwise."""
-
-
-def text_of(lines):
-    return "".join(line + "\n" for line in lines).encode()
 
 
 def long_lines(chance, machine):
@@ -100,9 +92,10 @@ def opened_again(program, folder, machine, script, states):
     if size < states[0].durable:
         raise Failed(f"opens at {size}, below the durable size {states[0].durable}")
     lines, answers = script.run(NEXT_LINES)
-    ended = subprocess.run([program, folder], input=text_of(lines), capture_output=True, timeout=SECONDS)
-    if ended.returncode != 0 or ended.stdout.decode("ascii", "replace") != "".join([opened] + answers):
-        raise Failed(f"is answered otherwise behind it, with status {ended.returncode}; the lines are\n{text_of(lines).decode()}")
+    try:
+        compare_replies(program, folder, lines, [opened] + answers)
+    except Failed as failed:
+        raise Failed(f"is left so that the next {failed}") from None
     return size
 
 

@@ -139,8 +139,8 @@ impl Kept {
         Ok(())
     }
 
-    /// How many calls of the volume the state after so many batches takes to be served: of so many that don't fail, those
-    /// that are left behind it are counted.
+    /// How many calls of the volume the state after so many batches takes to be served: of so many that don't fail,
+    /// those that are left behind it are counted.
     pub(crate) fn calls_of_serve(&mut self, batches: u64) -> Result<u64, BenchError> {
         self.vol.fail_call(MOST_CALLS + 1)?;
         self.serve(batches)?;

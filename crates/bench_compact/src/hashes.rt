@@ -35,8 +35,8 @@ impl Chain {
     }
 }
 
-/// The hash calls of so many batches of one value, each with its commit and two roots: one of the sealed batch, and one of
-/// its witness.
+/// The hash calls of so many batches of one value, each with its commit and two roots: one of the sealed batch, and one
+/// of its witness.
 pub(crate) fn hash_all(batches: u64) -> [u8; 32]
     requires { batches ≤ 1000000 }
 {

@@ -1,7 +1,7 @@
 //! Works on compact databases in memory, each of whose batches has one value and is committed.
 //!
-//! `bench_compact WORK LAST COUNT` makes one of 100,000 states, that of no batch among them, prunes it to the witnesses of
-//! the last LAST, and does COUNT times what the first word says:
+//! `bench_compact WORK LAST COUNT` makes one of 100,000 states, that of no batch among them, prunes it to the witnesses
+//! of the last LAST, and does COUNT times what the first word says:
 //!
 //! | word | work |
 //! |---|---|
@@ -14,8 +14,9 @@
 //! Behind the states that are kept `count` prints how many calls of the volume the oldest of the last LAST takes to be
 //! served.
 //!
-//! `bench_compact grow BATCHES` makes a database of so many batches, and `bench_compact hash BATCHES` only calls SHA-256, as
-//! often and over as many blocks, and prints a byte of the last digest. With other arguments it does nothing.
+//! `bench_compact grow BATCHES` makes a database of so many batches, and `bench_compact hash BATCHES` only calls
+//! SHA-256, as often and over as many blocks, and prints a byte of the last digest. With other arguments it does
+//! nothing.
 #![tactic(auto)]
 
 ghost use Rattle.std.specs.Prelude.{◌≤◌};
