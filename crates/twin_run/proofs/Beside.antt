@@ -5,11 +5,11 @@ use Rattle.volume_base.specs.Names.{Names, EachOf, IsNoneOf, AreApart, NamesCall
 use Rattle.volume_base.specs.Volume.{State}
 use Rattle.volume_base.proofs.NameLemmas.{each_of_first, each_of_second, stay_first, stay_second, durable_after}
 use Rattle.log_model.specs.Machine as machine
-use Rattle.twin_run.specs.FullKind.{FullView, full_kind}
-use Rattle.twin_run.specs.Kind.{Kind, kept_of}
-use Rattle.twin_run.specs.Operation.{Operation}
-use Rattle.twin_run.specs.StateOf.{IsStateOf}
-use Rattle.twin_run.specs.declared.numbers.Numbers.{Numbers}
+use Rattle.list_machine.specs.Operation.{Operation}
+use Rattle.twin_batches.specs.Kind.{Kind, kept_of}
+use Rattle.twin_batches.specs.StateOf.{IsStateOf}
+use Rattle.twin_batches.specs.declared.numbers.Numbers.{Numbers}
+use Rattle.twin_databases.specs.FullKind.{FullView, full_kind}
 
 -- ---- names apart
 

@@ -16,17 +16,17 @@ use Rattle.log_model.specs.Good.{AnyList, IsGood}
 use Rattle.log_model.specs.Machine as machine
 use Rattle.log_model.specs.Opening.{last_kept, opened_at}
 use Rattle.log_model.specs.Stored.{CompactStands}
-use Rattle.twin_run.specs.CompactKind.{CompactView, compact_kind}
-use Rattle.twin_run.specs.Config.{Config, AreNamesApart}
-use Rattle.twin_run.specs.FullKind.{FullView, IsFullDbOf, IsFullStart, full_end, full_kind, kept_full, opened_list}
-use Rattle.twin_run.specs.Kind.{Kept, kept_of}
-use Rattle.twin_run.specs.Operation.{Operation, meaning, sha}
-use Rattle.twin_run.specs.Reopening.{FollowsOperations, KeepsOperations, KeepsWitnesses, OpensAgain}
-use Rattle.twin_run.specs.Starts.{IsStart, compact_names, full_names, names_in, opened_from, twin_names}
-use Rattle.twin_run.specs.Step.{plain_commit}
+use Rattle.list_machine.specs.Config.{Config, AreNamesApart}
+use Rattle.list_machine.specs.Operation.{Operation, meaning, sha}
+use Rattle.list_machine.specs.Starts.{IsStart, compact_names, full_names, names_in, opened_from, twin_names}
+use Rattle.list_machine.specs.Step.{plain_commit}
+use Rattle.twin_batches.specs.Kind.{Kept, kept_of}
+use Rattle.twin_databases.specs.CompactKind.{CompactView, compact_kind}
+use Rattle.twin_databases.specs.FullKind.{FullView, IsFullDbOf, IsFullStart, full_end, full_kind, kept_full, opened_list}
+use Rattle.twin_databases.specs.Reopening.{FollowsOperations, KeepsOperations, KeepsWitnesses, OpensAgain}
+use Rattle.twin_databases.proofs.CompactStanding.{retold}
+use Rattle.twin_databases.proofs.NodeReach.{retold_nodes}
 use Rattle.twin_run.specs.Twins.{AreOpenedAs}
-use Rattle.twin_run.proofs.CompactStanding.{retold}
-use Rattle.twin_run.proofs.NodeReach.{retold_nodes}
 use Rattle.twin_run.proofs.Realigning as realigning
 
 -- ---- what the calls of one database leave of the other

@@ -18,28 +18,28 @@ use Rattle.command_text.specs.declared.command.Answer.{Answer}
 use Rattle.command_text.specs.declared.command.Answer.TheVariants as answer
 use Rattle.command_text.specs.declared.command.Command.{Command}
 use Rattle.command_text.specs.declared.command.Command.TheVariants as command
-use Rattle.twin_run.specs.declared.numbers.Numbers.{Numbers}
-use Rattle.twin_run.specs.About.{IsDurableFor}
-use Rattle.twin_run.specs.Config.{Config, AreNamesApart, config_of}
-use Rattle.twin_run.specs.Durability.{IsSettled}
-use Rattle.twin_run.specs.Operation.{Operation, meaning}
-use Rattle.twin_run.specs.CompactKind.{CompactView, compact_kind}
+use Rattle.list_machine.specs.Config.{Config, AreNamesApart, config_of}
+use Rattle.list_machine.specs.Operation.{Operation, meaning}
+use Rattle.list_machine.specs.GoodRuns.{IsGoodState}
+use Rattle.list_machine.specs.Starts.{full_names, compact_names, twin_names}
+use Rattle.list_machine.specs.Step.{Outcome, step, refused, prune, prune_unless, reply}
+use Rattle.list_machine.specs.Told.{IsTold}
+use Rattle.list_machine.proofs.RunGood.{are_good}
+use Rattle.twin_batches.specs.declared.numbers.Numbers.{Numbers}
+use Rattle.twin_batches.specs.About.{IsDurableFor}
+use Rattle.twin_batches.specs.Durability.{IsSettled}
+use Rattle.twin_batches.specs.Kind.{Kind, kept_of}
+use Rattle.twin_batches.specs.StateOf.{IsShaped, IsStateOf, StandsGood, Meets, Answers}
+use Rattle.twin_batches.proofs.Commanding.{state_over}
+use Rattle.twin_batches.proofs.Fronts.{lt_false}
+use Rattle.twin_batches.proofs.Handlers.{counted_state}
+use Rattle.twin_databases.specs.CompactKind.{CompactView, compact_kind}
+use Rattle.twin_databases.specs.FullKind.{FullView, SealedView, UnsealedView, full_kind}
 use Rattle.twin_run.specs.Faults.{IsCorrupt}
-use Rattle.twin_run.specs.FullKind.{FullView, SealedView, UnsealedView, full_kind}
-use Rattle.twin_run.specs.GoodRuns.{IsGoodState}
-use Rattle.twin_run.specs.Kind.{Kind, kept_of}
-use Rattle.twin_run.specs.Starts.{full_names, compact_names, twin_names}
-use Rattle.twin_run.specs.Step.{Outcome, step, refused, prune, prune_unless, reply}
-use Rattle.twin_run.specs.StateOf.{IsShaped, IsStateOf, StandsGood, Meets, Answers}
-use Rattle.twin_run.specs.Told.{IsTold}
 use Rattle.twin_run.specs.Twins.{AreShaped, AreSound, AreUnder, AreOf, AreKept, AreSettled, GoesOn, GoOn, IsTwinsOf, names_of, reply_of}
 use Rattle.twin_run.specs.declared.ending.Fault.{Fault}
 use Rattle.twin_run.specs.declared.sides.Twins.{Twins}
 use Rattle.twin_run.proofs.Beside.{apart_swapped, call_first, call_second, state_beside, durable_beside, synced_beside}
-use Rattle.twin_run.proofs.Commanding.{state_over}
-use Rattle.twin_run.proofs.Fronts.{lt_false}
-use Rattle.twin_run.proofs.Handlers.{counted_state}
-use Rattle.twin_run.proofs.RunGood.{are_good}
 
 -- ---- a database that goes on
 

@@ -1,33 +1,28 @@
 -- How a program ends.
-use Rattle.std.proofs.Common.{◌≡◌, ◌⊎◌, inl, inr, ℕ, List, [], Option, Some, None, refl, sym, subst, arith}
+use Rattle.std.proofs.Common.{◌≡◌, ◌⊎◌, inl, inr, ℕ, List, [], Option, refl, sym, subst, arith}
 use Rattle.std.specs.Prelude.{Result, Ok, Err}
 use Rattle.std.specs.Io.KnownBytes.{Appends}
 use Rattle.stream_base.specs.Writing.{Writes}
-use Rattle.std.proofs.lemmas.List.{append-nil}
 use Rattle.codec_base.specs.Causes.{HasCause, Rose}
 use Rattle.line_text.specs.Lines.{lines_of}
 use Rattle.volume_base.specs.Moments.{Image}
 use Rattle.command_text.specs.declared.command.Command.{Command}
 use Rattle.command_text.specs.Text.{text_of}
 use Rattle.command_text.proofs.CommandLines.{bad_clash}
+use Rattle.list_machine.proofs.Generating.{nothing_added}
+use Rattle.list_machine.specs.Config.{standard_config}
+use Rattle.list_machine.specs.Generator.{summary_of}
+use Rattle.list_machine.specs.Starts.{OfEachStart}
+use Rattle.list_machine.specs.Trace.{trace}
 use Rattle.twin_run.specs.declared.ending.Fault.{Fault}
 use Rattle.twin_run.specs.declared.ending.Fault.TheVariants as fault
 use Rattle.twin_run.specs.declared.ending.Status.{Status}
 use Rattle.twin_run.specs.declared.ending.Status.TheVariants.{BadWords, BadLine, ReadFault, TooLong, Volume, Corrupt, Done, WriteFault, Memory}
 use Rattle.twin_run.specs.declared.words.Task.{Task}
 use Rattle.twin_run.specs.declared.words.Task.TheVariants.{Commands, Generate}
-use Rattle.twin_run.specs.Config.{standard_config}
 use Rattle.twin_run.specs.Faults.{IsCorrupt}
-use Rattle.twin_run.specs.Generator.{summary_of}
 use Rattle.twin_run.specs.Outcome.{WritesOrFails, AreToRun, IsEarly, IsReadStatus, HasWrittenSoFar, IsRunStatus, output_of, fault_status}
-use Rattle.twin_run.specs.Starts.{OfEachStart}
-use Rattle.twin_run.specs.Trace.{trace}
 use Rattle.twin_run.specs.Words.{WordsSay}
-
--- what stays has nothing added
-pub nothing_added : (w : Option (List ℕ)) → Appends w w []
-nothing_added None = tt
-nothing_added (Some bytes) = sym (append-nil bytes)
 
 -- of no reply nothing is written
 none_out : (task : Task) → output_of task [] ≡ []

@@ -7,13 +7,14 @@ use Rattle.tree_shape.specs.declared.mmr.Mmr.{Mmr}
 use Rattle.chain_core.specs.Answers.{IsOutside}
 use Rattle.chain_core.specs.declared.error.Error.{Error}
 use Rattle.chain_core.specs.declared.error.Error.TheVariants as error
-use Rattle.twin_run.specs.Config.{Config}
-use Rattle.twin_run.specs.Faults.{IsCorrupt, IsOfCompactOpening, IsOfFullOpening, IsOfOpenings, IsOwnFault, TellsUnlike, compact_fault, full_fault}
+use Rattle.tree_shape.specs.declared.sha256.Sha256Digest.{Sha256Digest}
+use Rattle.chain_core.specs.declared.commitment.Commitment.{Commitment}
+use Rattle.list_machine.specs.Config.{Config}
+use Rattle.twin_databases.specs.OpeningErrors.{IsOfCompactOpening, IsOfFullOpening}
+use Rattle.twin_run.specs.Faults.{IsCorrupt, IsOfOpenings, IsOwnFault, TellsUnlike, compact_fault, full_fault}
 use Rattle.twin_run.specs.declared.ending.Fault.{Fault}
 use Rattle.twin_run.specs.declared.ending.Fault.TheVariants as fault
 use Rattle.twin_run.specs.declared.ending.CorruptAt.TheVariants as at
-use Rattle.tree_shape.specs.declared.sha256.Sha256Digest.{Sha256Digest}
-use Rattle.chain_core.specs.declared.commitment.Commitment.{Commitment}
 
 -- what comes from outside lies in no contents
 pub full_outside : (e : Error Mmr) → IsOutside e → IsCorrupt (full_fault e) → ⊥

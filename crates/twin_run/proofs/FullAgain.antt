@@ -20,11 +20,11 @@ use Rattle.merkle_full.proofs.FullLemmas.{length-nodes}
 use Rattle.merkle_full.proofs.StandLemmas.{full_run}
 use Rattle.auth_journal.specs.Joined.{leaves_of}
 use Rattle.auth_journal.proofs.LeafLemmas.{length-leaves_of}
-use Rattle.twin_run.specs.Config.{Config}
-use Rattle.twin_run.specs.FullKind.{FullView, HasFullStart, IsFullDbOf, IsFullStart, full_end, full_kind}
-use Rattle.twin_run.specs.Kind.{Kept}
-use Rattle.twin_run.specs.Operation.{Operation, meaning, sha}
-use Rattle.twin_run.specs.Starts.{full_names}
+use Rattle.list_machine.specs.Config.{Config}
+use Rattle.list_machine.specs.Operation.{Operation, meaning, sha}
+use Rattle.list_machine.specs.Starts.{full_names}
+use Rattle.twin_batches.specs.Kind.{Kept}
+use Rattle.twin_databases.specs.FullKind.{FullView, HasFullStart, IsFullDbOf, IsFullStart, full_end, full_kind}
 
 module _ (config : Config) (kept : Kept) (image : Image) (db : FullView) (is : IsFullDbOf kept image db)
     (rests : Rests mmr db.journal.tree) (named : full_kind.names db ≡ full_names config) where

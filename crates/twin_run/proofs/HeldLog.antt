@@ -17,16 +17,16 @@ use Rattle.auth_journal.specs.Joined.{leaves_of}
 use Rattle.log_model.specs.Machine.{State}
 use Rattle.log_model.specs.Witness.{witness_text}
 use Rattle.compact_db.specs.DbView.{seen_log}
-use Rattle.twin_run.specs.CompactKind.{CompactView, compact_kind}
-use Rattle.twin_run.specs.Config.{Config}
-use Rattle.twin_run.specs.FullKind.{FullView, full_kind}
-use Rattle.twin_run.specs.Kind.{kept_of}
-use Rattle.twin_run.specs.Operation.{Operation, meaning, sha}
-use Rattle.twin_run.specs.Starts.{HoldsLog, HoldsTree, HoldsWitnesses, IsLeft, full_names, compact_names}
+use Rattle.list_machine.specs.Config.{Config}
+use Rattle.list_machine.specs.Operation.{Operation, meaning, sha}
+use Rattle.list_machine.specs.Starts.{HoldsLog, HoldsTree, HoldsWitnesses, IsLeft, full_names, compact_names}
+use Rattle.list_machine.proofs.LeftStarts.{left_start}
+use Rattle.twin_batches.specs.Kind.{kept_of}
+use Rattle.twin_databases.specs.CompactKind.{CompactView, compact_kind}
+use Rattle.twin_databases.specs.FullKind.{FullView, full_kind}
+use Rattle.twin_databases.proofs.CompactStanding.{texts_are}
 use Rattle.twin_run.specs.Twins.{IsTwinsOf}
 use Rattle.twin_run.specs.declared.sides.Twins.{Twins}
-use Rattle.twin_run.proofs.CompactStanding.{texts_are}
-use Rattle.twin_run.proofs.LeftStarts.{left_start}
 
 module _ (config : Config) (image : Image) where
   -- the operation log is the configuration's

@@ -5,9 +5,9 @@ use Rattle.volume_base.specs.Volume as volume
 use Rattle.volume_base.specs.Volume.{OnlyLeft}
 use Rattle.command_text.specs.declared.command.Command.{Command}
 use Rattle.command_text.specs.declared.command.Command.TheVariants as command
-use Rattle.twin_run.specs.CompactKind.{compact_kind}
-use Rattle.twin_run.specs.Config.{Config}
-use Rattle.twin_run.specs.FullKind.{full_kind}
+use Rattle.list_machine.specs.Config.{Config}
+use Rattle.twin_databases.specs.CompactKind.{compact_kind}
+use Rattle.twin_databases.specs.FullKind.{full_kind}
 use Rattle.twin_run.specs.Lasting.{IsLasting, Stores, StoresAt, EndsStored}
 use Rattle.twin_run.specs.Twins.{AreOf, IsDurableAfter}
 use Rattle.twin_run.specs.declared.sides.Twins.{Twins}

@@ -1,64 +1,19 @@
 -- What commands that were refused leave of the batches of both sides.
-use Rattle.std.proofs.Common.{◌≡◌, ◌⊎◌, inl, inr, ℕ, List, Option, Some, None, Ok, Err, refl, sym, ◌∙◌, ap, subst}
-use Rattle.std.specs.Prelude.{Result, IfOk, slice_index_or, slice_set}
-use Rattle.chain_core.specs.Slots.{link_released}
-use Rattle.chain_core.specs.declared.pool.HeldBatch.{HeldBatch}
+use Rattle.std.proofs.Common.{◌≡◌, Some, None, Ok, Err, refl, sym, ◌∙◌, subst}
+use Rattle.std.specs.Prelude.{Result, IfOk}
 use Rattle.log_model.specs.declared.refusal.Refusal.{Refusal}
 use Rattle.command_text.specs.declared.command.Answer.{Answer}
 use Rattle.command_text.specs.declared.command.Answer.TheVariants as answer
 use Rattle.command_text.specs.declared.command.Command.{Command}
-use Rattle.command_text.specs.declared.command.Command.TheVariants as command
-use Rattle.twin_run.specs.CompactKind.{compact_kind}
+use Rattle.list_machine.specs.Step.{refusal_in}
+use Rattle.twin_batches.proofs.LeftBatches.{left_same}
+use Rattle.twin_batches.specs.Leaving.{LeavesBatches}
+use Rattle.twin_databases.specs.CompactKind.{compact_kind}
+use Rattle.twin_databases.specs.FullKind.{full_kind}
 use Rattle.twin_run.specs.Faults.{fault_alone}
-use Rattle.twin_run.specs.FullKind.{full_kind}
-use Rattle.twin_run.specs.Kind.{Kind}
-use Rattle.twin_run.specs.Leaving.{KeepsBatches, LosesBatch, LeavesBatches}
-use Rattle.twin_run.specs.Step.{refusal_in}
 use Rattle.twin_run.specs.Twins.{LeaveBatches}
 use Rattle.twin_run.specs.declared.ending.Fault.{Fault}
-use Rattle.twin_run.specs.declared.numbers.Batch.TheVariants.{Gone}
-use Rattle.twin_run.specs.declared.numbers.Numbers.{Numbers}
 use Rattle.twin_run.specs.declared.sides.Twins.{Twins}
-
--- ---- one side
-
-module _ {Db S U : Type 0} (k : Kind Db S U) where
-  -- what a refusal says of the batches, under the name of the command
-  abbrev pub IsLeft : {E : Type 0} → Result Answer E → Numbers S U → Numbers S U → Command → Type 0
-  IsLeft r old new c = IfOk r (λ a. (why : Refusal) → a ≡ answer.Refused why → LeavesBatches k c old new)
-
-  pub named_left : {E : Type 0} (r : Result Answer E) (old new : Numbers S U) (c d : Command) → c ≡ d
-      → IsLeft r old new d → IsLeft r old new c
-  named_left r old new c d e is = subst (IsLeft r old new) (sym e) is
-
-  pub left_same : (n : Numbers S U) (c : Command) → LeavesBatches k c n n
-  left_same n (command.Seal b metadata floor) = inl (refl, refl)
-  left_same n _ = (refl, refl)
-
-  -- behind what left them already
-  module _ (old mid new : Numbers S U) (batches : mid.batches ≡ old.batches) (pool : mid.pool ≡ old.pool) where
-    kept_behind : KeepsBatches mid new → KeepsBatches old new
-    kept_behind kept = (kept.0 ∙ ap (λ v. v.items) batches, kept.1 ∙ pool)
-
-    lost_behind : (b : ℕ) → LosesBatch k b mid new → LosesBatch k b old new
-    lost_behind b lost = record {
-      batch = lost.batch;
-      was = ap (λ v. slice_index_or v.items b Gone) (sym batches) ∙ lost.was;
-      gone = lost.gone ∙ ap (λ v. slice_set v.items b Gone) batches;
-      released = lost.released
-          ∙ ap (λ (p : List (Option (HeldBatch S))). link_released p (k.parent lost.batch)) pool;
-    }
-
-    either_behind : (b : ℕ) → KeepsBatches mid new ⊎ LosesBatch k b mid new
-        → KeepsBatches old new ⊎ LosesBatch k b old new
-    either_behind b (inl kept) = inl (kept_behind kept)
-    either_behind b (inr lost) = inr (lost_behind b lost)
-
-    pub left_behind : (c : Command) → LeavesBatches k c mid new → LeavesBatches k c old new
-    left_behind (command.Seal b metadata floor) left = either_behind b left
-    left_behind _ left = kept_behind left
-
--- ---- both sides
 
 pub both_left : (c : Command) (old new : Twins) → new ≡ old → LeaveBatches c old new
 both_left c old new same = subst (LeaveBatches c old) (sym same) (record {

@@ -12,11 +12,11 @@ use Rattle.merkle_full.specs.Full.{Rests}
 use Rattle.chain_core.specs.Answers.{IsOutside}
 use Rattle.chain_core.specs.declared.commitment.Commitment.{Commitment}
 use Rattle.chain_core.specs.declared.error.Error.{Error}
-use Rattle.twin_run.specs.Config.{Config}
-use Rattle.twin_run.specs.FullKind.{FullView, IsFullDbOf, IsFullStart, full_end, full_kind, kept_full, opened_list}
-use Rattle.twin_run.specs.Operation.{Operation}
-use Rattle.twin_run.specs.Reopening.{OpensAgain}
-use Rattle.twin_run.specs.Starts.{full_names}
+use Rattle.list_machine.specs.Config.{Config}
+use Rattle.list_machine.specs.Operation.{Operation}
+use Rattle.list_machine.specs.Starts.{full_names}
+use Rattle.twin_databases.specs.FullKind.{FullView, IsFullDbOf, IsFullStart, full_end, full_kind, kept_full, opened_list}
+use Rattle.twin_databases.specs.Reopening.{OpensAgain}
 use Rattle.twin_run.proofs.FullAgain.{again}
 use Rattle.twin_run.proofs.Realigning.{opened_some}
 

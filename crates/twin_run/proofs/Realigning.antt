@@ -12,17 +12,17 @@ use Rattle.auth_journal.specs.Joined.{leaves_of}
 use Rattle.log_model.specs.Machine.{State}
 use Rattle.log_model.specs.Opening.{last_commit, last_kept, opens_at}
 use Rattle.compact_db.proofs.SizeLemmas.{all_at}
-use Rattle.twin_run.specs.Config.{Config}
-use Rattle.twin_run.specs.FullKind.{IsFullStart, full_end, opened_list}
-use Rattle.twin_run.specs.Operation.{Operation, meaning, sha}
-use Rattle.twin_run.specs.Reopening.{OpensAgain}
-use Rattle.twin_run.specs.Starts.{IsStart, names_in}
-use Rattle.twin_run.specs.Step.{plain_commit}
-use Rattle.twin_run.proofs.CompactSizes.{IsFound, found_last}
-use Rattle.twin_run.proofs.GoodStart.{admitted}
-use Rattle.twin_run.proofs.OpeningParts.{last_taken, part_run}
-use Rattle.twin_run.proofs.StartParts as parts
-use Rattle.twin_run.proofs.StateLaws.{Admits, admits_one, all_take}
+use Rattle.list_machine.specs.Config.{Config}
+use Rattle.list_machine.specs.Operation.{Operation, meaning, sha}
+use Rattle.list_machine.specs.Starts.{IsStart, names_in}
+use Rattle.list_machine.specs.Step.{plain_commit}
+use Rattle.list_machine.proofs.OpeningParts.{last_taken, part_run}
+use Rattle.list_machine.proofs.StartParts as parts
+use Rattle.list_machine.proofs.StateLaws.{Admits, admits_one, all_take}
+use Rattle.twin_databases.specs.FullKind.{IsFullStart, full_end, opened_list}
+use Rattle.twin_databases.specs.Reopening.{OpensAgain}
+use Rattle.twin_databases.proofs.CompactSizes.{IsFound, found_last}
+use Rattle.twin_databases.proofs.GoodStart.{admitted}
 
 -- what is found is within the cap
 found_within : (most : ℕ) (witness : Log) (sizes : List ℕ) → 1 ≤ most → last_kept most witness 1 0 sizes ≤ most

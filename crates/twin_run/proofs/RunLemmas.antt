@@ -5,15 +5,15 @@ use Rattle.codec_base.specs.Causes.{Rose}
 use Rattle.command_text.specs.declared.command.Answer.TheVariants as answer
 use Rattle.command_text.specs.declared.command.Command.{Command}
 use Rattle.command_text.specs.declared.command.Reply.{Reply}
-use Rattle.twin_run.specs.declared.ending.Fault.{Fault}
-use Rattle.twin_run.specs.declared.ending.Fault.TheVariants.{Volume, Corrupt, Memory}
 use Rattle.log_model.specs.Machine.{State}
 use Rattle.tree_shape.proofs.PeakLemmas.{all-append}
-use Rattle.twin_run.specs.Config.{Config}
+use Rattle.list_machine.specs.Config.{Config}
+use Rattle.list_machine.specs.Operation.{Operation}
+use Rattle.list_machine.specs.Step.{step, reply}
+use Rattle.list_machine.specs.Trace.{trace, replies_from, state_after, IsBegun, TellOneRoot}
+use Rattle.twin_run.specs.declared.ending.Fault.{Fault}
+use Rattle.twin_run.specs.declared.ending.Fault.TheVariants.{Volume, Corrupt, Memory}
 use Rattle.twin_run.specs.Faults.{IsCorrupt}
-use Rattle.twin_run.specs.Operation.{Operation}
-use Rattle.twin_run.specs.Step.{step, reply}
-use Rattle.twin_run.specs.Trace.{trace, replies_from, state_after, IsBegun, TellOneRoot}
 
 -- no replies are the first ones
 pub none_begun : (config : Config) (s : State Operation) (commands : List Command) (replies : List Reply)

@@ -1,24 +1,16 @@
 -- Which fault an error of a database is, and which one it is where both databases of a run differ.
-use Rattle.std.specs.Prelude.{◌≡◌, ◌≢◌, ◌⊎◌, ℕ, List, Option, Some, None, Result}
+use Rattle.std.specs.Prelude.{◌≡◌, ◌≢◌, ◌⊎◌, ℕ, Option, Some, None}
 use Rattle.chain_core.specs.Answers.{IsOutside}
 use Rattle.chain_core.specs.declared.commitment.Commitment.{Commitment}
 use Rattle.chain_core.specs.declared.error.Error.{Error}
 use Rattle.chain_core.specs.declared.error.Error.TheVariants as error
-use Rattle.codec_base.specs.Codec.{Reading}
-use Rattle.codec_base.specs.Combine.{through_at}
-use Rattle.codec_base.specs.Parts.{byte_list_at, whole}
-use Rattle.codec_base.specs.declared.error.CodecError.{CodecError}
-use Rattle.op_codec.specs.Keyless.{of_parts, variable_at}
-use Rattle.compact_db.specs.Opening.{IsOpeningFault}
-use Rattle.keyless_db.specs.Opening.{IsOfOpening}
 use Rattle.log_model.specs.declared.refusal.Refusal.{Refusal}
 use Rattle.log_model.specs.declared.refusal.Refusal.TheVariants as refusal
-use Rattle.tree_shape.specs.Mmr.{mmr}
 use Rattle.tree_shape.specs.declared.mmr.Mmr.{Mmr}
 use Rattle.tree_shape.specs.declared.sha256.Sha256Digest.{Sha256Digest}
 use Rattle.tree_store.specs.declared.error.Error.TheVariants as tree_error
-use Rattle.twin_run.specs.Config.{Config}
-use Rattle.twin_run.specs.Operation.{Operation, meaning}
+use Rattle.list_machine.specs.Config.{Config}
+use Rattle.twin_databases.specs.OpeningErrors.{IsOfFullOpening, IsOfCompactOpening}
 use Rattle.twin_run.specs.declared.ending.Fault.{Fault}
 use Rattle.twin_run.specs.declared.ending.Fault.TheVariants.{Volume, Corrupt, Memory}
 use Rattle.twin_run.specs.declared.ending.CorruptAt.TheVariants.{Full, Compact, Sizes, Roots}
@@ -52,24 +44,6 @@ IsOwnFault Volume = Unit {0}
 IsOwnFault Memory = Unit {0}
 
 -- ---- openings
-
--- The operation with which bytes begin, whose value has at most this length.
-abbrev pub read_under : ℕ → List ℕ → Reading Operation
-read_under limit = through_at of_parts (variable_at (byte_list_at limit))
-
--- The operation of which these are the bytes; or why they are none's.
-abbrev pub decoded_under : ℕ → List ℕ → Result Operation CodecError
-decoded_under limit bytes = whole (read_under limit bytes)
-
--- An error of an opening of the full database under a cap, or none, whatever the volume holds: one of its journal's, or
--- that the last operation is no commit; or a cap of 0.
-abbrev pub IsOfFullOpening : Option ℕ → Error Mmr → Type 0
-IsOfFullOpening cap e = IsOfOpening e ⊎ ((cap ≡ Some 0) × (e ≡ error.InvalidInitializationBound))
-
--- An error of an opening of the compact database under a configuration, and a cap other than 0, whatever the volume
--- holds.
-abbrev pub IsOfCompactOpening : Config → Option ℕ → Error Mmr → Type 0
-IsOfCompactOpening config cap e = IsOpeningFault Sha256Digest mmr meaning (decoded_under config.value_limit) cap e
 
 -- Where an opening of both databases ends with what a database keeps, the error is one of that database's opening; of
 -- the full one's under a cap of 0 only where the volume doesn't tell its contents.

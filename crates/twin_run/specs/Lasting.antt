@@ -4,7 +4,7 @@ use Rattle.volume_base.specs.Volume as volume
 use Rattle.volume_base.specs.Volume.{OnlyLeft}
 use Rattle.command_text.specs.declared.command.Command.{Command}
 use Rattle.command_text.specs.declared.command.Command.TheVariants as command
-use Rattle.twin_run.specs.Config.{Config}
+use Rattle.list_machine.specs.Config.{Config}
 
 -- A crash now leaves the operation log and the witness log of a configuration as they are.
 pub record IsLasting (config : Config) (v : volume.State) : Type 0 where

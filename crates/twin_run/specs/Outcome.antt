@@ -8,22 +8,22 @@ use Rattle.volume_base.specs.Volume as disk
 use Rattle.log_model.specs.Machine.{State}
 use Rattle.command_text.specs.declared.command.Command.{Command}
 use Rattle.command_text.specs.declared.command.Reply.{Reply}
+use Rattle.line_text.specs.Lines.{lines_of}
+use Rattle.command_text.specs.Grammar.{InputSays}
+use Rattle.command_text.specs.Bad.{IsFirstBad}
+use Rattle.command_text.specs.Text.{text_of}
+use Rattle.list_machine.specs.Config.{standard_config}
+use Rattle.list_machine.specs.Generator.{generated, summary_of}
+use Rattle.list_machine.specs.Operation.{Operation}
+use Rattle.list_machine.specs.Starts.{OfEachStart, IsLeft}
+use Rattle.list_machine.specs.Trace.{trace, state_after, IsBegun, TellOneRoot}
 use Rattle.twin_run.specs.declared.ending.Fault.{Fault}
 use Rattle.twin_run.specs.declared.ending.Fault.TheVariants as fault
 use Rattle.twin_run.specs.declared.ending.Status.{Status}
 use Rattle.twin_run.specs.declared.ending.Status.TheVariants.{BadWords, BadLine, ReadFault, TooLong, Volume, Corrupt, Done, WriteFault, Memory}
 use Rattle.twin_run.specs.declared.words.Task.{Task}
 use Rattle.twin_run.specs.declared.words.Task.TheVariants.{Commands, Generate}
-use Rattle.twin_run.specs.Config.{standard_config}
-use Rattle.line_text.specs.Lines.{lines_of}
-use Rattle.command_text.specs.Grammar.{InputSays}
-use Rattle.command_text.specs.Bad.{IsFirstBad}
-use Rattle.command_text.specs.Text.{text_of}
-use Rattle.twin_run.specs.Generator.{generated, summary_of}
 use Rattle.twin_run.specs.Lasting.{IsLasting, EndsStored}
-use Rattle.twin_run.specs.Operation.{Operation}
-use Rattle.twin_run.specs.Starts.{OfEachStart, IsLeft}
-use Rattle.twin_run.specs.Trace.{trace, state_after, IsBegun, TellOneRoot}
 use Rattle.twin_run.specs.Words.{WordsSay}
 
 -- The input was read to its end, and isn't too long.

@@ -9,18 +9,18 @@ use Rattle.command_text.specs.declared.command.Answer.{Answer}
 use Rattle.command_text.specs.declared.command.Answer.TheVariants as answer
 use Rattle.command_text.specs.declared.command.Command.{Command}
 use Rattle.command_text.specs.declared.command.Reply.{Reply}
-use Rattle.twin_run.specs.Config.{Config, AreNamesApart}
-use Rattle.twin_run.specs.Durability.{IsSettled}
-use Rattle.twin_run.specs.Operation.{Operation}
-use Rattle.twin_run.specs.Step.{reply}
-use Rattle.twin_run.specs.GoodRuns.{IsGoodState}
-use Rattle.twin_run.specs.About.{IsDurableFor}
-use Rattle.twin_run.specs.CompactKind.{CompactView, compact_kind}
-use Rattle.twin_run.specs.FullKind.{FullView, full_kind}
-use Rattle.twin_run.specs.Kind.{Kind, kept_of}
-use Rattle.twin_run.specs.Leaving.{LeavesBatches}
-use Rattle.twin_run.specs.Starts.{full_names, compact_names}
-use Rattle.twin_run.specs.StateOf.{IsShaped, HasRoom, IsStateOf}
+use Rattle.list_machine.specs.Config.{Config, AreNamesApart}
+use Rattle.list_machine.specs.Operation.{Operation}
+use Rattle.list_machine.specs.Step.{reply}
+use Rattle.list_machine.specs.GoodRuns.{IsGoodState}
+use Rattle.list_machine.specs.Starts.{full_names, compact_names}
+use Rattle.twin_batches.specs.Durability.{IsSettled}
+use Rattle.twin_batches.specs.About.{IsDurableFor}
+use Rattle.twin_batches.specs.Kind.{Kind, kept_of}
+use Rattle.twin_batches.specs.Leaving.{LeavesBatches}
+use Rattle.twin_batches.specs.StateOf.{IsShaped, HasRoom, IsStateOf}
+use Rattle.twin_databases.specs.CompactKind.{CompactView, compact_kind}
+use Rattle.twin_databases.specs.FullKind.{FullView, full_kind}
 use Rattle.twin_run.specs.declared.sides.Twins.{Twins}
 
 -- The full and the compact database keep a configuration's logs and its map, and were opened under it.

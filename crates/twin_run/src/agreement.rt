@@ -2,8 +2,8 @@
 ghost use Rattle.std.specs.Prelude.{◌≡◌, None, Ok, Err, IsOk, IfOk, IfErr, OnOk, IsErrOf, MatchOption};
 ghost use Rattle.log_model.specs.declared.refusal.Refusal.{Refusal};
 ghost use Rattle.command_text.specs.declared.command.Answer.TheVariants as answer;
+ghost use Rattle.list_machine.specs.Step.{refusal_in};
 ghost use Rattle.twin_run.specs.Faults.{IsOwnFault, error_of, fault_alone, TellsUnlike};
-ghost use Rattle.twin_run.specs.Step.{refusal_in};
 
 use crate::ending::{CorruptAt, Fault};
 use chain_core::{Commitment, Error};

@@ -7,25 +7,24 @@ ghost use Rattle.command_text.specs.declared.command.Command.TheVariants as comm
 ghost use Rattle.volume_base.specs.Moments.{Image, present};
 ghost use Rattle.volume_base.specs.Names.{NamesCall};
 ghost use Rattle.volume_base.specs.Volume.{Changes, Writes};
-ghost use Rattle.twin_run.specs.About.{StaysStill, NeedsNoItem, IsQuiet, about_of};
-ghost use Rattle.twin_run.specs.CompactKind.{compact_kind};
-ghost use Rattle.twin_run.specs.Config.{Config};
+ghost use Rattle.list_machine.specs.Config.{Config};
+ghost use Rattle.list_machine.specs.Operation.{Operation};
+ghost use Rattle.list_machine.specs.Step.{step, apply, prune};
+ghost use Rattle.list_machine.specs.Told.{IsTold};
+ghost use Rattle.twin_batches.specs.About.{StaysStill, NeedsNoItem, IsQuiet, about_of};
+ghost use Rattle.twin_batches.specs.StateOf.{Takes};
+ghost use Rattle.twin_batches.specs.declared.about.Topic.TheVariants as topic;
+ghost use Rattle.twin_databases.specs.CompactKind.{compact_kind};
+ghost use Rattle.twin_databases.specs.FullKind.{full_kind};
 ghost use Rattle.twin_run.specs.Faults.{IsCorrupt, IsOwnFault};
-ghost use Rattle.twin_run.specs.FullKind.{full_kind};
-ghost use Rattle.twin_run.specs.Operation.{Operation};
-ghost use Rattle.twin_run.specs.StateOf.{Takes};
-ghost use Rattle.twin_run.specs.Step.{step, apply, prune};
-ghost use Rattle.twin_run.specs.Told.{IsTold};
 ghost use Rattle.twin_run.specs.Twins.{AreShaped, HaveRoom, AreKept, AreSettled, GoOn, LeaveBatches, IsTwinsOf, IsDurableAfter, names_of};
-ghost use Rattle.twin_run.specs.declared.about.Topic.TheVariants as topic;
 
-use crate::about::{Topic, topic_of};
 use crate::agreement::{agreed, check_same, refusal_of_both};
-use crate::database::Database;
-use crate::durable::Durable;
 use crate::ending::{Fault, compact_fault, full_fault};
 use crate::sides::Twins;
 use command_text::{Answer, Command};
+use twin_batches::{Topic, topic_of};
+use twin_databases::{Database, Durable};
 use volume_base::Volume;
 
 /// What a command that makes durable answers.

@@ -8,24 +8,22 @@ ghost use Rattle.volume_base.specs.Log.{Log};
 ghost use Rattle.volume_base.specs.Moments.{present};
 ghost use Rattle.volume_base.specs.Names.{NamesCall};
 ghost use Rattle.volume_base.specs.Volume.{Changes};
-ghost use Rattle.twin_run.specs.CompactKind.{compact_kind};
-ghost use Rattle.twin_run.specs.Faults.{IsCorrupt, IsOfFullOpening, IsOfOpenings, IsOwnFault};
-ghost use Rattle.twin_run.specs.FullKind.{IsFullDbOf, full_kind, kept_full};
-ghost use Rattle.twin_run.specs.Operation.{Operation};
-ghost use Rattle.twin_run.specs.Reopening.{FollowsOperations, KeepsOperations, OpensAgain};
-ghost use Rattle.twin_run.specs.Starts.{IsStart, full_names, opened_from, twin_names};
+ghost use Rattle.list_machine.specs.Operation.{Operation};
+ghost use Rattle.list_machine.specs.Starts.{IsStart, full_names, opened_from, twin_names};
+ghost use Rattle.twin_databases.specs.CompactKind.{compact_kind};
+ghost use Rattle.twin_databases.specs.OpeningErrors.{IsOfFullOpening};
+ghost use Rattle.twin_databases.specs.FullKind.{IsFullDbOf, full_kind, kept_full};
+ghost use Rattle.twin_databases.specs.Reopening.{FollowsOperations, KeepsOperations, OpensAgain};
+ghost use Rattle.twin_run.specs.Faults.{IsCorrupt, IsOfOpenings, IsOwnFault};
 ghost use Rattle.twin_run.specs.Twins.{AreOpenedAs, AreSound, AreUnder};
 
 use crate::agreement::check_same;
-use crate::compact_opening::open_compact_under;
-use crate::compact_side::Compact;
-use crate::config::TwinConfig;
 use crate::ending::{Fault, compact_fault, full_fault};
-use crate::full_opening::open_full_under;
-use crate::full_side::Full;
 use chain_core::Error;
+use list_machine::TwinConfig;
 use std::alloc::Global;
 use tree_shape::Mmr;
+use twin_databases::{Compact, Full, open_compact_under, open_full_under};
 use volume_base::Volume;
 
 /// The full database itself where it is at this size, and else that which is opened under it.

@@ -4,18 +4,17 @@ ghost use Rattle.codec_base.specs.Causes.{Rose};
 ghost use Rattle.volume_base.specs.Moments.{present};
 ghost use Rattle.volume_base.specs.Names.{NamesCall};
 ghost use Rattle.volume_base.specs.Volume.{Changes, StaysSteady};
+ghost use Rattle.list_machine.specs.Starts.{OfEachStart, IsLeft, twin_names};
+ghost use Rattle.list_machine.specs.Trace.{trace, state_after, IsBegun, TellOneRoot};
 ghost use Rattle.twin_run.specs.Faults.{IsCorrupt, IsOwnFault};
 ghost use Rattle.twin_run.specs.Lasting.{IsLasting, EndsStored};
-ghost use Rattle.twin_run.specs.Starts.{OfEachStart, IsLeft, twin_names};
-ghost use Rattle.twin_run.specs.Trace.{trace, state_after, IsBegun, TellOneRoot};
 ghost use Rattle.twin_run.specs.declared.ending.Fault.TheVariants.{Volume, Memory};
 
-use crate::config::TwinConfig;
 use crate::ending::{Fault, Stopped};
-use crate::laws::states_are_told;
 use crate::sides::Twins;
 use codec_base::ListOf;
 use command_text::{Command, Replies};
+use list_machine::{TwinConfig, states_are_told};
 use std::alloc::Global;
 use volume_base::Volume;
 

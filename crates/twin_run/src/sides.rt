@@ -7,27 +7,25 @@ ghost use Rattle.command_text.specs.declared.command.Command.TheVariants as comm
 ghost use Rattle.volume_base.specs.Moments.{Image, present};
 ghost use Rattle.volume_base.specs.Names.{NamesCall};
 ghost use Rattle.volume_base.specs.Volume.{Changes};
-ghost use Rattle.twin_run.specs.About.{StaysStill, NeedsNoItem, IsQuiet};
-ghost use Rattle.twin_run.specs.CompactKind.{compact_kind};
-ghost use Rattle.twin_run.specs.Config.{Config};
+ghost use Rattle.list_machine.specs.Config.{Config};
+ghost use Rattle.list_machine.specs.Operation.{Operation};
+ghost use Rattle.list_machine.specs.Starts.{IsStart, opened_from, twin_names};
+ghost use Rattle.list_machine.specs.Step.{step, reply};
+ghost use Rattle.list_machine.specs.Told.{IsTold};
+ghost use Rattle.twin_batches.specs.About.{StaysStill, NeedsNoItem, IsQuiet};
+ghost use Rattle.twin_databases.specs.CompactKind.{compact_kind};
+ghost use Rattle.twin_databases.specs.FullKind.{full_kind};
+ghost use Rattle.twin_databases.specs.Reopening.{FollowsOperations, KeepsOperations};
 ghost use Rattle.twin_run.specs.Faults.{IsCorrupt, IsOfOpenings, IsOwnFault};
-ghost use Rattle.twin_run.specs.FullKind.{full_kind};
-ghost use Rattle.twin_run.specs.Operation.{Operation};
-ghost use Rattle.twin_run.specs.Reopening.{FollowsOperations, KeepsOperations};
-ghost use Rattle.twin_run.specs.Starts.{IsStart, opened_from, twin_names};
-ghost use Rattle.twin_run.specs.Step.{step, reply};
-ghost use Rattle.twin_run.specs.Told.{IsTold};
 ghost use Rattle.twin_run.specs.Twins.{AreShaped, AreOf, AreKept, LeaveBatches, IsTwinsOf, IsDurableAfter, names_of, reply_of, opened_reply};
 
-use crate::compact_side::Compact;
-use crate::config::TwinConfig;
-use crate::database::Database;
 use crate::ending::Fault;
-use crate::full_side::Full;
 use crate::opening::realign;
-use crate::side::Side;
 use command_text::{Answer, Command, Reply};
+use list_machine::TwinConfig;
 use std::alloc::Global;
+use twin_databases::{Compact, Database, Full};
+use twin_side::Side;
 use volume_base::Volume;
 
 /// The full and the compact database of a volume, each with its batches.

@@ -1,4 +1,4 @@
-use Rattle.twin_run.proofs.CommitProofs.{commits_verified}
+use Rattle.list_machine.proofs.CommitProofs.{commits_verified}
 use Rattle.twin_run.proofs.laws.commit_proofs_verify.Goals as goal
 
 pub returns : goal.returns

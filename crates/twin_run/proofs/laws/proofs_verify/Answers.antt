@@ -1,4 +1,4 @@
-use Rattle.twin_run.proofs.VerifyLemmas.{verified}
+use Rattle.list_machine.proofs.VerifyLemmas.{verified}
 use Rattle.twin_run.proofs.laws.proofs_verify.Goals as goal
 
 pub returns : goal.returns

@@ -1,13 +1,13 @@
 use Rattle.std.proofs.Common.{inl, inr, subst, sym}
 use Rattle.std.specs.Prelude.{List}
-use Rattle.twin_run.specs.Config.{standard_config}
-use Rattle.twin_run.specs.Outcome.{AreToRun}
-use Rattle.twin_run.specs.Starts.{opened_from}
-use Rattle.twin_run.specs.Trace.{HasNoClash}
-use Rattle.twin_run.specs.declared.words.Task.{Task}
-use Rattle.twin_run.specs.declared.words.Task.TheVariants.{Generate}
 use Rattle.command_text.specs.declared.command.Command.{Command}
 use Rattle.volume_base.specs.Moments.{present}
+use Rattle.list_machine.specs.Config.{standard_config}
+use Rattle.list_machine.specs.Starts.{opened_from}
+use Rattle.list_machine.specs.Trace.{HasNoClash}
+use Rattle.twin_run.specs.Outcome.{AreToRun}
+use Rattle.twin_run.specs.declared.words.Task.{Task}
+use Rattle.twin_run.specs.declared.words.Task.TheVariants.{Generate}
 use Rattle.twin_run.proofs.Endings.{early_reads, not_early, valid_run, valid_task}
 use Rattle.twin_run.proofs.RunLemmas.{not_risen}
 use Rattle.twin_run.proofs.WordForms.{few_rounds, one_task}

@@ -2,8 +2,8 @@ use Rattle.std.proofs.Common.{ap, arith}
 use Rattle.chain_core.specs.declared.commitment.Commitment.{Commitment}
 use Rattle.tree_shape.specs.declared.mmr.Mmr.{Mmr}
 use Rattle.tree_shape.specs.declared.sha256.Sha256Digest.{Sha256Digest}
-use Rattle.twin_run.specs.FullKind.{full_kind}
-use Rattle.twin_run.proofs.KeptFronts.{lower_keeps, same_keeps}
+use Rattle.twin_databases.specs.FullKind.{full_kind}
+use Rattle.twin_databases.proofs.KeptFronts.{lower_keeps, same_keeps}
 use Rattle.twin_run.proofs.Lowering.{lower_durable, lower_opened, lower_same, lower_standing}
 use Rattle.twin_run.proofs.opening.lowered.Goals as goal
 

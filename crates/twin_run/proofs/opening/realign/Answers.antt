@@ -6,13 +6,13 @@ use Rattle.chain_core.specs.declared.commitment.Commitment.{Commitment}
 use Rattle.chain_core.specs.declared.error.Error.TheVariants as error
 use Rattle.tree_shape.specs.declared.mmr.Mmr.{Mmr}
 use Rattle.tree_shape.specs.declared.sha256.Sha256Digest.{Sha256Digest}
+use Rattle.list_machine.specs.Starts.{twin_names}
+use Rattle.twin_databases.proofs.WentLemmas.{changes_err, changes_ok}
 use Rattle.twin_run.specs.Faults.{IsCorrupt, IsOwnFault}
-use Rattle.twin_run.specs.Starts.{twin_names}
 use Rattle.twin_run.specs.declared.ending.Fault.TheVariants as fault
 use Rattle.twin_run.proofs.BothOpened.{both_opened, compact_call, compact_synced, full_call, full_synced, is_again, kept_over, most_low, most_past, one_state, opens_again, some_cap, witnesses, witnesses_over}
 use Rattle.twin_run.proofs.FaultLemmas.{changes_compact, changes_full, compact_cause, compact_outside, compact_own, full_cause, full_outside, full_own, unlike_cause, unlike_own, unlike_same, unlike_volume}
 use Rattle.twin_run.proofs.Realigning.{Listed, first_start}
-use Rattle.twin_run.proofs.WentLemmas.{changes_err, changes_ok}
 use Rattle.twin_run.proofs.opening.realign.Goals as goal
 
 -- ---- the full database isn't opened

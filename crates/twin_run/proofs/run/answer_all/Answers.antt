@@ -3,15 +3,15 @@ use Rattle.command_text.specs.declared.command.Reply.{Reply}
 use Rattle.volume_base.specs.Moments.{present}
 use Rattle.volume_base.proofs.CallLemmas.{names_call_joins}
 use Rattle.volume_base.proofs.JoinLemmas.{changes_joins, went_of, went_joins}
-use Rattle.twin_run.specs.Starts.{opened_from, twin_names}
-use Rattle.twin_run.specs.Step.{step}
-use Rattle.twin_run.specs.Told.{StatesAreTold}
-use Rattle.twin_run.specs.Trace.{trace, state_after, IsBegun, TellOneRoot}
+use Rattle.list_machine.specs.Starts.{opened_from, twin_names}
+use Rattle.list_machine.specs.Step.{step}
+use Rattle.list_machine.specs.Told.{StatesAreTold}
+use Rattle.list_machine.specs.Trace.{trace, state_after, IsBegun, TellOneRoot}
+use Rattle.list_machine.proofs.RunGood.{way_begins, way_told, way_next}
+use Rattle.twin_databases.proofs.WentLemmas.{changes_err}
 use Rattle.twin_run.specs.declared.ending.Fault.TheVariants as fault
 use Rattle.twin_run.proofs.HeldLog.{state_left}
 use Rattle.twin_run.proofs.Lasting.{lasting_after, lasting_opened, stores_last, stores_next}
-use Rattle.twin_run.proofs.RunGood.{way_begins, way_told, way_next}
-use Rattle.twin_run.proofs.WentLemmas.{changes_err}
 use Rattle.twin_run.proofs.RunLemmas.{none_begun, first_pushed, one_more, told_first, told_more, told_begun, told_all, none_tell, more_tell, state_next, state_last}
 use Rattle.twin_run.proofs.run.answer_all.Goals as goal
 

@@ -3,12 +3,12 @@ use Rattle.log_model.specs.Machine.{State}
 use Rattle.volume_base.specs.Moments.{present}
 use Rattle.volume_base.specs.Names.{NamesCall}
 use Rattle.volume_base.proofs.JoinLemmas.{Went}
+use Rattle.list_machine.specs.Operation.{Operation}
+use Rattle.list_machine.specs.Starts.{OfEachStart, twin_names}
+use Rattle.list_machine.specs.Trace.{trace, replies_from, state_after, TellOneRoot}
+use Rattle.list_machine.proofs.RunGood.{IsOnWay}
 use Rattle.twin_run.specs.Lasting.{IsLasting, StoresAt}
-use Rattle.twin_run.specs.Operation.{Operation}
-use Rattle.twin_run.specs.Starts.{OfEachStart, twin_names}
-use Rattle.twin_run.specs.Trace.{trace, replies_from, state_after, TellOneRoot}
 use Rattle.twin_run.specs.Twins.{AreShaped, AreOf, IsTwinsOf}
-use Rattle.twin_run.proofs.RunGood.{IsOnWay}
 use Rattle.twin_run.proofs.run.answer_all.Given as goal
 
 abbrev pub invariant-loop-command : goal.invariant-loop-command

@@ -3,15 +3,15 @@ use Rattle.std.specs.Prelude.{Err}
 use Rattle.std.proofs.lemmas.Result.{IfOk-weaker}
 use Rattle.volume_base.proofs.CallLemmas.{names_call_none, names_call_idle}
 use Rattle.volume_base.proofs.JoinLemmas.{changes_of_reads, changes_of_writes, went_none}
-use Rattle.twin_run.specs.About.{StaysStill}
-use Rattle.twin_run.specs.CompactKind.{compact_kind}
-use Rattle.twin_run.specs.FullKind.{full_kind}
-use Rattle.twin_run.specs.Step.{step, prove_commit}
+use Rattle.list_machine.specs.Step.{step, prove_commit}
+use Rattle.twin_batches.specs.About.{StaysStill}
+use Rattle.twin_batches.proofs.Quiet.{asked_same, proved_same, named_apply, named_proof, named_prune, never_quiet, still_same, still_read, nothing_durable, on_prune, proof_reads, prune_reads}
+use Rattle.twin_databases.specs.CompactKind.{compact_kind}
+use Rattle.twin_databases.specs.FullKind.{full_kind}
+use Rattle.twin_databases.proofs.WentLemmas.{changes_ok, changes_err}
 use Rattle.twin_run.proofs.BothFaults.{full_is_own, full_is_outside, full_changes, compact_is_own, compact_is_outside, compact_changes, fault_as, changes_as}
 use Rattle.twin_run.proofs.BothSides.{full_stands, compact_stands, twins_over, named_meet, kept_meet, each_ok, kept_same, on_same, on_settled, shaped_settled}
 use Rattle.twin_run.proofs.Left.{both_left}
-use Rattle.twin_run.proofs.WentLemmas.{changes_ok, changes_err}
-use Rattle.twin_run.proofs.Quiet.{asked_same, proved_same, named_apply, named_proof, named_prune, never_quiet, still_same, still_read, nothing_durable, on_prune, proof_reads, prune_reads}
 use Rattle.twin_run.proofs.sides.Twins.answer.Goals as goal
 
 -- ---- batches

@@ -1,10 +1,10 @@
 use Rattle.std.proofs.Common.{refl, sym, ◌∙◌, ap}
 use Rattle.std.specs.Prelude.{Ok}
 use Rattle.volume_base.proofs.CallLemmas.{names_call_none}
+use Rattle.twin_batches.proofs.Quiet.{apply_kept, apply_done}
+use Rattle.twin_batches.proofs.Writing.{writes_ok, writes_err, writes_nothing, writes_none}
 use Rattle.twin_run.proofs.BothFaults.{refused_alone, both_refuse, alike_ok, both_take}
 use Rattle.twin_run.proofs.BothSides.{on_same, refused_meet}
-use Rattle.twin_run.proofs.Quiet.{apply_kept, apply_done}
-use Rattle.twin_run.proofs.Writing.{writes_ok, writes_err, writes_nothing, writes_none}
 use Rattle.twin_run.proofs.sides.Twins.apply.Goals as goal
 
 pub apply_both-requires-clause-full_takes : goal.apply_both-requires-clause-full_takes

@@ -1,10 +1,10 @@
 use Rattle.std.proofs.Common.{sym, ◌∙◌, subst}
 use Rattle.log_model.specs.Machine.{batch_at}
 use Rattle.command_text.specs.declared.command.Command.TheVariants as command
-use Rattle.twin_run.specs.CompactKind.{compact_kind}
-use Rattle.twin_run.specs.FullKind.{full_kind}
-use Rattle.twin_run.specs.StateOf.{IsShaped}
-use Rattle.twin_run.specs.Step.{apply}
+use Rattle.list_machine.specs.Step.{apply}
+use Rattle.twin_batches.specs.StateOf.{IsShaped}
+use Rattle.twin_databases.specs.CompactKind.{compact_kind}
+use Rattle.twin_databases.specs.FullKind.{full_kind}
 use Rattle.twin_run.proofs.BothFaults.{full_is_own, full_is_outside, full_writes, compact_is_own, compact_is_outside, compact_writes, unlike_told, writes_fail, writes_done, writes_refused}
 use Rattle.twin_run.proofs.BothSides.{next_good, states_equal, on_changed, shaped_on, full_called, compact_waits, both_called, called_twins}
 use Rattle.twin_run.proofs.FaultLemmas.{unlike_same}

@@ -4,8 +4,8 @@ use Rattle.log_model.specs.Machine.{committed, pruned}
 use Rattle.volume_base.specs.Names.{Names, NamesCall}
 use Rattle.volume_base.proofs.CallLemmas.{names_call_joins}
 use Rattle.volume_base.proofs.JoinLemmas.{changes_of_writes}
-use Rattle.twin_run.specs.FullKind.{full_kind}
-use Rattle.twin_run.specs.Kind.{kept_of}
+use Rattle.twin_batches.specs.Kind.{kept_of}
+use Rattle.twin_databases.specs.FullKind.{full_kind}
 use Rattle.twin_run.proofs.BothFaults.{full_is_own, full_is_outside, full_changes, compact_is_own, compact_is_outside, compact_changes, changes_fail, changes_done, changes_went}
 use Rattle.twin_run.proofs.BothSides.{on_settled, shaped_settled, settled_joins, names_settled, pruned_good, full_called, full_durable, compact_waits, both_called, called_twins}
 use Rattle.twin_run.proofs.sides.Twins.cut.Goals as goal

@@ -1,14 +1,14 @@
 use Rattle.std.proofs.Common.{length, Some, refl, sym, ◌∙◌, ap, subst, arith}
 use Rattle.command_text.specs.declared.command.Answer.TheVariants as answer
 use Rattle.volume_base.specs.Moments.{present}
-use Rattle.twin_run.specs.CompactKind.{CompactView}
-use Rattle.twin_run.specs.FullKind.{FullView}
-use Rattle.twin_run.specs.Reopening.{FollowsOperations, KeepsOperations}
-use Rattle.twin_run.specs.Starts.{opened_from}
+use Rattle.list_machine.specs.Starts.{opened_from}
+use Rattle.list_machine.proofs.OpeningLaws.{opens_well}
+use Rattle.twin_databases.specs.CompactKind.{CompactView}
+use Rattle.twin_databases.specs.FullKind.{FullView}
+use Rattle.twin_databases.specs.Reopening.{FollowsOperations, KeepsOperations}
 use Rattle.twin_run.specs.Twins.{reply_of}
 use Rattle.twin_run.specs.declared.sides.Twins.{Twins}
 use Rattle.twin_run.proofs.BothSides.{opened_twins, opened_of, opened_shaped, opened_durable, made_reply, one_root}
-use Rattle.twin_run.proofs.OpeningLaws.{opens_well}
 use Rattle.twin_run.proofs.sides.Twins.open.Goals as goal
 
 pub returns-clause-shaped : goal.returns-clause-shaped

@@ -1,7 +1,7 @@
 use Rattle.std.proofs.Common.{◌∙◌, ap}
 use Rattle.command_text.specs.declared.command.Answer.TheVariants as answer
-use Rattle.twin_run.specs.FullKind.{full_kind}
-use Rattle.twin_run.specs.Kind.{kept_of}
+use Rattle.twin_batches.specs.Kind.{kept_of}
+use Rattle.twin_databases.specs.FullKind.{full_kind}
 use Rattle.twin_run.proofs.sides.Twins.opened.Goals as goal
 
 pub returns : goal.returns

@@ -3,11 +3,11 @@ use Rattle.std.specs.Prelude.{Ok}
 use Rattle.log_model.specs.Machine.{pruned}
 use Rattle.command_text.specs.declared.command.Answer.TheVariants as answer
 use Rattle.volume_base.proofs.CallLemmas.{names_call_none}
+use Rattle.volume_base.proofs.JoinLemmas.{went_none}
+use Rattle.twin_batches.proofs.Quiet.{prune_kept}
+use Rattle.twin_databases.proofs.WentLemmas.{changes_ok, changes_err}
 use Rattle.twin_run.proofs.BothFaults.{refused_alone, both_refuse, alike_ok, both_take}
 use Rattle.twin_run.proofs.BothSides.{on_same, on_settled, shaped_settled, refused_meet, named_meet, prune_unrefused, low_where}
-use Rattle.twin_run.proofs.WentLemmas.{changes_ok, changes_err}
-use Rattle.volume_base.proofs.JoinLemmas.{went_none}
-use Rattle.twin_run.proofs.Quiet.{prune_kept}
 use Rattle.twin_run.proofs.sides.Twins.prune.Goals as goal
 
 pub cut-requires-clause-full_low : goal.cut-requires-clause-full_low

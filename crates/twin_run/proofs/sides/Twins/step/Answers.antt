@@ -1,12 +1,12 @@
 use Rattle.std.proofs.Common.{◌+◌, ◌∙◌, refl, sym, ap, arith}
 use Rattle.volume_base.specs.Moments.{present}
-use Rattle.twin_run.specs.CompactKind.{compact_kind}
-use Rattle.twin_run.specs.FullKind.{full_kind}
-use Rattle.twin_run.specs.Step.{step}
+use Rattle.list_machine.specs.Step.{step}
+use Rattle.twin_batches.proofs.Handlers.{counted_shape, counted_room}
+use Rattle.twin_batches.proofs.LeftBatches.{left_behind}
+use Rattle.twin_databases.specs.CompactKind.{compact_kind}
+use Rattle.twin_databases.specs.FullKind.{full_kind}
 use Rattle.twin_run.specs.Twins.{reply_of}
 use Rattle.twin_run.proofs.BothSides.{are_of, called_config, counted_of, counted_twins, made_reply, one_root}
-use Rattle.twin_run.proofs.Handlers.{counted_shape, counted_room}
-use Rattle.twin_run.proofs.Left.{left_behind}
 use Rattle.twin_run.proofs.sides.Twins.step.Goals as goal
 
 pub answer-requires-clause-shaped : goal.answer-requires-clause-shaped

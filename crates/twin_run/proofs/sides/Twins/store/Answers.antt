@@ -1,4 +1,4 @@
-use Rattle.twin_run.specs.Step.{step}
+use Rattle.list_machine.specs.Step.{step}
 use Rattle.twin_run.proofs.BothFaults.{full_is_own, full_is_outside, full_writes, compact_is_own, compact_is_outside, compact_writes, writes_fail, writes_done}
 use Rattle.twin_run.proofs.BothSides.{next_good, on_settled, full_called, compact_waits, full_durable, both_called, called_twins}
 use Rattle.twin_run.proofs.sides.Twins.store.Goals as goal

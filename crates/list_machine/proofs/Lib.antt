@@ -1,0 +1,15 @@
+pub mod LogPlaces
+pub mod RunLaws
+pub mod RunGood
+pub mod StateLaws
+pub mod NamesApart
+pub mod VerifyLemmas
+pub mod CommitProofs
+pub mod LeftStates
+pub mod LeftStarts
+pub mod Spelled
+pub mod OpeningParts
+pub mod StartParts
+pub mod OpeningLaws
+pub mod Generating
+pub mod Accepted

@@ -1,0 +1,13 @@
+pub mod ConfigNames
+pub mod Config
+pub mod Operation
+pub mod Step
+pub mod Commitments
+pub mod Trace
+pub mod GoodRuns
+pub mod Told
+pub mod Starts
+pub mod Openings
+pub mod Generator
+pub mod Laws
+pub mod Rows

@@ -1,0 +1,12 @@
+pub mod LeftBatches
+pub mod Fronts
+pub mod Matching
+pub mod Changes
+pub mod Marking
+pub mod Reaching
+pub mod Handlers
+pub mod Writing
+pub mod Sealing
+pub mod Commanding
+pub mod Quiet
+pub mod Settling

@@ -1,0 +1,5 @@
+pub mod Kind
+pub mod About
+pub mod StateOf
+pub mod Leaving
+pub mod Durability

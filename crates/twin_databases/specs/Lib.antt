@@ -1,0 +1,4 @@
+pub mod OpeningErrors
+pub mod CompactKind
+pub mod FullKind
+pub mod Reopening

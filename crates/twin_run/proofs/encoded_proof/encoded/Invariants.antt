@@ -1,6 +1,0 @@
-use Rattle.std.proofs.Common.{◌≡◌, map, take}
-use Rattle.twin_run.specs.Operation.{meaning}
-use Rattle.twin_run.proofs.encoded_proof.encoded.Given as goal
-
-abbrev pub invariant-loop-operation : goal.invariant-loop-operation
-invariant-loop-operation l = l.list ≡ map meaning.encoding (take l.operation-index l.operations)

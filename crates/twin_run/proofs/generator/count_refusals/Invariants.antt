@@ -1,9 +1,0 @@
-use Rattle.std.proofs.Common.{◌≡◌, ◌≤◌, take}
-use Rattle.twin_run.specs.Generator.{refusals}
-use Rattle.twin_run.proofs.generator.count_refusals.Given as goal
-
-abbrev pub invariant-loop-reply : goal.invariant-loop-reply
-invariant-loop-reply l = record {
-  counted : l.refused ≡ refusals (take l.reply-index l.replies);
-  few : l.refused ≤ l.reply-index;
-}

@@ -1,8 +1,0 @@
-use Rattle.twin_run.proofs.OpeningLaws.{opens_well, opens_fresh}
-use Rattle.twin_run.proofs.laws.openings.Goals as goal
-
-pub returns-clause-good : goal.returns-clause-good
-returns-clause-good c = opens_well
-
-pub returns-clause-empty : goal.returns-clause-empty
-returns-clause-empty c = opens_fresh

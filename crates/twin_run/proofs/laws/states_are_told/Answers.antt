@@ -1,5 +1,0 @@
-use Rattle.twin_run.proofs.StateLaws.{are_told}
-use Rattle.twin_run.proofs.laws.states_are_told.Goals as goal
-
-pub returns : goal.returns
-returns c = are_told c.args.limit c.ranges.limit.fits c.no_clash_law.ensures

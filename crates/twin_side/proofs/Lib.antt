@@ -1,0 +1,6 @@
+pub mod FullReads
+pub mod BatchReads
+pub mod KeptReads
+pub mod ReadAnswers
+pub mod ProvingLemmas
+pub mod CompactProving

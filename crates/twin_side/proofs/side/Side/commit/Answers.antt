@@ -1,0 +1,9 @@
+use Rattle.std.proofs.Common.{refl}
+use Rattle.log_model.specs.Machine.{committed}
+use Rattle.twin_batches.proofs.Settling.{settles}
+use Rattle.twin_side.proofs.side.Side.commit.Goals as goal
+
+pub returns-in-Ok-clause-state : goal.returns-in-Ok-clause-state
+returns-in-Ok-clause-state g c =
+    settles g.D.Database.kind g.V.Volume.tells _ _ c.args.self.db c.in-Ok.db c.args.self.numbers committed
+    (λ kept. kept) (λ s. refl) (λ s. refl) c.in-Ok.ensures.list
