@@ -140,7 +140,7 @@ impl<F: Family, O: KeylessOperation, C: Backing<Item = O>, H: Hasher> Keyless<F,
         ensures full { IsErrOf result (Error.Journal SizeOverflow) → ((V.state vol.new).clock ≡ (V.state vol.old).clock)
             × ((b : MerkleizedView F H.Digest O) → item_at pool.now id ≡ Some b → V.tells →
             2 ^ 64 - 1 < end_of (log_of self.journal.items (V.state vol.old)) + b.tree.nodes.leaves) }
-        // So much is what the log lacks of the batch; where that has no room, the apply isn't done.
+        // It comes only where the log has no room for what it lacks of the batch.
         ensures beyond { IsErrOf result (Error.Journal SizeOverflow) → (b : MerkleizedView F H.Digest O) →
             item_at pool.now id ≡ Some b → V.tells → let lacking = unapplied b.tree self.journal.tree.tree.leaves in
             2 ^ 64 - 1 < end_of (log_of self.journal.items (V.state vol.old)) + length lacking }

@@ -318,17 +318,8 @@ impl<F: Family, O: KeylessOperation, C: Backing<Item = O>, H: Hasher> Keyless<F,
             (old.log (string_bytes cfg.merkle.nodes)) items O.meaning max_size) }
         // So it is whatever the volume tells.
         ensures errors { max_size ≢ Some 0 → IfErr result IsOfOpening }
-        // So it is where the log stands for a list, and the tree with perhaps more operations behind it.
-        ensures listed { let old = V.state vol.old in let view = C.config cfg.log in
-            let nodes = old.log (string_bytes cfg.merkle.nodes) in let map = old.map
-            (string_bytes cfg.merkle.metadata) in
-            V.tells → max_size ≢ Some 0 → (list rest : List O) (durable : ℕ) →
-            Spells O.spelling list (log_of view old) →
-            length (list ++ rest) ≤ 2 ^ 62 → TreeStands F.shape H.hash H.Digest.spelling
-            (leaves_of F.shape H.hash O.spelling (list ++ rest)) durable (log_of view old).start nodes map →
-            IfErr result (NotListed V.tells H.Digest.spelling (H.Digest.Read.admits tt) F.shape map nodes
-            (items_of O.spelling O.admits view old) O.meaning max_size) }
-        // Where the list may be such, and can be opened under the bound, it is refused by the outside alone.
+        // Where log and tree stand for a list whose operations are allowed, and which has an end under the bound, it is
+        // refused by the outside alone.
         ensures outside { let old = V.state vol.old in let view = C.config cfg.log in
             let nodes = old.log (string_bytes cfg.merkle.nodes) in let map = old.map
             (string_bytes cfg.merkle.metadata) in

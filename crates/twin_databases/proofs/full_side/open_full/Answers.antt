@@ -18,7 +18,7 @@ returns-clause-standing g c some =
     let old = g.V.Volume.state c.args.volume.now in
     outside_alone g.V.Volume.tells c.args.cfg.log.codec.max (old.log (string_bytes c.args.cfg.log.name))
     (old.log (string_bytes c.args.cfg.merkle.nodes)) (old.map (string_bytes c.args.cfg.merkle.metadata)) c.args.cap
-    c.init.result (λ told. c.init.ensures.listed told some)
+    c.init.result (λ told list rest durable run few stands. c.init.ensures.refused told some)
 
 pub returns-clause-errors : goal.returns-clause-errors
 returns-clause-errors g c =

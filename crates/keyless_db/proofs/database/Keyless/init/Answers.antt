@@ -135,12 +135,6 @@ returns-in-Ok-open_journal-clause-opens g c =
     (j.items.end, opened.found tells, at, subst (λ (l : Log). GoesOn first j.items.end l (new.log view.name)) cut moved))
     c.opened_from.ensures.at c.opened_from.ensures.log
 
-pub returns-in-Ok-open_journal-clause-listed : goal.returns-in-Ok-open_journal-clause-listed
-returns-in-Ok-open_journal-clause-listed g c tells some list rest durable run few stands = returns-in-Ok-open_journal-clause-refused g c tells some
-
-pub returns-in-Err-open_journal-clause-listed : goal.returns-in-Err-open_journal-clause-listed
-returns-in-Err-open_journal-clause-listed g c tells some list rest durable run few stands = returns-in-Err-open_journal-clause-refused g c tells some
-
 pub returns-in-Err-open_journal-clause-errors : goal.returns-in-Err-open_journal-clause-errors
 returns-in-Err-open_journal-clause-errors g c some = c.in-Err-open_journal.ensures.errors
 
