@@ -12,7 +12,7 @@
 # the start of the program is taken off, and of five rounds the best counts.
 set -eu
 top=$(cd -- "$(dirname -- "$0")/.." && pwd -P)
-. "$top/bench/seconds.sh"
+. "$top/bench/shared.sh"
 built bench_compact
 
 first=

@@ -5,7 +5,7 @@
 # five rounds the best counts.
 set -eu
 top=$(cd -- "$(dirname -- "$0")/.." && pwd -P)
-. "$top/bench/seconds.sh"
+. "$top/bench/shared.sh"
 built bench_folder
 folder=$(mktemp -d)
 trap 'rm -rf -- "$folder"' EXIT

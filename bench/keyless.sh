@@ -6,7 +6,7 @@
 # database is taken off, and of five rounds the best counts.
 set -eu
 top=$(cd -- "$(dirname -- "$0")/.." && pwd -P)
-. "$top/bench/seconds.sh"
+. "$top/bench/shared.sh"
 built bench_keyless
 
 beside 20000 batches '' 'hash calls alone' hashes 100 1000 10000

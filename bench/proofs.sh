@@ -3,7 +3,7 @@
 # proofs of each, and fails where that of all leaves takes more than twice the time of one, or any range more than four times.
 set -eu
 top=$(cd -- "$(dirname -- "$0")/.." && pwd -P)
-. "$top/bench/seconds.sh"
+. "$top/bench/shared.sh"
 built bench_proofs
 
 "$program" 1048576 | awk '

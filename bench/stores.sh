@@ -6,7 +6,7 @@
 # opening and the appends taken off, the best of five rounds counts.
 set -eu
 top=$(cd -- "$(dirname -- "$0")/.." && pwd -P)
-. "$top/bench/seconds.sh"
+. "$top/bench/shared.sh"
 built bench_stores
 
 first=

@@ -88,9 +88,9 @@ class Rounds:
                 self.pruned = int(words[0]) if words else self.pruned
 
     def floor(self):
-        """The bytes that the format asks for, of what has to be kept behind the last prune: the operations from its location on, the nodes
-        from that location's position on as far as they are written, its pins and the boundary, and the witnesses of the sizes that
-        aren't below it. What is kept before it, up to the start of a blob, counts against the program."""
+        """A lower bound of the bytes that the format asks for, as if a prune kept nothing before its location: the operations from there on,
+        the nodes from that location's position on as far as they are written, its pins and the boundary, and the witnesses of the
+        sizes that aren't below it. What is kept besides, from the start of the blob on, counts against the program."""
         kept = sum(PART + len(operation.text) for operation in self.operations[self.pruned:])
         nodes = Mmr.size(self.written) - Mmr.size(self.pruned)
         witnesses = sum(PART + self.witness(size) for size in self.sizes if size >= self.pruned)
@@ -118,7 +118,7 @@ def measure_rounds(program, place, block, start):
         first = first or each
         print(f"{count} rounds on {title}, size {rounds.sizes[-1]}: {ours.seconds * 1000:.0f} ms, {each * 1000000:.0f} us a round, "
               f"{each / first:.2f} times that of the fewest; "
-              f"of the processor {(ours.used - start.used) / hashed:.2f} times the hash calls; {ours.memory()}; {there} bytes on disk, {there / rounds.floor():.3f} times what the format asks for; "
+              f"of the processor {(ours.used - start.used) / hashed:.2f} times the hash calls; {ours.memory()}; {there} bytes on disk, {there / rounds.floor():.3f} times the least that the format asks for; "
               f"opened again in {again.seconds * 1000:.0f} ms")
     shutil.rmtree(os.path.dirname(folder))
 

@@ -4,7 +4,7 @@
 # is run as often as makes 1000000 appends, the start of the program is taken off, and of five rounds the best counts.
 set -eu
 top=$(cd -- "$(dirname -- "$0")/.." && pwd -P)
-. "$top/bench/seconds.sh"
+. "$top/bench/shared.sh"
 built bench_volume
 
 first=

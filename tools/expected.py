@@ -18,7 +18,7 @@ import machine
 import proofs
 import trees
 from machine import Left, Machine, inactive_peaks, is_skipped, run, varint
-from trees import Grown, Mmb, Mmr, digest, node, number, peaks
+from trees import Grown, Mmb, Mmr, digest, node, peaks
 
 
 # ---- the tree

@@ -28,7 +28,7 @@ def main(words, usage, check):
         print(usage.strip(), file=sys.stderr)
         return 2
     if not sys.platform.startswith("linux") or shutil.which("cc") is None:
-        print("skipped: no C compiler, so nothing is made to fail")
+        print("skipped: this needs Linux and a C compiler, so nothing is made to fail")
         return 0
     with tempfile.TemporaryDirectory() as scratch:
         what, wrong = check(os.path.abspath(words[0]), scratch)

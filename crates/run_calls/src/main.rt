@@ -2,10 +2,11 @@
 //! and a value, behind it the lines of its input, and then the line `end`. Between cases a line that begins with `#`
 //! is printed as it is. A `run` is that of commands under a `limit` of values, and ends with the fault that stopped
 //! it; a line of its input that begins with `/` ends one run, and the next goes on with the volume as it is (`/again`),
-//! with what a crash may leave of its logs (`/crash NAME START END ..`), or with a log of other items (`/put NAME
-//! ITEM ..`). Of `failing`, the run is made again with each call of the volume failing in turn, and what is left is
-//! opened; a `main` is the top call with its `words`, and ends with its status. Of `lines` each is an input of its own,
-//! and so of `hex`, where each is told by its bytes. A `config` is that of its settings, or why these are refused.
+//! with what a crash may leave of its logs (`/crash NAME START END ..`), with a log that begins later, as a prune of it
+//! alone leaves it (`/start NAME PLACE`), or with a log of other items (`/put NAME ITEM ..`). Of `failing`, the run is
+//! made again with each call of the volume failing in turn, and what is left is opened; a `main` is the top call with its
+//! `words`, and ends with its status. Of `lines` each is an input of its own, and so of `hex`, where each is told by its
+//! bytes. A `config` is that of its settings, or why these are refused.
 #![tactic(auto)]
 
 mod between;

@@ -3,6 +3,7 @@
 
 # Proves and builds a program, and names it in `program`.
 built() {
+    command -v rt >/dev/null 2>&1 || { echo 'rt is not on the path' >&2; exit 1; }
     (cd -- "$top/crates/$1" && rt run >/dev/null 2>&1) || { echo "$1 is not proved" >&2; exit 1; }
     program=$top/crates/$1/out/$1
 }
