@@ -1,5 +1,5 @@
 -- What of a run outlasts a crash.
-use Rattle.std.specs.Prelude.{◌≡◌, ℕ, ◌-◌, ◌<◌, List, length, slice_index_or}
+use Rattle.std.specs.Prelude.{List, [], ◌∷◌, ◌×◌}
 use Rattle.volume_base.specs.Volume as volume
 use Rattle.volume_base.specs.Volume.{OnlyLeft}
 use Rattle.command_text.specs.declared.command.Command.{Command}
@@ -11,17 +11,20 @@ pub record IsLasting (config : Config) (v : volume.State) : Type 0 where
   pub log : OnlyLeft (v.log_left v.clock config.log) (v.log config.log)
   pub witness : OnlyLeft (v.log_left v.clock config.witness) (v.log config.witness)
 
--- It makes durable what is there.
-abbrev pub Stores : Command → Type 0
-Stores command.Commit = Unit {0}
-Stores command.Sync = Unit {0}
-Stores command.StartSync = Unit {0}
-Stores _ = ⊥
+-- And the node log.
+pub record IsAllLasting (config : Config) (v : volume.State) : Type 0 where
+  pub logs : IsLasting config v
+  pub nodes : OnlyLeft (v.log_left v.clock config.nodes) (v.log config.nodes)
 
--- The last of the first commands, so many, does, if there is one.
-abbrev pub StoresAt : List Command → ℕ → Type 0
-StoresAt commands count = 0 < count → (c : Command) → slice_index_or commands (count - 1) c ≡ c → Stores c
+-- What a command makes durable outlasts a crash now.
+abbrev pub LastsAfter : Config → volume.State → Command → Type 0
+LastsAfter config v command.Commit = IsLasting config v
+LastsAfter config v command.Sync = IsAllLasting config v
+LastsAfter config v command.StartSync = IsAllLasting config v
+LastsAfter config v _ = Unit {0}
 
--- The last of all does, or there are none.
-abbrev pub EndsStored : List Command → Type 0
-EndsStored commands = StoresAt commands (length commands)
+-- What the last of these does; and of none, what the opening has made durable, which is all.
+abbrev pub LastsBehind : Config → volume.State → List Command → Type 0
+LastsBehind config v [] = IsAllLasting config v
+LastsBehind config v (c ∷ []) = LastsAfter config v c
+LastsBehind config v (_ ∷ c ∷ rest) = LastsBehind config v (c ∷ rest)

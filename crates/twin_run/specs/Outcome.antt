@@ -23,7 +23,7 @@ use Rattle.twin_run.specs.declared.ending.Status.{Status}
 use Rattle.twin_run.specs.declared.ending.Status.TheVariants.{BadWords, BadLine, ReadFault, TooLong, Volume, Corrupt, Done, WriteFault, Memory}
 use Rattle.twin_run.specs.declared.words.Task.{Task}
 use Rattle.twin_run.specs.declared.words.Task.TheVariants.{Commands, Generate}
-use Rattle.twin_run.specs.Lasting.{IsLasting, EndsStored}
+use Rattle.twin_run.specs.Lasting.{LastsBehind}
 use Rattle.twin_run.specs.Words.{WordsSay}
 
 -- The input was read to its end, and isn't too long.
@@ -132,12 +132,12 @@ module _ (image : Image) (words : List (List ℕ)) (left left' : Option (List �
     pub left_so : OfEachStart standard_config image commands
         (λ now. IsLeft standard_config image' (state_after standard_config now commands))
 
--- Where the last command of the words' run makes durable what is there, a crash now leaves both logs as they are.
+-- What the last command of the words' run makes durable outlasts a crash now.
 pub record Outlasts (words : List (List ℕ)) (left left' : Option (List ℕ)) (now : disk.State) : Type 0 where
   pub task : Task
   pub commands : List Command
   pub asked : IsAsked words left left' task commands
-  pub lasting : EndsStored commands → IsLasting standard_config now
+  pub lasting : LastsBehind standard_config now commands
 
 -- The program ends before its run.
 abbrev pub IsEarly : Status → Type 0

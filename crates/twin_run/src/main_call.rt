@@ -13,7 +13,7 @@ ghost use Rattle.list_machine.specs.Config.{standard_config};
 ghost use Rattle.list_machine.specs.Starts.{OfEachStart, IsLeft, twin_names};
 ghost use Rattle.list_machine.specs.Trace.{state_after};
 ghost use Rattle.twin_run.specs.Outcome.{IsValid, IsWhole, IsInput, Runs, AreToRun, IsAtFault, HasLeft, Outlasts, IsAnswered, IsCutOff, IsStopped, IsEarly, IsReadStatus, IsRunStatus, fault_status, output_of};
-ghost use Rattle.twin_run.specs.Lasting.{IsLasting, EndsStored};
+ghost use Rattle.twin_run.specs.Lasting.{LastsBehind};
 ghost use Rattle.twin_run.specs.Words.{WordsSay, HaveNoForm, texts_of};
 
 use crate::ending::{Fault, Status};
@@ -123,7 +123,7 @@ fn run_and_write<O: Sink, V: Volume>(
         (λ now. IsLeft standard_config (present (V.state volume.new))
         (state_after standard_config now commands.now)) }
     ensures durable { ((result ≡ Status.Done) ⊎ (result ≡ Status.WriteFault)) → V.tells →
-        EndsStored commands.now → IsLasting standard_config (V.state volume.new) }
+        LastsBehind standard_config (V.state volume.new) commands.now }
     ensures no_fault { ((result ≡ Status.Done) ⊎ (result ≡ Status.WriteFault)) →
         (V.state volume.new).faults ≡ (V.state volume.old).faults }
     ensures names { V.tells → NamesCall (twin_names standard_config) (V.state volume.old) (V.state volume.new) }

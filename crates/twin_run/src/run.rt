@@ -7,7 +7,7 @@ ghost use Rattle.volume_base.specs.Volume.{Changes, StaysSteady};
 ghost use Rattle.list_machine.specs.Starts.{OfEachStart, IsLeft, twin_names};
 ghost use Rattle.list_machine.specs.Trace.{trace, state_after, IsBegun, TellOneRoot};
 ghost use Rattle.twin_run.specs.Faults.{IsCorrupt, IsOwnFault};
-ghost use Rattle.twin_run.specs.Lasting.{IsLasting, EndsStored};
+ghost use Rattle.twin_run.specs.Lasting.{LastsBehind};
 ghost use Rattle.twin_run.specs.declared.ending.Fault.TheVariants.{Volume, Memory};
 
 use crate::ending::{Fault, Stopped};
@@ -36,7 +36,7 @@ fn answer_all<V: Volume>(
     ensures fewer { OnErr result (length replies.new ≤ length commands.now) }
     ensures left { OnOk result (V.tells → OfEachStart config.now (present (V.state volume.old)) commands.now
         (λ now. IsLeft config.now (present (V.state volume.new)) (state_after config.now now commands.now))) }
-    ensures durable { OnOk result (V.tells → EndsStored commands.now → IsLasting config.now (V.state volume.new)) }
+    ensures durable { OnOk result (V.tells → LastsBehind config.now (V.state volume.new) commands.now) }
     ensures corrupt { IfErr result (λ fault. V.tells → OfEachStart config.now (present (V.state volume.old))
         commands.now (λ now. IsCorrupt fault → ⊥)) }
     ensures own { IfErr result IsOwnFault }
@@ -90,9 +90,9 @@ pub fn run_twins<V: Volume>(
     // state without its batches, so the next run may begin there.
     ensures left { V.tells → OfEachStart config.now (present (V.state volume.old)) commands.now (λ now. OnOk result
         (IsLeft config.now (present (V.state volume.new)) (state_after config.now now commands.now))) }
-    // Whatever the volume holds, behind a whole run whose last command is a commit or a sync, or that has none, a crash
-    // leaves the operation log and the witness log as they are.
-    ensures durable { OnOk result (V.tells → EndsStored commands.now → IsLasting config.now (V.state volume.new)) }
+    // Whatever the volume holds, behind a whole run what its last command makes durable outlasts a crash: of a commit the
+    // operation log and the witness log, of a sync, and where there is no command, the node log too.
+    ensures durable { OnOk result (V.tells → LastsBehind config.now (V.state volume.new) commands.now) }
 
     // When each fault comes. A database's error that is told of the contents is none of the volume and no want of
     // memory, and sizes or roots that are told differ.

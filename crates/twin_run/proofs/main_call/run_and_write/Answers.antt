@@ -13,12 +13,12 @@ pub returns-clause-left : goal.returns-clause-left
 returns-clause-left g c is = absurd (not_whole c.in-Err.stopped.fault (rw c.status_of.ensures at is))
 
 pub returns-in-Ok-put_out-clause-durable : goal.returns-in-Ok-put_out-clause-durable
-returns-in-Ok-put_out-clause-durable g c = λ is told ends.
-    rw c.in-Ok.ensures.same at (c.in-Ok-run_twins.ensures.durable told ends)
+returns-in-Ok-put_out-clause-durable g c = λ is told.
+    rw c.in-Ok.ensures.same at (c.in-Ok-run_twins.ensures.durable told)
 
 pub returns-in-Ok-run_twins-clause-durable : goal.returns-in-Ok-run_twins-clause-durable
-returns-in-Ok-run_twins-clause-durable g c = λ is told ends.
-    rw c.in-Ok.ensures.same at (c.in-Ok-run_twins.ensures.durable told ends)
+returns-in-Ok-run_twins-clause-durable g c = λ is told.
+    rw c.in-Ok.ensures.same at (c.in-Ok-run_twins.ensures.durable told)
 
 pub returns-clause-durable : goal.returns-clause-durable
 returns-clause-durable g c is = absurd (not_whole c.in-Err.stopped.fault (rw c.status_of.ensures at is))

@@ -11,7 +11,7 @@ use Rattle.list_machine.proofs.RunGood.{way_begins, way_told, way_next}
 use Rattle.twin_databases.proofs.WentLemmas.{changes_err}
 use Rattle.twin_run.specs.declared.ending.Fault.TheVariants as fault
 use Rattle.twin_run.proofs.HeldLog.{state_left}
-use Rattle.twin_run.proofs.Lasting.{lasting_after, lasting_opened, stores_last, stores_next}
+use Rattle.twin_run.proofs.Lasting.{all_lasting, lasting_after, lasts_all, lasts_next}
 use Rattle.twin_run.proofs.RunLemmas.{none_begun, first_pushed, one_more, told_first, told_more, told_begun, told_all, none_tell, more_tell, state_next, state_last}
 use Rattle.twin_run.proofs.run.answer_all.Goals as goal
 
@@ -55,7 +55,7 @@ loop-command-init g c =
       went = went_of _ _ _ _ _ done.changes;
       names = done.names;
       within = omega arith;
-      durable = λ told stores. lasting_opened config c.in-Ok.opened.0 _ done.of (done.durable told);
+      durable = λ told. all_lasting config c.in-Ok.opened.0 _ done.of (done.durable told);
     }
 
 pub loop-command-preserved : goal.loop-command-preserved
@@ -96,8 +96,8 @@ loop-command-preserved g c =
       went = went_joins _ _ _ _ inv.went (went_of _ _ _ _ _ done.changes);
       names = λ told. names_call_joins (twin_names config) _ _ _ (inv.names told) (done.names told config inv.of);
       within = omega (arith, lt);
-      durable = λ told stores. lasting_after config c.in-Ok-step.step.0 _ (done.of config inv.of) command
-          (stores_next commands i command is stores) (done.durable told);
+      durable = λ told. lasts_next config _ commands i command is lt
+          (lasting_after config c.in-Ok-step.step.0 _ (done.of config inv.of) command (done.durable told));
     }
 
 pub returns-in-Err-step-clause-err : goal.returns-in-Err-step-clause-err
@@ -167,10 +167,9 @@ returns-clause-ok g c = λ told s start clear.
     (trace config first c.args.commands.now) c.loop-command-test.false t.3
 
 pub returns-clause-durable : goal.returns-clause-durable
-returns-clause-durable g c = λ told ends.
-    let inv = c.loop-command.invariant in
-    inv.durable told (stores_last c.args.commands.now c.loop-command.command-index inv.within
-    c.loop-command-test.false ends)
+returns-clause-durable g c = λ told.
+    lasts_all c.args.config.now _ c.args.commands.now c.loop-command.command-index c.loop-command-test.false
+    (c.loop-command.invariant.durable told)
 
 pub returns-clause-left : goal.returns-clause-left
 returns-clause-left g c = λ told s start clear.

@@ -1,4 +1,4 @@
-use Rattle.std.proofs.Common.{◌≡◌, ◌≤◌, ◌+◌, ◌++◌, drop, length}
+use Rattle.std.proofs.Common.{◌≡◌, ◌≤◌, ◌+◌, ◌++◌, drop, length, take}
 use Rattle.log_model.specs.Machine.{State}
 use Rattle.volume_base.specs.Moments.{present}
 use Rattle.volume_base.specs.Names.{NamesCall}
@@ -7,7 +7,7 @@ use Rattle.list_machine.specs.Operation.{Operation}
 use Rattle.list_machine.specs.Starts.{OfEachStart, twin_names}
 use Rattle.list_machine.specs.Trace.{trace, replies_from, state_after, TellOneRoot}
 use Rattle.list_machine.proofs.RunGood.{IsOnWay}
-use Rattle.twin_run.specs.Lasting.{IsLasting, StoresAt}
+use Rattle.twin_run.specs.Lasting.{LastsBehind}
 use Rattle.twin_run.specs.Twins.{AreShaped, AreOf, IsTwinsOf}
 use Rattle.twin_run.proofs.run.answer_all.Given as goal
 
@@ -29,5 +29,5 @@ invariant-loop-command g l =
       went : Went g.V.Volume.tells old now;
       names : g.V.Volume.tells → NamesCall (twin_names l.config) old now;
       within : l.command-index ≤ length l.commands;
-      durable : g.V.Volume.tells → StoresAt l.commands l.command-index → IsLasting l.config now;
+      durable : g.V.Volume.tells → LastsBehind l.config now (take l.command-index l.commands);
     }
