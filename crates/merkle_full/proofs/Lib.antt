@@ -13,6 +13,7 @@ pub mod OrphanLemmas
 pub mod PrepareLemmas
 pub mod SettleLemmas
 pub mod FlushLemmas
+pub mod TailLemmas
 pub mod StandLemmas
 pub mod RunLemmas
 pub mod PinnedLemmas

@@ -23,6 +23,11 @@ pub record IsSameTree {D : Type 0} (t u : Full D) : Type 0 where
   pub log : SameButBounds t.log u.log
   pub metadata : u.metadata ≡ t.metadata
 
+-- the nodes of memory from this position to its end
+pub record IsTail {D : Type 0} (s : Shape) (t : Tree D) (from : ℕ) (tail : List D) : Type 0 where
+  pub counted : length tail ≡ length (made s t.leaves) - from
+  pub nodes : (i : ℕ) (d : D) → slice_get tail i ≡ Some d → node_at t (from + i) ≡ Some d
+
 -- The log is the other, and behind it stand the nodes of memory from this position to its end.
 pub record IsFilled {D : Type 0} (s : Shape) (spelling : D → List ℕ) (t : Tree D) (from : ℕ)
     (old new : Log) : Type 0 where

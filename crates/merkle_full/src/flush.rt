@@ -1,6 +1,6 @@
 //! A flush: the nodes that the log lacks go to it, and memory comes to rest.
 use crate::Merkle;
-use crate::tail::nodes_from;
+use crate::tail::{nodes_before, tail_from};
 use journal_base::{Contiguous, append_all};
 use tree_core::{Digest, Error, Family, Location};
 use volume_base::Volume;
@@ -60,8 +60,9 @@ impl<F: Family, D: Digest> Merkle<F, D> {
         ensures writes { Writes V.tells Error.Volume (V.state vol.old) (V.state vol.new) result }
     {
         let (_, end) = self.nodes.bounds();
-        let tail = nodes_from(*self.metadata.allocator(), &self.mem, end)?;
-        let nodes = append_all(self.nodes, vol, &tail)?;
+        let read = nodes_before(*self.metadata.allocator(), &self.mem, end)?;
+        let tail = tail_from(&self.mem, &read, end);
+        let nodes = append_all(self.nodes, vol, tail)?;
         let mut mem = self.mem;
         mem.rest(Location::new(self.boundary));
         Ok(Merkle {

@@ -9,7 +9,7 @@ use Rattle.tree_shape.specs.Hashing.{Hashing, node_input}
 use Rattle.tree_shape.specs.Places.{get-append, get-behind}
 use Rattle.tree_shape.specs.Shape.{Shape, made, peaks_down}
 use Rattle.tree_core.specs.Batches.{Sealed, sealed_node}
-use Rattle.tree_core.specs.Hashed.{IsHashedAt, AreHashed, IsParentAt, HasParents}
+use Rattle.tree_core.specs.Hashed.{IsHashedAt, AreHashed, HasParents}
 use Rattle.tree_core.specs.Links.{ChainSegment, joined_nodes}
 use Rattle.tree_core.specs.Pruned.{made_from, peak_found, held_at}
 use Rattle.tree_core.proofs.Later.{get_front}

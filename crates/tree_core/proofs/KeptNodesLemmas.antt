@@ -1,17 +1,14 @@
--- Nodes with their positions in one list.
-use Rattle.std.proofs.Common.{◌≡◌, ℕ, zero, suc, ◌+◌, ◌-◌, ◌<◌, ◌≤◌, inl, inr, Bool, true, false, cond, List, [], ◌∷◌, ◌++◌, length, take, drop, get_or, Some, None, refl, sym, ◌∙◌, ap, subst, arith, append_assoc, length-append}
-use Rattle.std.specs.Prelude.{slice_get, filter}
+-- Nodes with their positions: pins, and a run behind them.
+use Rattle.std.proofs.Common.{◌≡◌, ℕ, zero, suc, ◌+◌, ◌-◌, ◌<◌, ◌≤◌, inl, inr, cond, List, [], ◌∷◌, ◌++◌, length, take, drop, get_or, Some, None, refl, sym, ◌∙◌, ap, arith, append_assoc}
+use Rattle.std.specs.Prelude.{slice_get}
 use Rattle.std.specs.BTreeMap.{is_at}
 use Rattle.std.specs.Ordering.{nat_cmp}
-use Rattle.std.proofs.Math.Seq.{take-append_seam}
 use Rattle.std.proofs.lemmas.Bool.Decides.{eqb_tells}
-use Rattle.std.proofs.lemmas.List.Elements.{filter-append}
-use Rattle.std.proofs.lemmas.Option.{slice_get_past, slice_get_within, slice_get-get_or, get_or_from_slice_get, same_Some}
+use Rattle.std.proofs.lemmas.List.{take_all}
+use Rattle.std.proofs.lemmas.Option.{slice_get_past, slice_get-get_or, slice_get_read, get_or_from_slice_get, same_Some}
 use Rattle.tree_core.specs.Pruned.{Extends}
-use Rattle.tree_core.specs.KeptNodes.{entry_at, placed, AreBefore, ArePinsThenRun}
+use Rattle.tree_core.specs.KeptNodes.{entry_at, placed, AreBefore}
 use Rattle.tree_verification.proofs.KeyLemmas.{key_apart, key_itself}
-use Rattle.tree_proof.proofs.RebuildLemmas.{append_nil}
-use Rattle.tree_core.proofs.Later.{get_past}
 use Rattle.tree_store.proofs.StoreLemmas.{take-next}
 
 -- ---- an entry of a list, and of two joined
@@ -56,41 +53,6 @@ placed-append (d ∷ ds) es first =
     let e : suc first + length ds ≡ first + suc (length ds) = omega arith in
     ap (λ rest. (first, d) ∷ rest) (placed-append ds es (suc first) ∙ ap (λ n. placed (suc first) ds ++ placed n es) e)
 
-pub length-placed : {D : Type 0} (ds : List D) (first : ℕ) → length (placed first ds) ≡ length ds
-length-placed [] first = refl
-length-placed (d ∷ ds) first = ap suc (length-placed ds (suc first))
-
-pub placed-get : {D : Type 0} (ds : List D) (first i : ℕ) (e : ℕ × D) → slice_get (placed first ds) i ≡ Some e → slice_get ds i ≡ Some e.1
-placed-get [] first i e g = absurd (cc)
-placed-get (d ∷ ds) first zero e g = let same : (first, d) ≡ e = same_Some (first, d) e g in ap (λ (q : ℕ × _). Some q.1) same
-placed-get (d ∷ ds) first (suc i) e g = placed-get ds (suc first) i e g
-
--- one more of them
-pub placed-next : {D : Type 0} (ds : List D) (first i : ℕ) (d : D) → slice_get ds i ≡ Some d → placed first (take (suc i) ds) ≡ placed first (take i ds) ++ ((first + i, d) ∷ [])
-placed-next ds first i d g =
-    let lt = slice_get_within ds i d g in
-    let l : length (take i ds) ≡ i = taken ds i (omega arith) in
-    ap (placed first) (take-next ds i d g) ∙ placed-append (take i ds) (d ∷ []) first ∙ ap (λ n. placed first (take i ds) ++ ((first + n, d) ∷ [])) l
-  where
-    taken : {X : Type 0} (xs : List X) (j : ℕ) → j ≤ length xs → length (take j xs) ≡ j
-    taken xs zero le = refl
-    taken [] (suc j) le = absurd (omega arith)
-    taken (x ∷ xs) (suc j) le = ap suc (taken xs j (omega arith))
-
--- and pushed behind the others
-pub pushed : {D : Type 0} (old es fs : List (ℕ × D)) (ds : List D) (first i : ℕ) (d : D) → es ≡ old ++ placed first (take i ds) → i < length ds → d ≡ get_or ds i d → fs ≡ es ++ ((first + i, d) ∷ []) → fs ≡ old ++ placed first (take (suc i) ds)
-pushed old es fs ds first i d so lt is e =
-    e ∙ ap (λ xs. xs ++ ((first + i, d) ∷ [])) so ∙ append_assoc old (placed first (take i ds)) ((first + i, d) ∷ []) ∙ ap (λ xs. old ++ xs) (sym (placed-next ds first i d (slice_get-get_or ds i d lt ∙ ap Some (sym is))))
-
--- more of them behind these, of which the others follow
-pub placed_on : {D : Type 0} (es fs all : List (ℕ × D)) (next : ℕ) (ds rest both : List D) → es ++ placed next both ≡ all → both ≡ ds ++ rest → fs ≡ es ++ placed next ds → fs ++ placed (next + length ds) rest ≡ all
-placed_on es fs all next ds rest both told parts e =
-    ap (λ xs. xs ++ placed (next + length ds) rest) e ∙ append_assoc es (placed next ds) (placed (next + length ds) rest)
-    ∙ ap (λ xs. es ++ xs) (sym (ap (placed next) parts ∙ placed-append ds rest next)) ∙ told
-
-pub placed_last : {D : Type 0} (es all : List (ℕ × D)) (next : ℕ) (rest : List D) → es ++ placed next rest ≡ all → rest ≡ [] → es ≡ all
-placed_last es all next rest told none = sym (append_nil es) ∙ ap (λ ds. es ++ placed next ds) (sym none) ∙ told
-
 -- ---- the first entries, in turn
 
 pub none_yet : {D : Type 0} (es : List (ℕ × D)) (i p : ℕ) (e : ℕ × D) → entry_at (take i es) p ≡ None → slice_get es i ≡ Some e → (e.0 ≡ p → ⊥) → entry_at (take (suc i) es) p ≡ None
@@ -117,48 +79,40 @@ found_read es i j p d e none lt less same =
 
 -- ---- pins, then a run
 
-pub pins_run_long : {D : Type 0} (first count : ℕ) (es : List (ℕ × D)) (s : ArePinsThenRun first count es) → length es ≡ count + length s.run
-pins_run_long first count es s = let l = length-append s.pins (placed first s.run) in let r = length-placed s.run first in let c = s.counted in omega (arith, ap length s.whole, l, r, c)
+pub low_entry : {D : Type 0} (pins : List (ℕ × D)) (run : List D) (first p : ℕ) → p < first → entry_at (pins ++ placed first run) p ≡ entry_at pins p
+low_entry pins run first p lt = entry_first pins (placed first run) p (none_placed run first p lt)
 
-pub low_entry : {D : Type 0} (first count p : ℕ) (es : List (ℕ × D)) → ArePinsThenRun first count es → p < first → entry_at (take count es) p ≡ entry_at es p
-low_entry first count p es s lt =
-    let cut : take count es ≡ s.pins = ap (λ n. take n es) (sym s.counted) ∙ ap (take (length s.pins)) s.whole ∙ take-append_seam s.pins (placed first s.run) in
-    ap (λ xs. entry_at xs p) cut ∙ sym (ap (λ xs. entry_at xs p) s.whole ∙ entry_first s.pins (placed first s.run) p (none_placed s.run first p lt))
+pub run_entry : {D : Type 0} (pins : List (ℕ × D)) (run : List D) (first p : ℕ) → AreBefore first pins → first ≤ p → entry_at (pins ++ placed first run) p ≡ slice_get run (p - first)
+run_entry pins run first p b le = entry_second pins (placed first run) p (none_before pins first p b le) ∙ placed_at run first p le
 
-pub run_entry : {D : Type 0} (first count p : ℕ) (es : List (ℕ × D)) (s : ArePinsThenRun first count es) → first ≤ p → entry_at es p ≡ slice_get s.run (p - first)
-run_entry first count p es s le =
-    ap (λ xs. entry_at xs p) s.whole ∙ entry_second s.pins (placed first s.run) p (none_before s.pins first p s.before le) ∙ placed_at s.run first p le
+pub run_at : {D : Type 0} (pins : List (ℕ × D)) (run : List D) (first i : ℕ) → AreBefore first pins → entry_at (pins ++ placed first run) (first + i) ≡ slice_get run i
+run_at pins run first i b =
+    let q : first + i - first ≡ i = omega arith in
+    run_entry pins run first (first + i) b (omega arith) ∙ ap (slice_get run) q
 
-pub run_here : {D : Type 0} (first count p : ℕ) (es : List (ℕ × D)) (e : ℕ × D) → ArePinsThenRun first count es → first ≤ p → slice_get es (count + (p - first)) ≡ Some e → entry_at es p ≡ Some e.1
-run_here first count p es e s le g =
-    let at : slice_get (placed first s.run) (p - first) ≡ Some e =
-    sym (get_past s.pins (placed first s.run) (p - first)) ∙ ap (λ n. slice_get (s.pins ++ placed first s.run) (n + (p - first))) s.counted ∙ ap (λ xs. slice_get xs (count + (p - first))) (sym s.whole) ∙ g in
-    run_entry first count p es s le ∙ placed-get s.run first (p - first) e at
+pub run_read : {D : Type 0} (pins : List (ℕ × D)) (run : List D) (first p : ℕ) (d : D) → AreBefore first pins → first ≤ p → p - first < length run → d ≡ get_or run (p - first) d
+    → Some d ≡ entry_at (pins ++ placed first run) p
+run_read pins run first p d b le lt is = sym (run_entry pins run first p b le ∙ slice_get_read run (length run) (p - first) d refl lt is)
 
-pub run_read : {D : Type 0} (first count p : ℕ) (es : List (ℕ × D)) (d : ℕ × D) → ArePinsThenRun first count es → first ≤ p → p - first < length es - count → Some (get_or es (count + (p - first)) d).1 ≡ entry_at es p
-run_read first count p es d s le lt =
-    sym (run_here first count p es (get_or es (count + (p - first)) d) s le (slice_get-get_or es (count + (p - first)) d (omega arith)))
+pub run_past : {D : Type 0} (pins : List (ℕ × D)) (run : List D) (first p : ℕ) → AreBefore first pins → first ≤ p → length run ≤ p - first → entry_at (pins ++ placed first run) p ≡ None
+run_past pins run first p b le past = run_entry pins run first p b le ∙ slice_get_past run (p - first) past
 
-pub run_past : {D : Type 0} (first count p : ℕ) (es : List (ℕ × D)) → ArePinsThenRun first count es → first ≤ p → length es - count ≤ p - first → entry_at es p ≡ None
-run_past first count p es s le past = run_entry first count p es s le ∙ slice_get_past s.run (p - first) (let l = pins_run_long first count es s in omega (arith, l))
+-- of all pins that there are
+pub whole_before : {D : Type 0} (pins es : List (ℕ × D)) (m first count : ℕ) → es ≡ pins → count ≡ length pins → first ≡ m → AreBefore m pins → AreBefore first (take count es)
+whole_before pins es m first count e l f b =
+    let all : take count es ≡ pins = ap (take count) e ∙ take_all count pins (omega (arith, l)) in
+    rw (all, f) b
 
-pub pins_run_empty : {D : Type 0} (first : ℕ) (es : List (ℕ × D)) → es ≡ [] → ArePinsThenRun first 0 es
-pins_run_empty first es e = record { pins = []; run = []; whole = e; counted = refl; before = tt }
+pub whole_entry : {D : Type 0} (pins es : List (ℕ × D)) (run ds : List D) (m first count : ℕ) → es ≡ pins → ds ≡ run → count ≡ length pins → first ≡ m
+    → take count es ++ placed first ds ≡ pins ++ placed m run
+whole_entry pins es run ds m first count e d l f =
+    let all : take count es ≡ pins = ap (take count) e ∙ take_all count pins (omega (arith, l)) in
+    ap (λ xs. xs ++ placed first ds) all ∙ ap (λ xs. pins ++ placed first xs) d ∙ ap (λ n. pins ++ placed n run) f
 
-pub pins_run_built : {D : Type 0} (first count : ℕ) (pins es : List (ℕ × D)) (more : List D) → length pins ≡ count → AreBefore first pins → es ≡ pins ++ placed first more → ArePinsThenRun first count es
-pins_run_built first count pins es more l b e = record { pins = pins; run = more; whole = e; counted = l; before = b }
-
-pub pins_run_grown : {D : Type 0} (first count end : ℕ) (es fs : List (ℕ × D)) (more : List D) → ArePinsThenRun first count es → length es + first ≡ count + end → fs ≡ es ++ placed end more → ArePinsThenRun first count fs
-pins_run_grown first count end es fs more s l e =
-    let long = pins_run_long first count es s in
-    let ends : end ≡ first + length s.run = omega (arith, long) in
-    record {
-      pins = s.pins;
-      run = s.run ++ more;
-      whole = e ∙ ap (λ xs. xs ++ placed end more) s.whole ∙ append_assoc s.pins (placed first s.run) (placed end more) ∙ ap (λ xs. s.pins ++ xs) (ap (λ n. placed first s.run ++ placed n more) ends ∙ sym (placed-append s.run more first));
-      counted = s.counted;
-      before = s.before;
-    }
+-- more of them behind the run
+pub run_grown : {D : Type 0} (pins : List (ℕ × D)) (run more : List D) (first end : ℕ) → first + length run ≡ end → pins ++ placed first (run ++ more) ≡ (pins ++ placed first run) ++ placed end more
+run_grown pins run more first end l =
+    ap (λ es. pins ++ es) (placed-append run more first ∙ ap (λ n. placed first run ++ placed n more) l) ∙ sym (append_assoc pins (placed first run) (placed end more))
 
 -- where all that is there stands before the end
 pub extends_placed : {D : Type 0} (end : ℕ) (es fs : List (ℕ × D)) (more : List D) → ((p : ℕ) → end ≤ p → entry_at es p ≡ None) → fs ≡ es ++ placed end more → Extends (entry_at es) (entry_at fs) end more
@@ -169,106 +123,12 @@ extends_placed end es fs more none e = record {
       ap (λ xs. entry_at xs (end + i)) e ∙ entry_second es (placed end more) (end + i) (none (end + i) (omega arith)) ∙ placed_at more end (end + i) (omega arith) ∙ ap (slice_get more) q;
 }
 
-pub pins_run_joined : {D : Type 0} (first count : ℕ) (more es fs : List (ℕ × D)) → AreBefore first more → ArePinsThenRun first count es → fs ≡ more ++ es → ArePinsThenRun first (length more + count) fs
-pins_run_joined first count more es fs b s e = record {
-  pins = more ++ s.pins;
-  run = s.run;
-  whole = e ∙ ap (λ xs. more ++ xs) s.whole ∙ sym (append_assoc more s.pins (placed first s.run));
-  counted = length-append more s.pins ∙ ap (λ n. length more + n) s.counted;
-  before = both more b;
-}
-  where
-    both : (xs : List (ℕ × _)) → AreBefore first xs → AreBefore first (xs ++ s.pins)
-    both [] a = s.before
-    both (x ∷ xs) a = (a.0, both xs a.1)
-
--- ---- pins and a run of which some entries are kept, and all from a later position on
-
-pub before_later : {D : Type 0} (es : List (ℕ × D)) (first later : ℕ) → first ≤ later → AreBefore first es → AreBefore later es
-before_later [] first later le b = tt
-before_later (e ∷ es) first later le b = ((let lt = b.0 in omega (arith, lt)), before_later es first later le b.1)
-
 pub before_joined : {D : Type 0} (xs ys : List (ℕ × D)) (first : ℕ) → AreBefore first xs → AreBefore first ys → AreBefore first (xs ++ ys)
 before_joined [] ys first a b = b
 before_joined (x ∷ xs) ys first a b = (a.0, before_joined xs ys first a.1 b)
 
-pub placed_before : {D : Type 0} (ds : List D) (first : ℕ) → AreBefore (first + length ds) (placed first ds)
-placed_before [] first = tt
-placed_before (d ∷ ds) first = ((omega arith), let e : suc first + length ds ≡ first + suc (length ds) = omega arith in subst (λ (n : ℕ). AreBefore n (placed (suc first) ds)) e (placed_before ds (suc first)))
-
-pub before_kept : {D : Type 0} (test : ℕ × D → Bool) (es : List (ℕ × D)) (first : ℕ) → AreBefore first es → AreBefore first (filter test es)
-before_kept test [] first b = tt
-before_kept {D = D} test (e ∷ es) first b = by (test e) (before_kept test es first b.1)
-  where
-    by : (t : Bool) → AreBefore first (filter test es) → AreBefore first (cond t (e ∷ filter test es) (filter test es))
-    by true rest = (b.0, rest)
-    by false rest = rest
-
-all_kept : {D : Type 0} (keep : ℕ → Bool) (ds : List D) (first : ℕ) → ((p : ℕ) → first ≤ p → keep p ≡ true) → filter (λ e. keep e.0) (placed first ds) ≡ placed first ds
-all_kept keep [] first all = refl
-all_kept keep (d ∷ ds) first all =
-    ap (λ t. cond t ((first, d) ∷ filter (λ e. keep e.0) (placed (suc first) ds)) (filter (λ e. keep e.0) (placed (suc first) ds))) (all first (omega arith))
-    ∙ ap (λ rest. (first, d) ∷ rest) (all_kept keep ds (suc first) (λ p le. all p (omega arith)))
-
-take_drop : {X : Type 0} (xs : List X) (i : ℕ) → xs ≡ take i xs ++ drop i xs
-take_drop xs zero = refl
-take_drop [] (suc i) = refl
-take_drop (x ∷ xs) (suc i) = ap (λ ys. x ∷ ys) (take_drop xs i)
-
-taken_long : {X : Type 0} (xs : List X) (i : ℕ) → i ≤ length xs → length (take i xs) ≡ i
-taken_long xs zero le = refl
-taken_long [] (suc i) le = absurd (omega arith)
-taken_long (x ∷ xs) (suc i) le = ap suc (taken_long xs i (omega arith))
-
-dropped_long : {X : Type 0} (xs : List X) (i : ℕ) → i ≤ length xs → length (drop i xs) + i ≡ length xs
-dropped_long xs zero le = omega arith
-dropped_long [] (suc i) le = absurd (omega arith)
-dropped_long (x ∷ xs) (suc i) le = let r = dropped_long xs i (omega arith) in omega (arith, r)
-
--- the run from there on is whole
-pub record KeptPart {D : Type 0} (later end : ℕ) (fs : List (ℕ × D)) : Type 0 where
-  pub room : end - later ≤ length fs
-  pub ordered : ArePinsThenRun later (length fs - (end - later)) fs
-
-pub pins_run_kept : {D : Type 0} (keep : ℕ → Bool) (first count later end : ℕ) (es fs : List (ℕ × D)) → ArePinsThenRun first count es → length es + first ≡ count + end → first ≤ later → later ≤ end
-    → ((p : ℕ) → later ≤ p → keep p ≡ true) → fs ≡ filter (λ e. keep e.0) es → KeptPart later end fs
-pins_run_kept {D = D} keep first count later end es fs s l le stop all e = record {
-  room = omega (arith, long, rest);
-  ordered = record {
-    pins = filter test (s.pins ++ placed first (take (later - first) s.run));
-    run = drop (later - first) s.run;
-    whole = parts;
-    counted = omega (arith, long, rest);
-    before = before_kept test (s.pins ++ placed first (take (later - first) s.run)) later (before_joined s.pins (placed first (take (later - first) s.run)) later (before_later s.pins first later le s.before) (subst (λ (n : ℕ). AreBefore n (placed first (take (later - first) s.run))) middle (placed_before (take (later - first) s.run) first)));
-  };
-}
-  where
-    test : ℕ × D → Bool
-    test q = keep q.0
-
-    whole_long : length es ≡ count + length s.run
-    whole_long = pins_run_long first count es s
-
-    inside : later - first ≤ length s.run
-    inside = omega (arith, whole_long)
-
-    cut : length (take (later - first) s.run) ≡ later - first
-    cut = taken_long s.run (later - first) inside
-
-    middle : first + length (take (later - first) s.run) ≡ later
-    middle = omega (arith, cut)
-
-    run_parts : placed first s.run ≡ placed first (take (later - first) s.run) ++ placed later (drop (later - first) s.run)
-    run_parts = ap (placed first) (take_drop s.run (later - first)) ∙ placed-append (take (later - first) s.run) (drop (later - first) s.run) first ∙ ap (λ n. placed first (take (later - first) s.run) ++ placed n (drop (later - first) s.run)) middle
-
-    parts : fs ≡ filter test (s.pins ++ placed first (take (later - first) s.run)) ++ placed later (drop (later - first) s.run)
-    parts =
-        e ∙ ap (filter test) (s.whole ∙ ap (λ xs. s.pins ++ xs) run_parts ∙ sym (append_assoc s.pins (placed first (take (later - first) s.run)) (placed later (drop (later - first) s.run))))
-        ∙ filter-append test (s.pins ++ placed first (take (later - first) s.run)) (placed later (drop (later - first) s.run))
-        ∙ ap (λ xs. filter test (s.pins ++ placed first (take (later - first) s.run)) ++ xs) (all_kept keep (drop (later - first) s.run) later all)
-
-    rest : length (drop (later - first) s.run) ≡ end - later
-    rest = let d = dropped_long s.run (later - first) inside in omega (arith, d, whole_long)
-
-    long : length fs ≡ length (filter test (s.pins ++ placed first (take (later - first) s.run))) + length (drop (later - first) s.run)
-    long = ap length parts ∙ length-append (filter test (s.pins ++ placed first (take (later - first) s.run))) (placed later (drop (later - first) s.run)) ∙ ap (λ n. length (filter test (s.pins ++ placed first (take (later - first) s.run))) + n) (length-placed (drop (later - first) s.run) later)
+-- what stands behind the first is what is left of them
+pub dropped-get : {X : Type 0} (xs : List X) (n i : ℕ) → slice_get (drop n xs) i ≡ slice_get xs (n + i)
+dropped-get xs zero i = let e : 0 + i ≡ i = omega arith in ap (slice_get xs) (sym e)
+dropped-get [] (suc n) i = refl
+dropped-get (x ∷ xs) (suc n) i = let e : suc n + i ≡ suc (n + i) = omega arith in dropped-get xs n i ∙ ap (slice_get (x ∷ xs)) (sym e)

@@ -3,8 +3,8 @@ pub mod Later
 pub mod Held
 pub mod Since
 pub mod PrunedLemmas
-pub mod MapLemmas
 pub mod KeptNodesLemmas
+pub mod FoundLemmas
 pub mod LinkLemmas
 pub mod FoldLemmas
 pub mod TreeLemmas

@@ -11,7 +11,7 @@ use Rattle.tree_shape.specs.Shape.{Shape, made}
 use Rattle.tree_shape.specs.Slow.{nodes}
 use Rattle.tree_store.specs.Stores.{IsTreeOf}
 use Rattle.tree_core.specs.Pruned.{IsPruned}
-use Rattle.tree_core.specs.KeptNodes.{entry_at, AreBefore}
+use Rattle.tree_core.specs.KeptNodes.{entry_at, placed, AreBefore}
 use Rattle.tree_core.specs.Tree.{either}
 use Rattle.tree_verification.proofs.KeyLemmas.{key_same}
 use Rattle.tree_core.proofs.KeptNodesLemmas.{entry_here, entry_on, entry_first, entry_second}
@@ -19,6 +19,13 @@ use Rattle.tree_core.proofs.KeptNodesLemmas.{entry_here, entry_on, entry_first, 
 -- whether there is no node at an entry's position
 abbrev pub is_free : {D : Type 0} → List (ℕ × D) → ℕ × D → Bool
 is_free old e = is_none (entry_at old e.0)
+
+-- the table of pins with further ones before it, where neither a pin nor one of the run stands
+pub pinned_table : {D : Type 0} (pins es fs : List (ℕ × D)) (run : List D) (os : List (ℕ × D)) (ds : List D) (m first : ℕ) → os ≡ es → ds ≡ run → first ≡ m
+    → fs ≡ filter (is_free (os ++ placed first ds)) pins ++ os → fs ≡ filter (is_free (es ++ placed m run)) pins ++ es
+pinned_table pins es fs run os ds m first e d f is =
+    is ∙ ap (λ xs. filter (is_free (xs ++ placed first ds)) pins ++ xs) e ∙ ap (λ xs. filter (is_free (es ++ placed first xs)) pins ++ es) d
+    ∙ ap (λ n. filter (is_free (es ++ placed n run)) pins ++ es) f
 
 pub joined_pinned : {D : Type 0} (old pins fs : List (ℕ × D)) → fs ≡ filter (is_free old) pins ++ old → (p : ℕ) → entry_at fs p ≡ either (entry_at old p) (entry_at pins p)
 joined_pinned {D = D} old pins fs e p = ap (λ es. entry_at es p) e ∙ by (entry_at old p) refl

@@ -1,43 +1,13 @@
 -- A tree at rest.
-use Rattle.std.proofs.Common.{◌≡◌, ℕ, ◌+◌, ◌≤◌, Bool, true, false, cond, List, [], ◌++◌, length, Some, None, Option, refl, sym, ◌∙◌, ap, subst, arith}
-use Rattle.std.specs.Prelude.{filter, ◌||◌, IsSome}
-use Rattle.std.specs.BTreeMap.{is_at}
-use Rattle.std.specs.Ordering.{nat_cmp}
-use Rattle.std.specs.Map.{lookup}
-use Rattle.std.proofs.lemmas.List.{append-nil}
-use Rattle.std.proofs.lemmas.Map.Entries.{lookup-filter-keys}
+use Rattle.std.proofs.Common.{◌≡◌, ℕ, ◌≤◌, Bool, true, false, cond, List, Some, None, Option, refl, sym, ◌∙◌, arith}
+use Rattle.std.specs.Prelude.{◌||◌, IsSome}
 use Rattle.tree_shape.specs.Hashing.{Hashing}
 use Rattle.tree_shape.specs.Shape.{Shape, IsLawful}
 use Rattle.tree_shape.specs.Kept.{KeepsPeaks}
 use Rattle.tree_store.specs.Stores.{IsTreeOf}
-use Rattle.tree_verification.proofs.KeyLemmas.{key_same}
 use Rattle.tree_core.specs.Pruned.{IsPruned, is_peak_at}
-use Rattle.tree_core.specs.KeptNodes.{entry_at, placed, AreBefore, ArePinsThenRun}
 use Rattle.tree_core.specs.Tree.{rests}
-use Rattle.tree_core.proofs.KeptNodesLemmas.{pins_run_long, before_later, before_joined, placed_before, before_kept}
 use Rattle.tree_core.proofs.PrunedLemmas.{pruned_peak, peak_at_true}
-
--- what a filter of the kept nodes by their positions gives
-pub get_rested : {X : Type 0} (keep : ℕ → Bool) (es fs : List (ℕ × X)) → fs ≡ filter (λ e. keep e.0) es → (p : ℕ) → entry_at fs p ≡ cond (keep p) (entry_at es p) None
-get_rested keep es fs e p =
-    ap (lookup (is_at (nat_cmp p))) e ∙ lookup-filter-keys (is_at (nat_cmp p)) keep (keep p) (λ k t. ap keep (sym (key_same p k t))) es
-
--- all that is there stands before the end, so what is kept of it are pins
-pub rested_part : {D : Type 0} (keep : ℕ → Bool) (first count end : ℕ) (es fs : List (ℕ × D)) → ArePinsThenRun first count es → length es + first ≡ count + end → fs ≡ filter (λ e. keep e.0) es → ArePinsThenRun end (length fs) fs
-rested_part {D = D} keep first count end es fs s l e =
-    let long = pins_run_long first count es s in
-    let ends : first + length s.run ≡ end = omega (arith, long) in
-    let run : AreBefore end (placed first s.run) = subst (λ (n : ℕ). AreBefore n (placed first s.run)) ends (placed_before s.run first) in
-    let both : AreBefore end (s.pins ++ placed first s.run) = before_joined s.pins (placed first s.run) end (before_later s.pins first end (omega (arith, ends)) s.before) run in
-    let all : AreBefore end es = subst (AreBefore end) (sym s.whole) both in
-    let kept : AreBefore end (filter (λ (q : ℕ × D). keep q.0) es) = before_kept (λ (q : ℕ × D). keep q.0) es end all in
-    record {
-      pins = fs;
-      run = [];
-      whole = sym (append-nil fs);
-      counted = refl;
-      before = subst (AreBefore end) (sym e) kept;
-    }
 
 or_first : (a b : Bool) → a ≡ true → (a || b) ≡ true
 or_first true b e = refl

@@ -1,5 +1,5 @@
 -- A tree in memory, as contracts see it.
-use Rattle.std.specs.Prelude.{◌≡◌, ℕ, ◌+◌, ◌-◌, ◌^◌, ◌<◌, ◌≤◌, min, List, [], length, Option, None, Result, Ok, Err, slice_get, is_some, false, nat_le, Bool, ◌||◌, if◌then◌else◌}
+use Rattle.std.specs.Prelude.{◌≡◌, ℕ, ◌+◌, ◌-◌, ◌^◌, ◌<◌, ◌≤◌, min, List, [], ◌++◌, length, Option, None, Result, Ok, Err, slice_get, is_some, false, nat_le, Bool, ◌||◌, if◌then◌else◌}
 use Rattle.tree_shape.specs.Hashing.{Hashing}
 use Rattle.tree_shape.specs.Shape.{Shape, made}
 use Rattle.tree_store.specs.declared.error.Error.{Error}
@@ -8,7 +8,7 @@ use Rattle.tree_shape.specs.Sizes.{HasSize}
 use Rattle.tree_core.specs.Pruned.{IsPruned, is_peak_at, keeps, pruned, Extends}
 use Rattle.tree_store.specs.Stores.{IsTreeOf}
 use Rattle.tree_core.specs.Reading.{ArePeaks}
-use Rattle.tree_core.specs.KeptNodes.{entry_at, ArePinsThenRun}
+use Rattle.tree_core.specs.KeptNodes.{entry_at, placed, AreBefore, HasRoom}
 
 -- the number of leaves, where it is pruned, and the kept nodes with their positions
 pub record Tree (D : Type 0) : Type 0 where
@@ -26,11 +26,17 @@ pub record IsSound {D : Type 0} (s : Shape) (t : Tree D) : Type 0 where
   pub within : t.boundary ≤ t.leaves
   pub held : IsPruned s t.leaves t.boundary (node_at t)
 
--- so many nodes stand before its boundary, and the others are a run from there to its end
-pub record IsStored {D : Type 0} (s : Shape) (count : ℕ) (t : Tree D) : Type 0 where
-  pub sound : IsSound s t
-  pub ordered : ArePinsThenRun (length (made s t.boundary)) count t.kept
-  pub ended : length t.kept + length (made s t.boundary) ≡ count + length (made s t.leaves)
+-- a tree whose nodes are these pins and, from its boundary's position on, this run
+abbrev pub stored_tree : {D : Type 0} → Shape → ℕ → ℕ → List (ℕ × D) → List D → Tree D
+stored_tree s n b pins run = record { leaves = n; boundary = b; kept = pins ++ placed (length (made s b)) run }
+
+-- the pins stand before the boundary's position, in a table of this capacity, which has room for the pins of any prune, and
+-- the run ends where the tree does
+pub record IsStored {D : Type 0} (s : Shape) (n b capacity : ℕ) (pins : List (ℕ × D)) (run : List D) : Type 0 where
+  pub sound : IsSound s (stored_tree s n b pins run)
+  pub before : AreBefore (length (made s b)) pins
+  pub room : HasRoom (length pins) capacity
+  pub ended : length (made s b) + length run ≡ length (made s n)
 
 -- it is the tree of this list of leaf digests: each kept node is the slow node
 abbrev pub IsOf : {D : Type 0} → Shape → Hashing D → List D → Tree D → Type 0

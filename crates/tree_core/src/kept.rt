@@ -1,51 +1,45 @@
 //! Which nodes a prune keeps, and what a tree is built from.
-ghost use Rattle.std.specs.Prelude.{◌≡◌, ℕ, ◌+◌, ◌-◌, ◌≤◌, ◌^◌, min, length, IfOk, IfErr, false, None};
+ghost use Rattle.std.specs.Prelude.{◌≡◌, ℕ, ◌+◌, ◌-◌, ◌≤◌, ◌^◌, ◌++◌, min, take, length, IfOk, IfErr, false, None, vec_capacity};
 ghost use Rattle.tree_shape.specs.Shape.{made};
 ghost use Rattle.tree_shape.specs.Sizes.{HasSize};
-ghost use Rattle.tree_core.specs.Pruned.{is_peak_at, keeps};
+ghost use Rattle.tree_core.specs.Pruned.{is_peak_at};
 ghost use Rattle.tree_core.specs.Reading.{ArePeaks};
-ghost use Rattle.tree_core.specs.KeptNodes.{entry_at, AreBefore};
-ghost use Rattle.tree_core.specs.Tree.{rests};
+ghost use Rattle.tree_core.specs.KeptNodes.{entry_at, placed, peaks_found, AreBefore, HasRoom};
 
 use crate::Error;
+use crate::kept_nodes::{PIN_ROOM, node_among, push_found};
 use std::alloc::{AllocError, Global};
 use tree_shape::{Digest, Family, Position, peak_nodes, width};
 
-/// Whether a peak of this many leaves stands here.
-fn is_peak_position<F: Family>(leaves: u64, position: u64) -> bool
-    requires { leaves ≤ 2 ^ 62 }
-    ensures { result ≡ is_peak_at F.shape leaves (F.shape.heights leaves) position }
+/// Puts behind the pins those of the first `count` pins and the nodes from `first` on that stand at peaks of so many leaves.
+/// It takes no memory.
+pub(crate) fn push_peaks<F: Family, D: Digest>(
+    pins: &mut Vec<(u64, D)>,
+    count: usize,
+    first: u64,
+    nodes: &[D],
+    leaves: u64,
+)
+    requires few { leaves ≤ 2 ^ 62 }
+    requires within { count ≤ length pins.old.items }
+    requires before { AreBefore first (take count pins.old.items) }
+    requires room { length pins.old.items + length (F.shape.heights leaves) ≤ vec_capacity pins.old }
+    ensures pins { let kept = take count pins.old.items ++ placed first nodes.now in
+        pins.new.items ≡ pins.old.items ++ peaks_found F.shape (entry_at kept) leaves (F.shape.heights leaves) }
+    ensures room { vec_capacity pins.old ≤ vec_capacity pins.new }
 {
     let mut end = leaves;
-    let count = F::peak_count(leaves);
-    for i in 0..count {
+    let peaks = F::peak_count(leaves);
+    for i in 0..peaks {
         let height = F::peak_height(leaves, i);
         end -= width(height);
-        if F::position(end, height) == position {
-            return true;
-        }
+        let position = F::position(end, height);
+        let found = node_among(pins, count, first, nodes, position);
+        push_found(pins, position, found);
     }
-    false
 }
 
-/// Whether a prune to this many leaves keeps what stands here.
-pub(crate) fn is_kept<F: Family>(leaves: u64, position: u64) -> bool
-    requires { leaves ≤ 2 ^ 62 }
-    ensures { result ≡ keeps F.shape leaves position }
-{
-    F::size(leaves) <= position || is_peak_position::<F>(leaves, position)
-}
-
-/// Whether a tree of so many leaves keeps what stands here when it rests, with the peaks of `boundary` leaves.
-pub(crate) fn is_resting<F: Family>(leaves: u64, boundary: u64, position: u64) -> bool
-    requires few { leaves ≤ 2 ^ 62 }
-    requires low { boundary ≤ 2 ^ 62 }
-    ensures { result ≡ rests F.shape leaves boundary position }
-{
-    is_peak_position::<F>(leaves, position) || is_peak_position::<F>(boundary, position)
-}
-
-/// The peaks of a number of leaves, the oldest first, each at its position.
+/// A table of the peaks of a number of leaves, the oldest first, each at its position.
 pub(crate) fn pins_of<F: Family, D: Digest>(
     alloc: Global,
     leaves: u64,
@@ -58,6 +52,7 @@ pub(crate) fn pins_of<F: Family, D: Digest>(
     ensures others { IfOk result (λ v. (p : ℕ) → is_peak_at F.shape leaves (F.shape.heights leaves) p ≡ false →
         entry_at v.items p ≡ None) }
     ensures before { IfOk result (λ v. AreBefore (length (made F.shape leaves)) v.items) }
+    ensures room { IfOk result (λ v. HasRoom (length v.items) (vec_capacity v)) }
 {
     let peaks = peak_nodes::<F>(alloc, leaves)?;
     let mut nodes = Vec::new(alloc);
@@ -65,6 +60,7 @@ pub(crate) fn pins_of<F: Family, D: Digest>(
         let (x, height) = peaks[j];
         nodes.push((F::position(x, height), pinned[j]))?;
     }
+    nodes.reserve(PIN_ROOM)?;
     Ok(nodes)
 }
 

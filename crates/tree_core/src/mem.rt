@@ -1,6 +1,6 @@
 use crate::growth::mark_of;
-use crate::kept::{is_kept, is_resting, leaves_with, pins_of};
-use crate::kept_nodes::{node_among, push_all, with_pins};
+use crate::kept::{leaves_with, pins_of, push_peaks};
+use crate::kept_nodes::{PIN_ROOM, drop_front, node_of, with_pins};
 use crate::mark::Mark;
 use crate::peaks::{Peaks, root_from};
 use crate::segment::{Segment, push_own};
@@ -15,26 +15,28 @@ use tree_store::nodes_from_memory;
 use tree_verification::{proof_from_memory, range_proof_from_memory};
 use volume_base::Volume;
 
-/// A tree in memory, pruned at a boundary: some nodes before it, the pins, and all nodes from there on, with their positions.
+/// A tree in memory, pruned at a boundary: all nodes from the boundary's position on, one after another, and some before it,
+/// the pins, each with its position. The table of pins takes its room when it is made, so a prune takes none.
 #[derive(Drop)]
 pub struct Mem<F: Family, D: Digest> {
     alloc: Global,
-    nodes: Vec<(u64, D)>,
-    pins: usize,
+    nodes: Vec<D>,
+    pins: Vec<(u64, D)>,
     leaves: u64,
     boundary: u64,
     family: PhantomData<F>,
 }
 
 impl<F: Family, D: Digest> Model for Mem<F, D> {
-    ghost use Rattle.tree_core.specs.Tree.{Tree, IsStored};
+    ghost use Rattle.std.specs.Prelude.{vec_capacity};
+    ghost use Rattle.tree_core.specs.Tree.{Tree, IsStored, stored_tree};
 
     ghost Value = { Tree D };
 
-    ghost view = { λ m. record { leaves = m.leaves; boundary = m.boundary; kept = m.nodes.items } };
+    ghost view = { λ m. stored_tree F.shape m.leaves m.boundary m.pins.items m.nodes.items };
 
     ghost invariant = { λ m.
-        IsStored F.shape m.pins (record { leaves = m.leaves; boundary = m.boundary; kept = m.nodes.items }) };
+        IsStored F.shape m.leaves m.boundary (vec_capacity m.pins) m.pins.items m.nodes.items };
 }
 
 impl<F: Family, D: Digest> Peaks<F, D> for Mem<F, D> {
@@ -73,10 +75,11 @@ impl<F: Family, D: Digest> Mem<F, D> {
         ensures tree { IfOk result (λ t. (h : Hashing D) → IsOf F.shape h [] t) }
         ensures memory { IsOkUnless result Error.Memory }
     {
+        let pins = Vec::with_capacity(alloc, PIN_ROOM)?;
         Ok(Mem {
             alloc,
             nodes: Vec::new(alloc),
-            pins: 0,
+            pins,
             leaves: 0,
             boundary: 0,
             family: PhantomData,
@@ -105,12 +108,10 @@ impl<F: Family, D: Digest> Mem<F, D> {
             return Err(Error::InvalidPinnedNodes);
         }
         let leaves = leaves_with::<F>(loc, nodes.len() as u64)?;
-        let mut kept = pins_of::<F, D>(alloc, loc, &pinned)?;
-        let pins = kept.len();
-        push_all(&mut kept, F::size(loc), &nodes)?;
+        let pins = pins_of::<F, D>(alloc, loc, &pinned)?;
         Ok(Mem {
             alloc,
-            nodes: kept,
+            nodes,
             pins,
             leaves,
             boundary: loc,
@@ -152,7 +153,18 @@ impl<F: Family, D: Digest> Mem<F, D> {
     fn node(&self, position: u64) -> Option<D>
         ensures { result ≡ node_at self.now position }
     {
-        node_among(&self.nodes, self.pins, F::size(self.boundary), position)
+        let first = F::size(self.boundary);
+        node_of(&self.pins, first, &self.nodes, position)
+    }
+
+    /// The position of the tree's own boundary, and the nodes from there to the size, one a position, in order. It takes no
+    /// memory.
+    pub fn retained(&self) -> (Position<F>, &[D])
+        ensures boundary { result.0 ≡ length (made F.shape self.now.boundary) }
+        ensures counted { result.0 + length result.1.now ≡ length (made F.shape self.now.leaves) }
+        ensures nodes { (i : ℕ) → node_at self.now (result.0 + i) ≡ slice_get result.1.now i }
+    {
+        (Position::new(F::size(self.boundary)), self.nodes.as_slice())
     }
 
     /// The root with this many inactive peaks. It takes no memory.
@@ -225,9 +237,12 @@ impl<F: Family, D: Digest> Mem<F, D> {
             return Ok(());
         }
         let boundary = loc.as_u64();
-        let run = F::size(leaves) - F::size(boundary);
-        self.nodes.retain(|entry| is_kept::<F>(boundary, entry.0));
-        self.pins = self.nodes.len() - run as usize;
+        let first = F::size(self.boundary);
+        let gone = F::size(boundary) - first;
+        let count = self.pins.len();
+        push_peaks::<F, D>(&mut self.pins, count, first, &self.nodes, boundary);
+        drop_front(&mut self.pins, count);
+        drop_front(&mut self.nodes, gone as usize);
         self.boundary = boundary;
         Ok(())
     }
@@ -254,9 +269,12 @@ impl<F: Family, D: Digest> Mem<F, D> {
     {
         let leaves = self.leaves;
         let kept = boundary.as_u64();
-        self.nodes
-            .retain(|entry| is_resting::<F>(leaves, kept, entry.0));
-        self.pins = self.nodes.len();
+        let first = F::size(self.boundary);
+        let count = self.pins.len();
+        push_peaks::<F, D>(&mut self.pins, count, first, &self.nodes, leaves);
+        push_peaks::<F, D>(&mut self.pins, count, first, &self.nodes, kept);
+        drop_front(&mut self.pins, count);
+        self.nodes.clear();
         self.boundary = leaves;
     }
 
@@ -271,9 +289,8 @@ impl<F: Family, D: Digest> Mem<F, D> {
         ensures memory { IsOkUnless result Error.Memory }
     {
         let first = F::size(self.boundary);
-        let nodes = with_pins(self.alloc, &self.nodes, self.pins, first, &pins)?;
-        self.pins += nodes.len() - self.nodes.len();
-        self.nodes = nodes;
+        let table = with_pins(self.alloc, &self.pins, first, &self.nodes, &pins)?;
+        self.pins = table;
         Ok(())
     }
 
@@ -297,7 +314,7 @@ impl<F: Family, D: Digest> Mem<F, D> {
         ensures err { OnErr result (self.new ≡ self.old) }
     {
         let leaves = batch.leaves().as_u64();
-        batch.push_nodes(&mut self.nodes, F::size(self.leaves), place)?;
+        batch.push_nodes(&mut self.nodes, place)?;
         self.leaves = leaves;
         Ok(())
     }

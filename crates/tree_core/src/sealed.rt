@@ -52,7 +52,6 @@ impl<F: Family, D: Digest> MerkleizedBatch<F, D> {
     ghost use Rattle.tree_core.specs.Links.{ChainSegment, IsLinked, StandsBehind, HasMark, joined_nodes};
     ghost use Rattle.tree_core.specs.Batches.{Sealed, IsSoundSealed, IsSealedOf, IsUnsealedOf, IsChildOf, sealed_node};
     ghost use Rattle.tree_core.specs.Applied.{WhyNot};
-    ghost use Rattle.tree_core.specs.KeptNodes.{placed};
     ghost use Rattle.tree_core.specs.Tree.{IsOf};
     ghost use Rattle.tree_core.specs.Overlay.{overlaid, AreAlike};
     ghost use Rattle.tree_core.specs.Reading.{OnlyRefusedBy};
@@ -236,20 +235,13 @@ impl<F: Family, D: Digest> MerkleizedBatch<F, D> {
         place_of(&self.segments, mark)
     }
 
-    /// Puts its nodes from a kept segment on behind others, the first at this position, or none.
-    pub(crate) fn push_nodes(
-        &self,
-        nodes: &mut Vec<(u64, D)>,
-        first: u64,
-        place: usize,
-    ) -> Result<(), AllocError>
-        requires within { place ≤ length self.now.links }
-        requires few { first + length (joined_nodes (drop place self.now.links)) < 2 ^ 64 }
-        ensures ok { OnOk result (nodes.new.items ≡ nodes.old.items ++
-            placed first (joined_nodes (drop place self.now.links))) }
+    /// Puts its nodes from a kept segment on behind others, or none.
+    pub(crate) fn push_nodes(&self, nodes: &mut Vec<D>, place: usize) -> Result<(), AllocError>
+        requires { place ≤ length self.now.links }
+        ensures ok { OnOk result (nodes.new.items ≡ nodes.old.items ++ joined_nodes (drop place self.now.links)) }
         ensures err { OnErr result (nodes.new.items ≡ nodes.old.items) }
     {
-        push_nodes(nodes, first, &self.segments, place)
+        push_nodes(nodes, &self.segments, place)
     }
 
     /// Why a tree with this mark, which stands before no kept segment, can't take the batch.

@@ -5,10 +5,8 @@ ghost use Rattle.tree_shape.specs.Root.{root, root_over};
 ghost use Rattle.tree_core.specs.Pruned.{made_from, nodes_from, peaks_at, held_at};
 ghost use Rattle.tree_core.specs.Links.{ChainSegment, IsMarkBehind, first_leaves, HasMark, joined_nodes};
 ghost use Rattle.tree_core.specs.Batches.{IsSoundSegment};
-ghost use Rattle.tree_core.specs.KeptNodes.{placed};
 
 use crate::growth::mark_of;
-use crate::kept_nodes::push_all;
 use crate::mark::Mark;
 use crate::peaks::{Peaks, root_from};
 use std::alloc::{AllocError, Global};
@@ -137,25 +135,21 @@ pub(crate) fn place_of<F: Family, D: Digest>(
     None
 }
 
-/// Puts the nodes of the segments from this one on behind others, the first at this position, or none.
+/// Puts the nodes of the segments from this one on behind others, or none.
 pub(crate) fn push_nodes<F: Family, D: Digest>(
-    nodes: &mut Vec<(u64, D)>,
-    first: u64,
+    nodes: &mut Vec<D>,
     segments: &[Rc<Segment<F, D>>],
     place: usize,
 ) -> Result<(), AllocError>
-    requires within { place ≤ length segments.now }
-    requires few { first + length (joined_nodes (drop place (map (λ g. g.value) segments.now))) < 2 ^ 64 }
+    requires { place ≤ length segments.now }
     ensures ok { OnOk result (nodes.new.items ≡ nodes.old.items ++
-        placed first (joined_nodes (drop place (map (λ g. g.value) segments.now)))) }
+        joined_nodes (drop place (map (λ g. g.value) segments.now))) }
     ensures err { OnErr result (nodes.new.items ≡ nodes.old.items) }
 {
     let before = nodes.len();
-    let mut next = first;
     for i in place..segments.len() {
-        let more = segments[i].nodes();
-        match push_all(nodes, next, more) {
-            Ok(()) => next += more.len() as u64,
+        match nodes.extend_from_slice(segments[i].nodes()) {
+            Ok(()) => {}
             Err(_) => {
                 nodes.truncate(before);
                 return Err(AllocError);

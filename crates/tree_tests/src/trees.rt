@@ -93,6 +93,19 @@ fn a_pruned_tree_keeps_its_root(rt: HostRuntime) -> Result<(), Fail> {
 }
 
 #[test]
+fn a_tree_lends_its_nodes_from_the_boundary_on(rt: HostRuntime) -> Result<(), Fail> {
+    let hasher = Standard::new(Bagging::ForwardFold);
+    let whole = tree_of::<Mmr>(rt.alloc(), &hasher, &ELEMENTS[..5])?;
+    let nodes = told(rt.alloc(), &whole, 3, 8)?;
+    let mut tree = tree_of::<Mmr>(rt.alloc(), &hasher, &ELEMENTS[..5])?;
+    tree.prune(Location::new(2))?;
+    let (first, retained) = tree.retained();
+    assert!(rt; first == Position::new(3));
+    assert!(rt; retained == nodes.as_slice());
+    Ok(())
+}
+
+#[test]
 fn a_tree_tells_its_size(rt: HostRuntime) -> Result<(), Fail> {
     let tree = elements_tree::<Mmr>(rt.alloc())?;
     assert!(rt;

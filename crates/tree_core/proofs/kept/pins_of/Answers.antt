@@ -22,8 +22,14 @@ returns-clause-pins g c =
     let s = g.F.Family.shape in
     let n = c.args.leaves in
     let counted = ap length c.in_ok-peaks.ensures.nodes ∙ length-peaks s n in
-    all_pinned s n c.loop-j.j c.loop-j.nodes.items c.args.pinned.now c.requires.counted
-    (omega (arith, c.loop-j-test.false, c.len-j-end.ensures, counted)) c.loop-j.invariant
+    rw c.reserve.ensures.items (all_pinned s n c.loop-j.j c.loop-j.nodes.items c.args.pinned.now c.requires.counted
+    (omega (arith, c.loop-j-test.false, c.len-j-end.ensures, counted)) c.loop-j.invariant)
+
+pub returns-clause-others : goal.returns-clause-others
+returns-clause-others g c = rw c.reserve.ensures.items c.loop-j.invariant.others
+
+pub returns-clause-before : goal.returns-clause-before
+returns-clause-before g c = rw c.reserve.ensures.items c.loop-j.invariant.before
 
 pub loop-j-preserved : goal.loop-j-preserved
 loop-j-preserved g c =

@@ -28,9 +28,9 @@ returns-in_err-nodes-clause-outside g c tells h all full = outside_append _ c.in
     let here = subst (λ (t : Full g.row.D.Denot). IsFullOf s h g.D.Spelled.spelling (g.D.Read.admits tt) all t (present (g.V.Volume.state c.args.vol.now))) (sym c.self.view_is) full in
     let over = c.in_err-nodes.ensures.overflow tells (ap Err is) in
     let ends = full_end s h g.D.Spelled.spelling (g.D.Read.admits tt) all _ (present (g.V.Volume.state c.args.vol.now)) here inv.sound.within in
-    let counted = (c.in_ok-tail.ensures {u = tt}).counted in
+    let counted = c.tail_from-tail.ensures.tail.counted in
     let small = g.met.F.Family.small c.self.inside.mem.leaves in
-    omega (arith, over, here.end_is, counted, ap length c.deref.ensures.value, c.bounds-end.ensures.end, small, inv.sound.few))
+    omega (arith, over, here.end_is, counted, c.bounds-end.ensures.end, small, inv.sound.few))
 
 pub invariant_of-result : goal.invariant_of-result
 invariant_of-result g c =
@@ -51,20 +51,20 @@ returns-clause-full g c tells h all full =
     let did = c.in_ok-nodes.ensures {u = tt} in
     let held = did.held tells (record { start_is = here.start_is; end_is = here.end_is }) in
     let ends = full_end s h g.D.Spelled.spelling (g.D.Read.admits tt) all _ (present old) here c.self.invariant.sound.within in
-    let tail = (c.in_ok-tail.ensures {u = tt}).tree h all here.tree in
+    let tail = c.tail_from-tail.ensures.tree h all here.tree in
     let others = (did.log tt tells).others in
-    flushed_full s h g.D.Spelled.spelling (g.D.Read.admits tt) all _ _ (present old) (present new) c.in_ok-tail.tail.items here
+    flushed_full s h g.D.Spelled.spelling (g.D.Read.admits tt) all _ _ (present old) (present new) c.tail_from-tail.result.now here
     (record { leaves = c.rest.ensures.rested.leaves; boundary = refl; log = did.made; metadata = refl })
     (c.rest.ensures.rested.boundary ∙ sym c.rest.ensures.rested.leaves)
     (c.rest.ensures.tree h all here.tree)
     (tail ∙ ap (λ (n : ℕ). drop n (nodes s h all)) (c.bounds-end.ensures.end ∙ ends))
-    (did.appended tells ∙ ap (λ (xs : List g.row.D.Denot). appended (old.log (string_bytes c.self.inside.nodes.name)) (map g.D.Spelled.spelling xs)) c.deref.ensures.value)
+    (did.appended tells)
     held.start_is
     held.end_is
     (others.maps (string_bytes c.self.inside.metadata))
 
-pub returns-in_err-tail-clause-names : goal.returns-in_err-tail-clause-names
-returns-in_err-tail-clause-names g c tells = names_call_none _ (g.V.Volume.state c.args.vol.now)
+pub returns-in_err-read-clause-names : goal.returns-in_err-read-clause-names
+returns-in_err-read-clause-names g c tells = names_call_none _ (g.V.Volume.state c.args.vol.now)
 
 pub returns-in_err-nodes-clause-names : goal.returns-in_err-nodes-clause-names
 returns-in_err-nodes-clause-names g c tells =
@@ -76,8 +76,8 @@ returns-clause-names g c tells =
     subst (λ (t : Full g.row.D.Denot). NamesCall (log_alone t.log.name) (g.V.Volume.state c.args.vol.now) (g.V.Volume.state c.append_all.new.vol)) c.self.view_is
     (names_call_log _ _ _ _ _ (inl refl) ((c.in_ok-nodes.ensures {u = tt}).log tt tells))
 
-pub returns-in_err-tail-clause-images : goal.returns-in_err-tail-clause-images
-returns-in_err-tail-clause-images g c tells h all durable top full each = pair_none _ _ _ (g.V.Volume.state c.args.vol.now) each
+pub returns-in_err-read-clause-images : goal.returns-in_err-read-clause-images
+returns-in_err-read-clause-images g c tells h all durable top full each = pair_none _ _ _ (g.V.Volume.state c.args.vol.now) each
 
 pub returns-in_err-nodes-clause-images : goal.returns-in_err-nodes-clause-images
 returns-in_err-nodes-clause-images g c tells h all durable top full each =
@@ -87,9 +87,9 @@ returns-in_err-nodes-clause-images g c tells h all durable top full each =
     let P : Full g.row.D.Denot → Type 0 = λ t. IsFullOf s h g.D.Spelled.spelling (g.D.Read.admits tt) all t (present old) → AllStand s h g.D.Spelled.spelling all durable top t old → AllKeepStanding s h g.D.Spelled.spelling all durable top t old new in
     subst P c.self.view_is (λ here now.
     let ends = full_end s h g.D.Spelled.spelling (g.D.Read.admits tt) all _ (present old) here c.self.invariant.sound.within in
-    let tail = (c.in_ok-tail.ensures {u = tt}).tree h all here.tree in
-    let is = c.deref.ensures.value ∙ tail ∙ ap (λ (n : ℕ). drop n (nodes s h all)) (c.bounds-end.ensures.end ∙ ends) in
-    flush_stands s h g.D.Spelled.spelling all durable top (g.D.Read.admits tt) c.deref.result.now _ old new here is (c.in_err-nodes.ensures.log tt tells).images now) full each
+    let tail = c.tail_from-tail.ensures.tree h all here.tree in
+    let is = tail ∙ ap (λ (n : ℕ). drop n (nodes s h all)) (c.bounds-end.ensures.end ∙ ends) in
+    flush_stands s h g.D.Spelled.spelling all durable top (g.D.Read.admits tt) c.tail_from-tail.result.now _ old new here is (c.in_err-nodes.ensures.log tt tells).images now) full each
 
 pub returns-clause-images : goal.returns-clause-images
 returns-clause-images g c tells h all durable top full each =
@@ -99,9 +99,9 @@ returns-clause-images g c tells h all durable top full each =
     let P : Full g.row.D.Denot → Type 0 = λ t. IsFullOf s h g.D.Spelled.spelling (g.D.Read.admits tt) all t (present old) → AllStand s h g.D.Spelled.spelling all durable top t old → AllKeepStanding s h g.D.Spelled.spelling all durable top t old new in
     subst P c.self.view_is (λ here now.
     let ends = full_end s h g.D.Spelled.spelling (g.D.Read.admits tt) all _ (present old) here c.self.invariant.sound.within in
-    let tail = (c.in_ok-tail.ensures {u = tt}).tree h all here.tree in
-    let is = c.deref.ensures.value ∙ tail ∙ ap (λ (n : ℕ). drop n (nodes s h all)) (c.bounds-end.ensures.end ∙ ends) in
-    flush_stands s h g.D.Spelled.spelling all durable top (g.D.Read.admits tt) c.deref.result.now _ old new here is ((c.in_ok-nodes.ensures {u = tt}).log tt tells).images now) full each
+    let tail = c.tail_from-tail.ensures.tree h all here.tree in
+    let is = tail ∙ ap (λ (n : ℕ). drop n (nodes s h all)) (c.bounds-end.ensures.end ∙ ends) in
+    flush_stands s h g.D.Spelled.spelling all durable top (g.D.Read.admits tt) c.tail_from-tail.result.now _ old new here is ((c.in_ok-nodes.ensures {u = tt}).log tt tells).images now) full each
 
 pub returns-clause-start : goal.returns-clause-start
 returns-clause-start g c tells h all full =
@@ -121,9 +121,9 @@ returns-in_err-nodes-clause-ahead g c tells h all more durable top full each =
     let P : Full g.row.D.Denot → Type 0 = λ t. IsFullOf s h g.D.Spelled.spelling (g.D.Read.admits tt) all t (present old) → AllStand s h g.D.Spelled.spelling (all ++ more) durable top t old → AllKeepStanding s h g.D.Spelled.spelling (all ++ more) durable top t old new in
     subst P c.self.view_is (λ here now.
     let ends = full_end s h g.D.Spelled.spelling (g.D.Read.admits tt) all _ (present old) here c.self.invariant.sound.within in
-    let tail = (c.in_ok-tail.ensures {u = tt}).tree h all here.tree in
-    let is = c.deref.ensures.value ∙ tail ∙ ap (λ (n : ℕ). drop n (nodes s h all)) (c.bounds-end.ensures.end ∙ ends) in
-    flush_ahead s h g.met.F.Family.lawful g.D.Spelled.spelling all more durable top (g.D.Read.admits tt) c.deref.result.now _ old new here is (c.in_err-nodes.ensures.log tt tells).images now) full each
+    let tail = c.tail_from-tail.ensures.tree h all here.tree in
+    let is = tail ∙ ap (λ (n : ℕ). drop n (nodes s h all)) (c.bounds-end.ensures.end ∙ ends) in
+    flush_ahead s h g.met.F.Family.lawful g.D.Spelled.spelling all more durable top (g.D.Read.admits tt) c.tail_from-tail.result.now _ old new here is (c.in_err-nodes.ensures.log tt tells).images now) full each
 
 pub returns-clause-ahead : goal.returns-clause-ahead
 returns-clause-ahead g c tells h all more durable top full each =
@@ -133,12 +133,12 @@ returns-clause-ahead g c tells h all more durable top full each =
     let P : Full g.row.D.Denot → Type 0 = λ t. IsFullOf s h g.D.Spelled.spelling (g.D.Read.admits tt) all t (present old) → AllStand s h g.D.Spelled.spelling (all ++ more) durable top t old → AllKeepStanding s h g.D.Spelled.spelling (all ++ more) durable top t old new in
     subst P c.self.view_is (λ here now.
     let ends = full_end s h g.D.Spelled.spelling (g.D.Read.admits tt) all _ (present old) here c.self.invariant.sound.within in
-    let tail = (c.in_ok-tail.ensures {u = tt}).tree h all here.tree in
-    let is = c.deref.ensures.value ∙ tail ∙ ap (λ (n : ℕ). drop n (nodes s h all)) (c.bounds-end.ensures.end ∙ ends) in
-    flush_ahead s h g.met.F.Family.lawful g.D.Spelled.spelling all more durable top (g.D.Read.admits tt) c.deref.result.now _ old new here is ((c.in_ok-nodes.ensures {u = tt}).log tt tells).images now) full each
+    let tail = c.tail_from-tail.ensures.tree h all here.tree in
+    let is = tail ∙ ap (λ (n : ℕ). drop n (nodes s h all)) (c.bounds-end.ensures.end ∙ ends) in
+    flush_ahead s h g.met.F.Family.lawful g.D.Spelled.spelling all more durable top (g.D.Read.admits tt) c.tail_from-tail.result.now _ old new here is ((c.in_ok-nodes.ensures {u = tt}).log tt tells).images now) full each
 
-pub returns-in_err-tail-clause-ahead : goal.returns-in_err-tail-clause-ahead
-returns-in_err-tail-clause-ahead g c tells h all more durable top full each = pair_none _ _ _ (g.V.Volume.state c.args.vol.now) each
+pub returns-in_err-read-clause-ahead : goal.returns-in_err-read-clause-ahead
+returns-in_err-read-clause-ahead g c tells h all more durable top full each = pair_none _ _ _ (g.V.Volume.state c.args.vol.now) each
 
 pub returns-in_err-nodes-clause-bounded : goal.returns-in_err-nodes-clause-bounded
 returns-in_err-nodes-clause-bounded g c tells seated = outside_append _ c.in_err-nodes.field-0.0 c.from_residual-in_err-nodes.ensures.1 (c.in_err-nodes.ensures.errors tt) (λ is.
@@ -146,10 +146,10 @@ returns-in_err-nodes-clause-bounded g c tells seated = outside_append _ c.in_err
     let inv = c.self.invariant in
     let here = subst (λ (t : Full g.row.D.Denot). IsSeated s t (present (g.V.Volume.state c.args.vol.now))) (sym c.self.view_is) seated in
     let over = c.in_err-nodes.ensures.overflow tells (ap Err is) in
-    let counted = (c.in_ok-tail.ensures {u = tt}).counted in
+    let counted = c.tail_from-tail.ensures.tail.counted in
     let small = g.met.F.Family.small c.self.inside.mem.leaves in
     let low = made_le s _ _ inv.sound.within in
-    omega (arith, over, here.end_is, here.nodes, counted, ap length c.deref.ensures.value, c.bounds-end.ensures.end, small, inv.sound.few, low))
+    omega (arith, over, here.end_is, here.nodes, counted, c.bounds-end.ensures.end, small, inv.sound.few, low))
 
 pub returns-clause-seated : goal.returns-clause-seated
 returns-clause-seated g c tells seated =
@@ -160,20 +160,20 @@ returns-clause-seated g c tells seated =
     let here = subst (λ (t : Full g.row.D.Denot). IsSeated s t (present old)) (sym c.self.view_is) seated in
     let did = c.in_ok-nodes.ensures {u = tt} in
     let held = did.held tells (record { start_is = here.start_is; end_is = here.end_is }) in
-    let ends = seated_end s (old.log (string_bytes c.self.inside.nodes.name)) (new.log (string_bytes c.self.inside.nodes.name)) g.D.Spelled.spelling c.deref.result.now c.self.inside.mem.boundary c.self.inside.mem.leaves c.bounds-end.result.1 inv.sound.within (sym here.end_is ∙ here.nodes) (c.bounds-end.ensures.end ∙ here.nodes) (ap length c.deref.ensures.value ∙ (c.in_ok-tail.ensures {u = tt}).counted) (did.appended tells) in
+    let ends = seated_end s (old.log (string_bytes c.self.inside.nodes.name)) (new.log (string_bytes c.self.inside.nodes.name)) g.D.Spelled.spelling c.tail_from-tail.result.now c.self.inside.mem.boundary c.self.inside.mem.leaves c.bounds-end.result.1 inv.sound.within (sym here.end_is ∙ here.nodes) (c.bounds-end.ensures.end ∙ here.nodes) c.tail_from-tail.ensures.tail.counted (did.appended tells) in
     record {
       start_is = held.start_is;
       end_is = held.end_is;
       nodes = held.end_is ∙ ap (λ v. end_of (new.log v.name)) did.made ∙ ends ∙ ap (λ (n : ℕ). length (made s n)) (sym c.rest.ensures.rested.boundary);
     }
 
-pub returns-in_err-tail-clause-errors : goal.returns-in_err-tail-clause-errors
-returns-in_err-tail-clause-errors g c =
+pub returns-in_err-read-clause-errors : goal.returns-in_err-read-clause-errors
+returns-in_err-read-clause-errors g c =
     let s = g.F.Family.shape in
-    let e = c.in_err-tail.field-0.0 in
+    let e = c.in_err-read.field-0.0 in
     let before : Full g.row.D.Denot = record { tree = c.self.inside.mem; boundary = c.self.inside.boundary; log = view_of c.self.inside.nodes; metadata = string_bytes c.self.inside.metadata } in
     err_same _ e (IsOfFlush s c.args.self) c.from_residual.ensures.1
-    (subst (λ (t : Full g.row.D.Denot). IsOfFlush s t e) c.self.view_is (of_tail s before c.bounds-end.result.1 e c.bounds-end.ensures.end c.in_err-tail.ensures.missing))
+    (subst (λ (t : Full g.row.D.Denot). IsOfFlush s t e) c.self.view_is (of_tail s before c.bounds-end.result.1 e c.bounds-end.ensures.end c.in_err-read.ensures.missing))
 
 pub returns-in_err-nodes-clause-errors : goal.returns-in_err-nodes-clause-errors
 returns-in_err-nodes-clause-errors g c = of_append g.F.Family.shape c.args.self _ c.in_err-nodes.field-0.0 c.from_residual-in_err-nodes.ensures.1 (c.in_err-nodes.ensures.errors tt)
@@ -190,12 +190,12 @@ returns-clause-filled g c tells =
     let old = g.V.Volume.state c.args.vol.now in
     let new = g.V.Volume.state c.append_all.new.vol in
     let did = c.in_ok-nodes.ensures {u = tt} in
-    let tail = c.in_ok-tail.ensures {u = tt} in
+    let tail = c.tail_from-tail.ensures.tail in
     let from = c.bounds-end.ensures.end in
     let P : Full g.row.D.Denot → Type 0 = λ t. IsFilled s spelling t.tree t.log.end (old.log t.log.name) (new.log t.log.name) in
     subst P c.self.view_is (record {
-      more = c.in_ok-tail.tail.items;
+      more = c.tail_from-tail.result.now;
       counted = tail.counted ∙ ap (λ (n : ℕ). length (made s c.self.inside.mem.leaves) - n) from;
-      nodes = λ i d is. ap (λ (n : ℕ). node_at c.self.inside.mem (n + i)) (sym from) ∙ tail.told i d is;
-      log = did.appended tells ∙ ap (λ (xs : List g.row.D.Denot). appended (old.log (string_bytes c.self.inside.nodes.name)) (map spelling xs)) c.deref.ensures.value;
+      nodes = λ i d is. ap (λ (n : ℕ). node_at c.self.inside.mem (n + i)) (sym from) ∙ tail.nodes i d is;
+      log = did.appended tells;
     })

@@ -1,6 +1,6 @@
 use Rattle.std.proofs.Common.{◌+◌, refl, subst}
 use Rattle.tree_verification.specs.Ranges.{leaf_answer}
-use Rattle.tree_core.specs.Tree.{Tree, IsStored}
+use Rattle.tree_core.specs.Tree.{Tree, IsSound}
 use Rattle.tree_core.proofs.CoveredLemmas.{kept-in}
 use Rattle.tree_core.proofs.mem.Mem.proof.Goals as goal
 
@@ -8,5 +8,5 @@ pub returns-clause-kept : goal.returns-clause-kept
 returns-clause-kept g c from =
     let s = g.F.Family.shape in
     let t = c.args.self.now in
-    let stored = subst (λ (u : Tree g.row.D.Denot). IsStored s c.self.inside.pins u) c.self.view_is c.self.invariant in
-    kept-in s t t.leaves c.args.inactive_peaks c.args.loc (c.args.loc + 1) (leaf_answer t.leaves c.args.loc) c.proof_from_memory.result g.met.F.Family.lawful g.met.F.Family.keeps stored.sound refl from c.proof_from_memory.ensures
+    let sound = subst (λ (u : Tree g.row.D.Denot). IsSound s u) c.self.view_is c.self.invariant.sound in
+    kept-in s t t.leaves c.args.inactive_peaks c.args.loc (c.args.loc + 1) (leaf_answer t.leaves c.args.loc) c.proof_from_memory.result g.met.F.Family.lawful g.met.F.Family.keeps sound refl from c.proof_from_memory.ensures
