@@ -60,10 +60,10 @@ impl<F: Family, D: Digest> Merkle<F, D> {
         ensures writes { Writes V.tells Error.Volume (V.state vol.old) (V.state vol.new) result }
     {
         let (_, end) = self.nodes.bounds();
-        let read = nodes_before(*self.metadata.allocator(), &self.mem, end)?;
-        let tail = tail_from(&self.mem, &read, end);
-        let nodes = append_all(self.nodes, vol, tail)?;
         let mut mem = self.mem;
+        let read = nodes_before(*self.metadata.allocator(), &mem, end)?;
+        let tail = tail_from(&mem, &read, end);
+        let nodes = append_all(self.nodes, vol, tail)?;
         mem.rest(Location::new(self.boundary));
         Ok(Merkle {
             mem,

@@ -1,4 +1,3 @@
-use Rattle.std.proofs.Common.{arith}
 use Rattle.merkle_full.proofs.TailLemmas.{read_tail}
 use Rattle.merkle_full.proofs.tail.nodes_before.Goals as goal
 

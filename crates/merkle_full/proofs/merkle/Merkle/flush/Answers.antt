@@ -1,15 +1,15 @@
-use Rattle.std.proofs.Common.{inl, ℕ, ◌+◌, ◌-◌, List, ◌++◌, length, map, drop, Err, refl, sym, ◌∙◌, ap, subst, arith}
+use Rattle.std.proofs.Common.{inl, ℕ, ◌+◌, ◌-◌, ◌++◌, length, drop, Err, refl, sym, ◌∙◌, ap, subst, arith}
 use Rattle.std.specs.String.{string_bytes}
 use Rattle.journal_base.specs.View.{view_of}
 use Rattle.tree_shape.specs.Slow.{nodes}
 use Rattle.tree_core.specs.Tree.{IsRested, node_at}
 use Rattle.tree_shape.specs.Shape.{made}
 use Rattle.tree_shape.proofs.NeededLemmas.{made_le}
-use Rattle.volume_base.specs.Log.{appended, end_of}
+use Rattle.volume_base.specs.Log.{end_of}
 use Rattle.volume_base.specs.Moments.{present}
 use Rattle.volume_base.specs.Names.{log_alone, NamesCall}
 use Rattle.volume_base.proofs.CallLemmas.{names_call_none, names_call_log}
-use Rattle.merkle_full.specs.Flushing.{AllStand, AllKeepStanding, IsFilled, IsOfFlush}
+use Rattle.merkle_full.specs.Flushing.{IsTail, AllStand, AllKeepStanding, IsFilled, IsOfFlush}
 use Rattle.merkle_full.specs.Full.{Full, IsSeated}
 use Rattle.merkle_full.specs.Lists.{IsFullOf}
 use Rattle.merkle_full.proofs.FullLemmas.{full_end}
@@ -20,6 +20,9 @@ use Rattle.merkle_full.proofs.merkle.Merkle.flush.Goals as goal
 
 pub rest-requires : goal.rest-requires
 rest-requires g c = omega (arith, c.new.ensures, c.self.invariant.low, c.self.invariant.sound.within, c.self.invariant.sound.few)
+
+pub tail_from-tail-requires : goal.tail_from-tail-requires
+tail_from-tail-requires g c below = subst (IsTail g.F.Family.shape c.self.inside.mem c.bounds-end.result.1) (sym c.deref.ensures.value) ((c.in_ok-read.ensures {u = tt}).tail below)
 
 pub returns-in_err-nodes-clause-outside : goal.returns-in_err-nodes-clause-outside
 returns-in_err-nodes-clause-outside g c tells h all full = outside_append _ c.in_err-nodes.field-0.0 c.from_residual-in_err-nodes.ensures.1 (c.in_err-nodes.ensures.errors tt) (λ is.

@@ -1,6 +1,7 @@
 use Rattle.std.proofs.Common.{◌≡◌, ◌≤◌, inl, inr, max, ℕ, List, length, Ok, Err, refl, ap, ◌∙◌, subst, arith}
 use Rattle.journal_base.specs.Items.{items_of}
 use Rattle.tree_shape.specs.Pins.{pins}
+use Rattle.tree_store.specs.Stores.{IsOutside}
 use Rattle.tree_store.specs.declared.error.Error.TheVariants as tree
 use Rattle.volume_base.proofs.JoinLemmas.{changes_of_writes, changes_of_reads, went_of_writes, went_of_reads, went_joins, changes_joins}
 use Rattle.merkle_full.specs.Flushing.{AllStand}
@@ -32,6 +33,12 @@ returns-in_err-moved-clause-images g c tells h all durable top full stand =
     let d = g.V.Volume.state c.next.new.vol in
     keeps_before s h g.D.Spelled.spelling all durable top c.args.boundary c.args.self a d
     (stands_read c.args.self a b d read.clock (read.past tells) s h g.D.Spelled.spelling all durable top ((c.in_ok-synced.ensures {u = tt}).images tells h all durable top full stand))
+
+pub returns-in_err-moved-clause-outside : goal.returns-in_err-moved-clause-outside
+returns-in_err-moved-clause-outside g c tells h all full =
+    let synced = c.in_ok-synced.ensures {u = tt} in
+    let low : c.in_ok-synced.synced.boundary ≤ c.new.result = omega (arith, synced.same.boundary, c.new.ensures, c.as_u64-leaves.ensures, c.requires.above) in
+    err_same _ c.in_err-moved.field-0.0 IsOutside c.from_residual-in_err-moved.ensures.1 (c.in_err-moved.ensures.outside tells h all low (synced.full tells h all full))
 
 pub returns-in_err-pruned-clause-names : goal.returns-in_err-pruned-clause-names
 returns-in_err-pruned-clause-names g c tells =
