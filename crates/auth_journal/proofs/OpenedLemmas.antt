@@ -37,7 +37,7 @@ use Rattle.auth_journal.specs.Standing.{Marks, names_of, ImageStands}
 use Rattle.auth_journal.specs.declared.error.Error.{Error}
 use Rattle.auth_journal.specs.declared.error.Error.TheVariants as joined
 use Rattle.auth_journal.proofs.ErrorLemmas.{tree_outside}
-use Rattle.auth_journal.proofs.OpeningLemmas.{leaves_take, take_twice}
+use Rattle.auth_journal.proofs.OpeningLemmas.{leaves_take, leaves_ahead, take_twice}
 use Rattle.auth_journal.proofs.ReadingLemmas.{run_end}
 use Rattle.auth_journal.proofs.StandingLemmas.{tree_keeps}
 
@@ -115,14 +115,15 @@ settle_joined {D = D} s h spelling front durable top t u n a b c beside leaves c
     let two = subst (λ m. PairHas c u.log.name u.metadata (R m)) leaves (step (subst (λ m. PairHas b u.log.name u.metadata (Q m)) (sym leaves) named)) in
     subst (λ k. PairHas c k t.metadata (R n)) name (subst (λ m. PairHas c u.log.name m (R n)) beside.metadata two)
 
--- the leaves of a list's front, and those behind it
-pub leaves_split : {D Item : Type 0} (s : Shape) (h : Hashing D) (spelling : Item → List ℕ) (list : List Item) (n end : ℕ) → n ≤ end → end ≤ length list
-    → leaves_of s h spelling (take (max n end) (take end list)) ++ drop end (leaves_of s h spelling list) ≡ leaves_of s h spelling list
-leaves_split {D = D} s h spelling list n end few long =
+-- the leaves of a list's front, and those behind it of the list and of more items
+pub leaves_split : {D Item : Type 0} (s : Shape) (h : Hashing D) (spelling : Item → List ℕ) (list rest : List Item) (n end : ℕ) → n ≤ end → end ≤ length list
+    → leaves_of s h spelling (take (max n end) (take end list)) ++ drop end (leaves_of s h spelling (list ++ rest)) ≡ leaves_of s h spelling (list ++ rest)
+leaves_split {D = D} s h spelling list rest n end few long =
     let cuts = length-take end list in
+    let all = leaves_of s h spelling (list ++ rest) in
     let whole : take (max n end) (take end list) ≡ take end list = take_all (max n end) (take end list) (omega (arith, cuts, few, long)) in
-    ap (λ (l : List D). l ++ drop end (leaves_of s h spelling list)) (ap (leaves_of s h spelling) whole ∙ sym (leaves_take s h spelling end list))
-    ∙ take-append-drop end (leaves_of s h spelling list)
+    ap (λ (l : List D). l ++ drop end all) (ap (leaves_of s h spelling) whole ∙ sym (leaves_take s h spelling end list) ∙ sym (leaves_ahead s h spelling end list rest long))
+    ∙ take-append-drop end all
 
 -- ---- images
 

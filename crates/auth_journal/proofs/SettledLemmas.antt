@@ -1,7 +1,7 @@
 -- What a crash leaves of a journal that was opened: all of it is durable.
 use Rattle.std.proofs.Common.{◌≡◌, ℕ, ◌≤◌, List, ◌++◌, length, map, take, drop, sym, ◌∙◌, ap, subst, arith}
 use Rattle.std.specs.Prelude.{slice_get}
-use Rattle.std.proofs.lemmas.List.{take_all, length-map, length-take, take-append-drop}
+use Rattle.std.proofs.lemmas.List.{take_all, take-append-le, length-map, length-take, take-append-drop}
 use Rattle.volume_base.specs.Log.{Log}
 use Rattle.volume_base.specs.Moments.{NamesLeft, Now, present}
 use Rattle.volume_base.specs.Volume.{State, Map}
@@ -55,13 +55,12 @@ nodes_settled s h spelling all end durable top log m w low high run stands =
 
 -- ---- an opened journal
 
--- what is left beside two logs that are durable stands for the items that are there
-pub opened_settled : {D Codec Item : Type 0} (s : Shape) (h : Hashing D) (digest : D → List ℕ) (admits : D → Type 0) (spelling : Item → List ℕ) (list : List Item) (marks : Marks) (j : Joined D Codec) (state : State)
+list_settled : {D Codec Item : Type 0} (s : Shape) (h : Hashing D) (digest : D → List ℕ) (admits : D → Type 0) (spelling : Item → List ℕ) (list : List Item) (marks : Marks) (j : Joined D Codec) (state : State)
     → IsLawful s → Rests s j.tree → j.tree.tree.leaves ≡ j.items.end → IsJoinedOf s h digest admits spelling (take j.items.end list) j (present state)
     → IsDurable j.items state → IsDurable j.tree.log state
     → Now (NamesLeft (names_of j)) (ImageStands s h digest spelling list marks j) state
     → Now (NamesLeft (names_of j)) (ImageStands s h digest spelling (take j.items.end list) (all_synced j.items.end marks) j) state
-opened_settled {D = D} s h digest admits spelling list marks j state w rests whole joined items_only nodes_only has image at =
+list_settled {D = D} s h digest admits spelling list marks j state w rests whole joined items_only nodes_only has image at =
     let end = j.items.end in
     let front = take end list in
     let was = has image at in
@@ -87,6 +86,21 @@ opened_settled {D = D} s h digest admits spelling list marks j state w rests who
       tree = subst (λ (ds : List D). TreeStands s h digest ds end log.start (image.log j.tree.log.name) (image.map j.tree.metadata)) taken
           (nodes_settled s h digest all end marks.node_durable log.start (image.log j.tree.log.name) (image.map j.tree.metadata) w low long node_run was.tree);
     }
+
+-- What is left beside two logs that are durable stands for the items that are there, where it stood for these with perhaps more items behind
+-- them.
+pub opened_settled : {D Codec Item : Type 0} (s : Shape) (h : Hashing D) (digest : D → List ℕ) (admits : D → Type 0) (spelling : Item → List ℕ) (list rest : List Item) (marks : Marks) (j : Joined D Codec) (state : State)
+    → IsLawful s → Rests s j.tree → j.tree.tree.leaves ≡ j.items.end → IsJoinedOf s h digest admits spelling (take j.items.end list) j (present state)
+    → IsDurable j.items state → IsDurable j.tree.log state
+    → Now (NamesLeft (names_of j)) (ImageStands s h digest spelling (list ++ rest) marks j) state
+    → Now (NamesLeft (names_of j)) (ImageStands s h digest spelling (take j.items.end (list ++ rest)) (all_synced j.items.end marks) j) state
+opened_settled {Item = Item} s h digest admits spelling list rest marks j state w rests whole joined =
+    let front = take j.items.end list in
+    let cuts : length front ≡ j.items.end = sym (joined.end_is ∙ run_end spelling front (state.log j.items.name) joined.items) in
+    let few : j.items.end ≤ length list = let cut = length-take j.items.end list in omega (arith, cut, cuts) in
+    let same : take j.items.end (list ++ rest) ≡ front = take-append-le j.items.end list rest few in
+    list_settled s h digest admits spelling (list ++ rest) marks j state w rests whole
+    (subst (λ (l : List Item). IsJoinedOf s h digest admits spelling l j (present state)) (sym same) joined)
 
 -- under names that are the same
 pub renamed_settles : {D Item : Type 0} (s : Shape) (h : Hashing D) (digest : D → List ℕ) (spelling : Item → List ℕ) (list : List Item) (end : ℕ) (marks : Marks) (items nodes metadata items' nodes' metadata' : List ℕ) (state : State)

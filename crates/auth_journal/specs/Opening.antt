@@ -1,5 +1,5 @@
 -- A journal that is being opened, and why it isn't.
-use Rattle.std.specs.Prelude.{◌≡◌, ◌≢◌, ◌⊎◌, ℕ, ◌^◌, ◌<◌, ◌≤◌, List, length, take, Option, Some, Bool, false}
+use Rattle.std.specs.Prelude.{◌≡◌, ◌≢◌, ◌⊎◌, ℕ, ◌^◌, ◌<◌, ◌≤◌, List, ◌++◌, length, take, Option, Some, Bool, false}
 use Rattle.volume_base.specs.Log.{Log, Shrinks}
 use Rattle.volume_base.specs.Volume.{State, Map}
 use Rattle.volume_base.specs.declared.error.JournalError.{JournalError}
@@ -87,21 +87,22 @@ NotOpened {F} tells spelling admits s m log items says cap e =
 abbrev pub ShrinksToEnd : {A : Type 0} → Items A → (A → Bool → Type 0) → Option ℕ → Log → Log → Type 0
 ShrinksToEnd items says cap old new = (new ≡ old) ⊎ ((end : ℕ) × EndsAt items says cap end × Shrinks end old new)
 
--- Where the volume holds it, its log is a run of a list, its tree that of the list's first leaves, and no more is durable than what stays, each
--- image of its logs and its map goes on standing for the list over a call.
-abbrev pub StandsWhileOpened : {D Codec Item : Type 0} → Shape → Hashing D → (D → List ℕ) → (Item → List ℕ) → List Item → Marks → Readied D Codec → State → State → Type 0
-StandsWhileOpened s h digest spelling list marks r old new =
-    IsReadyIn r old → Spells spelling list (log_of r.items old) → length list ≤ 2 ^ 62 →
-    IsOf s h (leaves_of s h spelling (take r.tree.tree.leaves list)) r.tree.tree →
+-- Where the volume holds it, its log is a run of a list, its tree that of the first leaves of the list, perhaps with more items behind it, and
+-- no more is durable than what stays, each image of its logs and its map goes on standing for that longer list over a call.
+abbrev pub StandsWhileOpened : {D Codec Item : Type 0} → Shape → Hashing D → (D → List ℕ) → (Item → List ℕ) → List Item → List Item → Marks
+    → Readied D Codec → State → State → Type 0
+StandsWhileOpened s h digest spelling list rest marks r old new =
+    IsReadyIn r old → Spells spelling list (log_of r.items old) → length (list ++ rest) ≤ 2 ^ 62 →
+    IsOf s h (leaves_of s h spelling (take r.tree.tree.leaves (list ++ rest))) r.tree.tree →
     marks.durable ≤ r.end → marks.node_durable ≤ r.tree.complete →
-    NamesKeepStanding s h digest spelling list marks r.items.name r.tree.log.name r.tree.metadata old new
+    NamesKeepStanding s h digest spelling (list ++ rest) marks r.items.name r.tree.log.name r.tree.metadata old new
 
 -- Where it goes on standing so, what is left of it after the call stands for the list's items up to the end: all of these
 -- are durable, and so are their nodes.
-abbrev pub SettlesOpened : {D Codec Item : Type 0} → Shape → Hashing D → (D → List ℕ) → (Item → List ℕ) → List Item → Marks
+abbrev pub SettlesOpened : {D Codec Item : Type 0} → Shape → Hashing D → (D → List ℕ) → (Item → List ℕ) → List Item → List Item → Marks
     → Readied D Codec → State → State → Type 0
-SettlesOpened s h digest spelling list marks r old new =
-    IsReadyIn r old → Spells spelling list (log_of r.items old) → length list ≤ 2 ^ 62 →
-    IsOf s h (leaves_of s h spelling (take r.tree.tree.leaves list)) r.tree.tree →
+SettlesOpened s h digest spelling list rest marks r old new =
+    IsReadyIn r old → Spells spelling list (log_of r.items old) → length (list ++ rest) ≤ 2 ^ 62 →
+    IsOf s h (leaves_of s h spelling (take r.tree.tree.leaves (list ++ rest))) r.tree.tree →
     marks.durable ≤ r.end → marks.node_durable ≤ r.tree.complete →
-    NamesSettle s h digest spelling list r.end marks r.items.name r.tree.log.name r.tree.metadata old new
+    NamesSettle s h digest spelling (list ++ rest) r.end marks r.items.name r.tree.log.name r.tree.metadata old new

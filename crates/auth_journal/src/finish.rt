@@ -77,12 +77,13 @@ impl<F: Family, C: Backing, H: Hasher> Recovery<F, C, H> {
         ensures log { let old = V.state vol.old in V.tells → IsReadyIn self old →
             LogKeeps self.items.name (Follows (old.log_left old.clock self.items.name) (Shrinks self.end))
             old (V.state vol.new) }
-        // Where no more is durable than what stays, each image of all three goes on standing for the list.
-        ensures images { V.tells → (list : List C.Item) (marks : Marks) → StandsWhileOpened F.shape H.hash
-            H.Digest.spelling C.Item.spelling list marks self (V.state vol.old) (V.state vol.new) }
+        // Where no more is durable than what stays, each image of all three goes on standing for the list, or for a
+        // longer one.
+        ensures images { V.tells → (list rest : List C.Item) (marks : Marks) → StandsWhileOpened F.shape H.hash
+            H.Digest.spelling C.Item.spelling list rest marks self (V.state vol.old) (V.state vol.new) }
         // What is then left of it stands for the items up to the end, and all of these are durable.
-        ensures settled { OnOk result (V.tells → (list : List C.Item) (marks : Marks) → SettlesOpened F.shape H.hash
-            H.Digest.spelling C.Item.spelling list marks self (V.state vol.old) (V.state vol.new)) }
+        ensures settled { OnOk result (V.tells → (list rest : List C.Item) (marks : Marks) → SettlesOpened F.shape
+            H.hash H.Digest.spelling C.Item.spelling list rest marks self (V.state vol.old) (V.state vol.new)) }
         ensures changes { Changes V.tells Error.Volume (V.state vol.old) (V.state vol.new) result }
     {
         let journal = self.journal.finish(vol, self.end)?;

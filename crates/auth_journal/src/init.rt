@@ -101,22 +101,23 @@ impl<F: Family, C: Backing, H: Hasher> Journal<F, C, H> {
             let says = FnReturnsAt P.Fn predicate in V.tells →
             LogKeeps view.name (Follows (old.log_left old.clock view.name) (ShrinksToEnd items says max_size))
             old (V.state vol.new) }
-        // Where no more is durable than an end keeps, each image of all three goes on standing for the list.
+        // Where no more is durable than an end keeps, each image of all three goes on standing for the list, or for a
+        // longer one.
         ensures images { let view = C.config journal_cfg in let old = V.state vol.old in
             let items = items_of C.Item.spelling C.Item.admits view old in
-            let says = FnReturnsAt P.Fn predicate in V.tells → (list : List C.Item) (marks : Marks) →
+            let says = FnReturnsAt P.Fn predicate in V.tells → (list rest : List C.Item) (marks : Marks) →
             ((end : ℕ) → EndsAt items says max_size end → (marks.durable ≤ end) × (marks.node_durable ≤ end)) →
-            Spells C.Item.spelling list (log_of view old) → length list ≤ 2 ^ 62 →
-            NamesKeepStanding F.shape H.hash H.Digest.spelling C.Item.spelling list marks
+            Spells C.Item.spelling list (log_of view old) → length (list ++ rest) ≤ 2 ^ 62 →
+            NamesKeepStanding F.shape H.hash H.Digest.spelling C.Item.spelling (list ++ rest) marks
             view.name (string_bytes merkle_cfg.nodes) (string_bytes merkle_cfg.metadata) old (V.state vol.new) }
         // What is then left of it stands for the items up to the end, and all of these are durable.
         ensures settled { let view = C.config journal_cfg in let old = V.state vol.old in
             let items = items_of C.Item.spelling C.Item.admits view old in
             let says = FnReturnsAt P.Fn predicate in
-            IfOk result (λ t. V.tells → (list : List C.Item) (marks : Marks) →
+            IfOk result (λ t. V.tells → (list rest : List C.Item) (marks : Marks) →
             ((end : ℕ) → EndsAt items says max_size end → (marks.durable ≤ end) × (marks.node_durable ≤ end)) →
-            Spells C.Item.spelling list (log_of view old) → length list ≤ 2 ^ 62 →
-            NamesSettle F.shape H.hash H.Digest.spelling C.Item.spelling list t.items.end marks
+            Spells C.Item.spelling list (log_of view old) → length (list ++ rest) ≤ 2 ^ 62 →
+            NamesSettle F.shape H.hash H.Digest.spelling C.Item.spelling (list ++ rest) t.items.end marks
             view.name (string_bytes merkle_cfg.nodes) (string_bytes merkle_cfg.metadata) old (V.state vol.new)) }
         ensures changes { Changes V.tells Error.Volume (V.state vol.old) (V.state vol.new) result }
     {
@@ -208,22 +209,23 @@ impl<F: Family, C: Backing, H: Hasher> Journal<F, C, H> {
             let says = FnReturnsAt P.Fn predicate in V.tells →
             LogKeeps view.name (Follows (old.log_left old.clock view.name) (ShrinksToEnd items says None))
             old (V.state vol.new) }
-        // Where no more is durable than an end keeps, each image of all three goes on standing for the list.
+        // Where no more is durable than an end keeps, each image of all three goes on standing for the list, or for a
+        // longer one.
         ensures images { let view = C.config journal_cfg in let old = V.state vol.old in
             let items = items_of C.Item.spelling C.Item.admits view old in
-            let says = FnReturnsAt P.Fn predicate in V.tells → (list : List C.Item) (marks : Marks) →
+            let says = FnReturnsAt P.Fn predicate in V.tells → (list rest : List C.Item) (marks : Marks) →
             ((end : ℕ) → EndsAt items says None end → (marks.durable ≤ end) × (marks.node_durable ≤ end)) →
-            Spells C.Item.spelling list (log_of view old) → length list ≤ 2 ^ 62 →
-            NamesKeepStanding F.shape H.hash H.Digest.spelling C.Item.spelling list marks
+            Spells C.Item.spelling list (log_of view old) → length (list ++ rest) ≤ 2 ^ 62 →
+            NamesKeepStanding F.shape H.hash H.Digest.spelling C.Item.spelling (list ++ rest) marks
             view.name (string_bytes merkle_cfg.nodes) (string_bytes merkle_cfg.metadata) old (V.state vol.new) }
         // What is then left of it stands for the items up to the end, and all of these are durable.
         ensures settled { let view = C.config journal_cfg in let old = V.state vol.old in
             let items = items_of C.Item.spelling C.Item.admits view old in
             let says = FnReturnsAt P.Fn predicate in
-            IfOk result (λ t. V.tells → (list : List C.Item) (marks : Marks) →
+            IfOk result (λ t. V.tells → (list rest : List C.Item) (marks : Marks) →
             ((end : ℕ) → EndsAt items says None end → (marks.durable ≤ end) × (marks.node_durable ≤ end)) →
-            Spells C.Item.spelling list (log_of view old) → length list ≤ 2 ^ 62 →
-            NamesSettle F.shape H.hash H.Digest.spelling C.Item.spelling list t.items.end marks
+            Spells C.Item.spelling list (log_of view old) → length (list ++ rest) ≤ 2 ^ 62 →
+            NamesSettle F.shape H.hash H.Digest.spelling C.Item.spelling (list ++ rest) t.items.end marks
             view.name (string_bytes merkle_cfg.nodes) (string_bytes merkle_cfg.metadata) old (V.state vol.new)) }
         ensures changes { Changes V.tells Error.Volume (V.state vol.old) (V.state vol.new) result }
     {
@@ -314,22 +316,23 @@ impl<F: Family, C: Backing, H: Hasher> Journal<F, C, H> {
             let says = FnReturnsAt P.Fn predicate in V.tells →
             LogKeeps view.name (Follows (old.log_left old.clock view.name) (ShrinksToEnd items says (Some max_size)))
             old (V.state vol.new) }
-        // Where no more is durable than an end keeps, each image of all three goes on standing for the list.
+        // Where no more is durable than an end keeps, each image of all three goes on standing for the list, or for a
+        // longer one.
         ensures images { let view = C.config journal_cfg in let old = V.state vol.old in
             let items = items_of C.Item.spelling C.Item.admits view old in
-            let says = FnReturnsAt P.Fn predicate in V.tells → (list : List C.Item) (marks : Marks) →
+            let says = FnReturnsAt P.Fn predicate in V.tells → (list rest : List C.Item) (marks : Marks) →
             ((end : ℕ) → EndsAt items says (Some max_size) end → (marks.durable ≤ end) × (marks.node_durable ≤ end)) →
-            Spells C.Item.spelling list (log_of view old) → length list ≤ 2 ^ 62 →
-            NamesKeepStanding F.shape H.hash H.Digest.spelling C.Item.spelling list marks
+            Spells C.Item.spelling list (log_of view old) → length (list ++ rest) ≤ 2 ^ 62 →
+            NamesKeepStanding F.shape H.hash H.Digest.spelling C.Item.spelling (list ++ rest) marks
             view.name (string_bytes merkle_cfg.nodes) (string_bytes merkle_cfg.metadata) old (V.state vol.new) }
         // What is then left of it stands for the items up to the end, and all of these are durable.
         ensures settled { let view = C.config journal_cfg in let old = V.state vol.old in
             let items = items_of C.Item.spelling C.Item.admits view old in
             let says = FnReturnsAt P.Fn predicate in
-            IfOk result (λ t. V.tells → (list : List C.Item) (marks : Marks) →
+            IfOk result (λ t. V.tells → (list rest : List C.Item) (marks : Marks) →
             ((end : ℕ) → EndsAt items says (Some max_size) end → (marks.durable ≤ end) × (marks.node_durable ≤ end)) →
-            Spells C.Item.spelling list (log_of view old) → length list ≤ 2 ^ 62 →
-            NamesSettle F.shape H.hash H.Digest.spelling C.Item.spelling list t.items.end marks
+            Spells C.Item.spelling list (log_of view old) → length (list ++ rest) ≤ 2 ^ 62 →
+            NamesSettle F.shape H.hash H.Digest.spelling C.Item.spelling (list ++ rest) t.items.end marks
             view.name (string_bytes merkle_cfg.nodes) (string_bytes merkle_cfg.metadata) old (V.state vol.new)) }
         ensures changes { Changes V.tells Error.Volume (V.state vol.old) (V.state vol.new) result }
     {

@@ -103,17 +103,17 @@ impl<F: Family, O: KeylessOperation, C: Backing<Item = O>, H: Hasher> Keyless<F,
         ensures other { IfErr result (λ e. e ≢ Error.InvalidInitializationBound) }
         ensures errors { IfErr result IsOfOpening }
         ensures images { let old = V.state vol.old in let view = C.config cfg.log in
-            let items = items_of O.spelling O.admits view old in V.tells → (list : List O) (marks : Marks) →
+            let items = items_of O.spelling O.admits view old in V.tells → (list rest : List O) (marks : Marks) →
             KeepsDurable O.meaning items max_size marks → Spells O.spelling list (log_of view old) →
-            length list ≤ 2 ^ 62 →
-            NamesKeepStanding F.shape H.hash H.Digest.spelling O.spelling list marks view.name
+            length (list ++ rest) ≤ 2 ^ 62 →
+            NamesKeepStanding F.shape H.hash H.Digest.spelling O.spelling (list ++ rest) marks view.name
             (string_bytes cfg.merkle.nodes) (string_bytes cfg.merkle.metadata) old (V.state vol.new) }
         ensures settled { let old = V.state vol.old in let view = C.config cfg.log in
             let items = items_of O.spelling O.admits view old in
-            IfOk result (λ t. V.tells → (list : List O) (marks : Marks) →
+            IfOk result (λ t. V.tells → (list rest : List O) (marks : Marks) →
             KeepsDurable O.meaning items max_size marks → Spells O.spelling list (log_of view old) →
-            length list ≤ 2 ^ 62 →
-            NamesSettle F.shape H.hash H.Digest.spelling O.spelling list t.items.end marks view.name
+            length (list ++ rest) ≤ 2 ^ 62 →
+            NamesSettle F.shape H.hash H.Digest.spelling O.spelling (list ++ rest) t.items.end marks view.name
             (string_bytes cfg.merkle.nodes) (string_bytes cfg.merkle.metadata) old (V.state vol.new)) }
         ensures changes { Changes V.tells Error.Volume (V.state vol.old) (V.state vol.new) result }
     {
@@ -377,20 +377,21 @@ impl<F: Family, O: KeylessOperation, C: Backing<Item = O>, H: Hasher> Keyless<F,
             BeginsStanding F.shape H.hash H.Digest.spelling O.spelling (O.committed None 0) marks view.name
             (string_bytes cfg.merkle.nodes) (string_bytes cfg.merkle.metadata) old (V.state vol.new) result }
         // Where it is opened past 0, and keeps all that is durable, each image of both logs and the map goes on
-        // standing for the list, whatever is answered. What is then left stands for the list up to the commit, and
-        // all of that is durable.
+        // standing for the list that the log stood for, or for that with more operations behind it, which an image may
+        // still have; whatever is answered. What is then left stands for the list up to the commit, and all of that is
+        // durable.
         ensures images { let old = V.state vol.old in let view = C.config cfg.log in
-            let items = items_of O.spelling O.admits view old in V.tells → (list : List O) (marks : Marks) →
+            let items = items_of O.spelling O.admits view old in V.tells → (list rest : List O) (marks : Marks) →
             EndsPast O.meaning items max_size → KeepsDurable O.meaning items max_size marks →
-            Spells O.spelling list (log_of view old) → length list ≤ 2 ^ 62 →
-            NamesKeepStanding F.shape H.hash H.Digest.spelling O.spelling list marks view.name
+            Spells O.spelling list (log_of view old) → length (list ++ rest) ≤ 2 ^ 62 →
+            NamesKeepStanding F.shape H.hash H.Digest.spelling O.spelling (list ++ rest) marks view.name
             (string_bytes cfg.merkle.nodes) (string_bytes cfg.merkle.metadata) old (V.state vol.new) }
         ensures settled { let old = V.state vol.old in let view = C.config cfg.log in
             let items = items_of O.spelling O.admits view old in
-            IfOk result (λ d. V.tells → (list : List O) (marks : Marks) →
+            IfOk result (λ d. V.tells → (list rest : List O) (marks : Marks) →
             EndsPast O.meaning items max_size → KeepsDurable O.meaning items max_size marks →
-            Spells O.spelling list (log_of view old) → length list ≤ 2 ^ 62 →
-            NamesSettle F.shape H.hash H.Digest.spelling O.spelling list d.state.size marks view.name
+            Spells O.spelling list (log_of view old) → length (list ++ rest) ≤ 2 ^ 62 →
+            NamesSettle F.shape H.hash H.Digest.spelling O.spelling (list ++ rest) d.state.size marks view.name
             (string_bytes cfg.merkle.nodes) (string_bytes cfg.merkle.metadata) old (V.state vol.new)) }
         ensures changes { Changes V.tells Error.Volume (V.state vol.old) (V.state vol.new) result }
     {

@@ -1,4 +1,4 @@
-use Rattle.std.proofs.Common.{◌≡◌, ◌≤◌, ◌^◌, ◌++◌, [], inl, inr, ℕ, List, Option, Ok, Some, length, max, take, refl, sym, ◌∙◌, ap, subst, arith}
+use Rattle.std.proofs.Common.{◌≡◌, ◌≤◌, ◌^◌, ◌++◌, inl, inr, ℕ, List, Option, Ok, Some, length, max, take, refl, sym, ◌∙◌, ap, subst, arith}
 use Rattle.std.specs.Fn.{FnReturnsAt}
 use Rattle.std.specs.Prelude.{string_bytes, unwrap_or}
 use Rattle.volume_base.specs.Log.{Log, cut_to, Shrinks}
@@ -26,7 +26,6 @@ use Rattle.auth_journal.specs.Searching.{EndsAt}
 use Rattle.auth_journal.specs.Standing.{NamesStand, NamesKeepStanding}
 use Rattle.auth_journal.specs.declared.error.Error.TheVariants as joined
 use Rattle.auth_journal.proofs.AlignLemmas.{changes_same}
-use Rattle.auth_journal.proofs.ListLemmas.{append-nothing}
 use Rattle.auth_journal.proofs.OpeningLemmas.{seen_items, keeps_behind}
 use Rattle.auth_journal.proofs.SettledLemmas.{opened_settled, renamed_settles}
 use Rattle.auth_journal.specs.Errors.{IsLifted}
@@ -489,7 +488,7 @@ returns-clause-changes g c =
     changes_joins tells joined.Volume joined.Volume _ _ _ (Ok t) (Ok t) (went_of tells joined.Volume _ _ r did.changes) did_finish.changes (λ is. absurd cc) did_finish.changes.kept
 
 pub returns-in_err-recovery-clause-images : goal.returns-in_err-recovery-clause-images
-returns-in_err-recovery-clause-images g c told list marks low run long has =
+returns-in_err-recovery-clause-images g c told list rest marks low run long has =
     let s = g.F.Family.shape in
     let h = g.H.Hasher.hash in
     let digest = g.H.Digest.Spelled.spelling in
@@ -502,15 +501,16 @@ returns-in_err-recovery-clause-images g c told list marks low run long has =
     let metadata = string_bytes c.args.merkle_cfg.metadata in
     let now = g.met.V.Volume.contents_left c.args.vol.now told in
     let stands = (has (present s0) (names_of_image (two_logs_and_map first.name nodes metadata) s0 s0.clock (present s0) now)).tree in
-    let all = leaves_of s h spelling list in
+    let whole = list ++ rest in
+    let all = leaves_of s h spelling whole in
     let Left = NamesLeft (two_logs_and_map first.name nodes metadata) in
-    let Stands = NamesStand s h digest spelling list marks first.name nodes metadata in
+    let Stands = NamesStand s h digest spelling whole marks first.name nodes metadata in
     let did = c.in_err-recovery.ensures in
     let clock = did.still told (λ stored is. kept_standing s h digest all marks.node_durable (s0.log first.name).start (s0.log nodes) (s0.map metadata) stored stands is) in
     keeps_idle Left (names_back (two_logs_and_map first.name nodes metadata)) Stands s0 s1 clock (did.log told).images.past has
 
 pub returns-in_err-opened-clause-images : goal.returns-in_err-opened-clause-images
-returns-in_err-opened-clause-images g c told list marks low run long has =
+returns-in_err-opened-clause-images g c told list rest marks low run long has =
     let s = g.F.Family.shape in
     let h = g.H.Hasher.hash in
     let digest = g.H.Digest.Spelled.spelling in
@@ -523,9 +523,10 @@ returns-in_err-opened-clause-images g c told list marks low run long has =
     let metadata = string_bytes c.args.merkle_cfg.metadata in
     let now = g.met.V.Volume.contents_left c.args.vol.now told in
     let stands = (has (present s0) (names_of_image (two_logs_and_map first.name nodes metadata) s0 s0.clock (present s0) now)).tree in
-    let all = leaves_of s h spelling list in
+    let whole = list ++ rest in
+    let all = leaves_of s h spelling whole in
     let Left = NamesLeft (two_logs_and_map first.name nodes metadata) in
-    let Stands = NamesStand s h digest spelling list marks first.name nodes metadata in
+    let Stands = NamesStand s h digest spelling whole marks first.name nodes metadata in
     let did = c.in_ok-recovery.ensures {u = tt} in
     let clock = did.still told (λ stored is. kept_standing s h digest all marks.node_durable (s0.log first.name).start (s0.log nodes) (s0.map metadata) stored stands is) in
     let ab = keeps_idle Left (names_back (two_logs_and_map first.name nodes metadata)) Stands s0 s1 clock (did.log told).images.past has in
@@ -538,15 +539,15 @@ returns-in_err-opened-clause-images g c told list marks low run long has =
     let ends = low r.end (did.found told) in
     let few : marks.node_durable ≤ cap_of (Some r.end) = omega (arith, ends.1, did.sound.1) in
     let fits = durable_fits g.row.F.Denot s h digest admitted all marks.node_durable (s0.log first.name).start (s0.log nodes) (s0.map metadata) (cap_of (Some r.end)) r.tree.boundary r.tree.complete r.tree.pruned r.tree.tree.leaves stands (did.opens told) few in
-    let of = did.list told list marks.node_durable (s0.log first.name).start stands in
-    let step = c.in_err-opened.ensures.images told list marks ready here long of ends.0 fits in
-    let bc = subst (λ n. NamesKeepStanding s h digest spelling list marks n nodes metadata s1 s2) name
-    (subst (λ n. NamesKeepStanding s h digest spelling list marks r.items.name n metadata s1 s2) did.named.1.nodes_is
-    (subst (λ n. NamesKeepStanding s h digest spelling list marks r.items.name r.tree.log.name n s1 s2) did.named.1.metadata_is step)) in
+    let of = did.list told whole marks.node_durable (s0.log first.name).start stands in
+    let step = c.in_err-opened.ensures.images told list rest marks ready here long of ends.0 fits in
+    let bc = subst (λ n. NamesKeepStanding s h digest spelling whole marks n nodes metadata s1 s2) name
+    (subst (λ n. NamesKeepStanding s h digest spelling whole marks r.items.name n metadata s1 s2) did.named.1.nodes_is
+    (subst (λ n. NamesKeepStanding s h digest spelling whole marks r.items.name r.tree.log.name n s1 s2) did.named.1.metadata_is step)) in
     keeps_joins Left (names_back (two_logs_and_map first.name nodes metadata)) Stands s0 s1 s2 ab (bc (now_after Left Stands s0 s1 ab))
 
 pub returns-clause-images : goal.returns-clause-images
-returns-clause-images g c told list marks low run long has =
+returns-clause-images g c told list rest marks low run long has =
     let s = g.F.Family.shape in
     let h = g.H.Hasher.hash in
     let digest = g.H.Digest.Spelled.spelling in
@@ -559,9 +560,10 @@ returns-clause-images g c told list marks low run long has =
     let metadata = string_bytes c.args.merkle_cfg.metadata in
     let now = g.met.V.Volume.contents_left c.args.vol.now told in
     let stands = (has (present s0) (names_of_image (two_logs_and_map first.name nodes metadata) s0 s0.clock (present s0) now)).tree in
-    let all = leaves_of s h spelling list in
+    let whole = list ++ rest in
+    let all = leaves_of s h spelling whole in
     let Left = NamesLeft (two_logs_and_map first.name nodes metadata) in
-    let Stands = NamesStand s h digest spelling list marks first.name nodes metadata in
+    let Stands = NamesStand s h digest spelling whole marks first.name nodes metadata in
     let did = c.in_ok-recovery.ensures {u = tt} in
     let clock = did.still told (λ stored is. kept_standing s h digest all marks.node_durable (s0.log first.name).start (s0.log nodes) (s0.map metadata) stored stands is) in
     let ab = keeps_idle Left (names_back (two_logs_and_map first.name nodes metadata)) Stands s0 s1 clock (did.log told).images.past has in
@@ -574,11 +576,11 @@ returns-clause-images g c told list marks low run long has =
     let ends = low r.end (did.found told) in
     let few : marks.node_durable ≤ cap_of (Some r.end) = omega (arith, ends.1, did.sound.1) in
     let fits = durable_fits g.row.F.Denot s h digest admitted all marks.node_durable (s0.log first.name).start (s0.log nodes) (s0.map metadata) (cap_of (Some r.end)) r.tree.boundary r.tree.complete r.tree.pruned r.tree.tree.leaves stands (did.opens told) few in
-    let of = did.list told list marks.node_durable (s0.log first.name).start stands in
-    let step = (c.in_ok-opened.ensures {u = tt}).images told list marks ready here long of ends.0 fits in
-    let bc = subst (λ n. NamesKeepStanding s h digest spelling list marks n nodes metadata s1 s2) name
-    (subst (λ n. NamesKeepStanding s h digest spelling list marks r.items.name n metadata s1 s2) did.named.1.nodes_is
-    (subst (λ n. NamesKeepStanding s h digest spelling list marks r.items.name r.tree.log.name n s1 s2) did.named.1.metadata_is step)) in
+    let of = did.list told whole marks.node_durable (s0.log first.name).start stands in
+    let step = (c.in_ok-opened.ensures {u = tt}).images told list rest marks ready here long of ends.0 fits in
+    let bc = subst (λ n. NamesKeepStanding s h digest spelling whole marks n nodes metadata s1 s2) name
+    (subst (λ n. NamesKeepStanding s h digest spelling whole marks r.items.name n metadata s1 s2) did.named.1.nodes_is
+    (subst (λ n. NamesKeepStanding s h digest spelling whole marks r.items.name r.tree.log.name n s1 s2) did.named.1.metadata_is step)) in
     keeps_joins Left (names_back (two_logs_and_map first.name nodes metadata)) Stands s0 s1 s2 ab (bc (now_after Left Stands s0 s1 ab))
 
 pub returns-in_err-recovery-clause-lifted : goal.returns-in_err-recovery-clause-lifted
@@ -592,7 +594,7 @@ returns-in_err-opened-clause-lifted g c =
     err_same _ e IsLifted c.from_residual-in_err-opened.ensures.1 c.in_err-opened.ensures.lifted
 
 pub returns-clause-settled : goal.returns-clause-settled
-returns-clause-settled g c told list marks low run long has =
+returns-clause-settled g c told list rest marks low run long has =
     let s = g.F.Family.shape in
     let h = g.H.Hasher.hash in
     let digest = g.H.Digest.Spelled.spelling in
@@ -603,15 +605,14 @@ returns-clause-settled g c told list marks low run long has =
     let nodes = string_bytes c.args.merkle_cfg.nodes in
     let metadata = string_bytes c.args.merkle_cfg.metadata in
     let names = two_logs_and_map first.name nodes metadata in
+    let longer = list ++ rest in
     let stands = (has (present s0) (names_of_image names s0 s0.clock (present s0) (g.met.V.Volume.contents_left c.args.vol.now told))).tree in
-    let here = now_after (NamesLeft names) (NamesStand s h digest spelling list marks first.name nodes metadata) s0 s2 (returns-clause-images g c told list marks low run long has) in
+    let here = now_after (NamesLeft names) (NamesStand s h digest spelling longer marks first.name nodes metadata) s0 s2 (returns-clause-images g c told list rest marks low run long has) in
     let t = c.in_ok-opened.opened in
-    let same : list ≡ list ++ [] = sym (append-nothing list) in
     let start = (s0.log first.name).start in
-    let joined = returns-clause-joined g c told list [] marks.node_durable start run (subst (λ (l : List g.row.C-Item.Denot). length l ≤ 2 ^ 62) same long)
-    (subst (λ (l : List g.row.C-Item.Denot). TreeStands s h digest (leaves_of s h spelling l) marks.node_durable start (s0.log nodes) (s0.map metadata)) same stands) in
+    let joined = returns-clause-joined g c told list rest marks.node_durable start run long stands in
     let durable = returns-clause-durable g c told in
-    let whole = opened_settled s h digest (g.H.Digest.Read.admits tt) spelling list marks t s2 g.met.F.Family.lawful (c.in_ok-opened.ensures {u = tt}).rests (returns-clause-whole g c) joined durable.0 durable.1 in
+    let whole = opened_settled s h digest (g.H.Digest.Read.admits tt) spelling list rest marks t s2 g.met.F.Family.lawful (c.in_ok-opened.ensures {u = tt}).rests (returns-clause-whole g c) joined durable.0 durable.1 in
     let is = returns-clause-tree_named g c in
-    renamed_settles s h digest spelling list t.items.end marks t.items.name t.tree.log.name t.tree.metadata first.name nodes metadata s2
+    renamed_settles s h digest spelling longer t.items.end marks t.items.name t.tree.log.name t.tree.metadata first.name nodes metadata s2
     (ap (λ (v : View g.row.C-Item-Cfg.Denot). v.name) (returns-clause-named g c).0) is.0 is.2 whole here

@@ -1,4 +1,4 @@
-use Rattle.std.proofs.Common.{◌≡◌, ◌≢◌, ◌≤◌, ◌^◌, ◌++◌, [], inl, ℕ, List, Ok, Err, max, take, drop, length, map, false, refl, sym, ◌∙◌, ap, subst, arith}
+use Rattle.std.proofs.Common.{◌≡◌, ◌≢◌, ◌≤◌, ◌^◌, ◌++◌, inl, ℕ, List, Ok, Err, max, take, drop, length, map, false, refl, sym, ◌∙◌, ap, subst, arith}
 use Rattle.volume_base.specs.Log.{Log, Shrinks, end_of, cut_to}
 use Rattle.volume_base.specs.Moments.{present, LogKeeps, NamesLeft, Now}
 use Rattle.volume_base.specs.Names.{log_alone, two_logs_and_map, NamesCall}
@@ -25,7 +25,6 @@ use Rattle.auth_journal.specs.Standing.{NamesStand, all_synced}
 use Rattle.auth_journal.specs.declared.error.Error.TheVariants as joined
 use Rattle.auth_journal.proofs.AlignLemmas.{outside_above, changes_above, changes_same}
 use Rattle.auth_journal.proofs.LeafLemmas.{all_digests, length-leaves_of}
-use Rattle.auth_journal.proofs.ListLemmas.{append-nothing}
 use Rattle.merkle_full.specs.Lists.{IsFullOf}
 use Rattle.auth_journal.proofs.OpenedLemmas.{Left, Stands, opened_as, cut_keeps, opened_keeps, caught_keeps, named_keeps, cut_at, leaves_split}
 use Rattle.auth_journal.proofs.ReadingLemmas.{run_end}
@@ -672,19 +671,19 @@ returns-clause-replayed g c told held =
     subst (λ (v : Readied g.row.H-Digest.Denot g.row.C-Item-Cfg.Denot). AreReadable (items_of spelling admits v.items s0) v.tree.tree.leaves v.end) c.self.view_is whole
 
 pub returns-in_err-journal-clause-images : goal.returns-in_err-journal-clause-images
-returns-in_err-journal-clause-images g c told list marks =
+returns-in_err-journal-clause-images g c told list rest marks =
     let tells = g.V.Volume.tells in
     let spelling = g.C.Item.Spelled.spelling in
     let s0 = g.V.Volume.state c.args.vol.now in
     let r : Readied g.row.H-Digest.Denot g.row.C-Item-Cfg.Denot = record { items = g.C.Recovery.BackingRecovery.view c.self.inside.journal; end = c.self.inside.end; tree = c.self.inside.merkle; bagging = c.self.inside.hasher } in
     let sound : IsSoundReady r = c.self.invariant in
     let s1 = g.V.Volume.state c.finish.new.vol in
-    subst (λ (v : Readied g.row.H-Digest.Denot g.row.C-Item-Cfg.Denot). StandsWhileOpened g.F.Family.shape g.H.Hasher.hash g.H.Digest.Spelled.spelling spelling list marks v s0 s1) c.self.view_is
+    subst (λ (v : Readied g.row.H-Digest.Denot g.row.C-Item-Cfg.Denot). StandsWhileOpened g.F.Family.shape g.H.Hasher.hash g.H.Digest.Spelled.spelling spelling list rest marks v s0 s1) c.self.view_is
     (λ ready run long of low_items low_nodes has.
-    cut_keeps g.F.Family.shape g.H.Hasher.hash g.H.Digest.Spelled.spelling spelling list marks r sound s0 s1 ready low_items (c.in_err-journal.ensures.call.log told).images has)
+    cut_keeps g.F.Family.shape g.H.Hasher.hash g.H.Digest.Spelled.spelling spelling (list ++ rest) marks r sound s0 s1 ready low_items (c.in_err-journal.ensures.call.log told).images has)
 
 pub returns-in_err-opened-clause-images : goal.returns-in_err-opened-clause-images
-returns-in_err-opened-clause-images g c told list marks =
+returns-in_err-opened-clause-images g c told list rest marks =
     let tells = g.V.Volume.tells in
     let spelling = g.C.Item.Spelled.spelling in
     let s0 = g.V.Volume.state c.args.vol.now in
@@ -701,20 +700,21 @@ returns-in_err-opened-clause-images g c told list marks =
     let h = g.H.Hasher.hash in
     let digest = g.H.Digest.Spelled.spelling in
     let admits = g.H.Digest.Read.admits tt in
-    let all = leaves_of s h spelling list in
-    subst (λ (v : Readied g.row.H-Digest.Denot g.row.C-Item-Cfg.Denot). StandsWhileOpened g.F.Family.shape g.H.Hasher.hash g.H.Digest.Spelled.spelling spelling list marks v s0 s2) c.self.view_is
+    let whole = list ++ rest in
+    let all = leaves_of s h spelling whole in
+    subst (λ (v : Readied g.row.H-Digest.Denot g.row.C-Item-Cfg.Denot). StandsWhileOpened g.F.Family.shape g.H.Hasher.hash g.H.Digest.Spelled.spelling spelling list rest marks v s0 s2) c.self.view_is
     (λ ready run long of low_items low_nodes has.
     let prepared = prepared_later r.tree s0 s1 ((cut.call.log told).others.logs r.tree.log.name (λ e. sound.apart (sym e))) ((cut.call.log told).others.maps r.tree.metadata) ready.tree in
-    let few : length all ≤ 2 ^ 62 = omega (arith, long, length-leaves_of s h spelling list) in
-    let digests = all_digests s h admits (map spelling list) (λ m. g.met.H.Digest.Digest.allowed (h.digest m) (ap length (sym (g.met.H.Hasher.same_bytes (h.digest m))) ∙ g.met.H.Hasher.one_size m)) in
-    let of_front = subst (λ (ds : List g.row.H-Digest.Denot). IsOf s h ds r.tree.tree) (sym (leaves_take s h spelling r.tree.tree.leaves list)) of in
+    let few : length all ≤ 2 ^ 62 = omega (arith, long, length-leaves_of s h spelling whole) in
+    let digests = all_digests s h admits (map spelling whole) (λ m. g.met.H.Digest.Digest.allowed (h.digest m) (ap length (sym (g.met.H.Hasher.same_bytes (h.digest m))) ∙ g.met.H.Hasher.one_size m)) in
+    let of_front = subst (λ (ds : List g.row.H-Digest.Denot). IsOf s h ds r.tree.tree) (sym (leaves_take s h spelling r.tree.tree.leaves whole)) of in
     let now = g.met.V.Volume.contents_left c.finish.new.vol told in
-    let ab = cut_keeps s h digest spelling list marks r sound s0 s1 ready low_items (cut.call.log told).images has in
+    let ab = cut_keeps s h digest spelling whole marks r sound s0 s1 ready low_items (cut.call.log told).images has in
     let did = c.in_err-opened.ensures in
-    opened_keeps s h digest spelling list marks r sound s0 s1 s2 ab (did.names told) now (λ top. did.images told h all marks.node_durable top prepared few digests of_front low_nodes))
+    opened_keeps s h digest spelling whole marks r sound s0 s1 s2 ab (did.names told) now (λ top. did.images told h all marks.node_durable top prepared few digests of_front low_nodes))
 
 pub returns-in_err-merkle-clause-images : goal.returns-in_err-merkle-clause-images
-returns-in_err-merkle-clause-images g c told list marks =
+returns-in_err-merkle-clause-images g c told list rest marks =
     let tells = g.V.Volume.tells in
     let spelling = g.C.Item.Spelled.spelling in
     let s0 = g.V.Volume.state c.args.vol.now in
@@ -735,30 +735,33 @@ returns-in_err-merkle-clause-images g c told list marks =
     let h = g.H.Hasher.hash in
     let digest = g.H.Digest.Spelled.spelling in
     let admits = g.H.Digest.Read.admits tt in
-    let all = leaves_of s h spelling list in
+    let whole = list ++ rest in
+    let all = leaves_of s h spelling whole in
     let s3 = g.V.Volume.state c.catch_up.new.vol in
     let caught = c.in_err-merkle.ensures in
-    subst (λ (v : Readied g.row.H-Digest.Denot g.row.C-Item-Cfg.Denot). StandsWhileOpened g.F.Family.shape g.H.Hasher.hash g.H.Digest.Spelled.spelling spelling list marks v s0 s3) c.self.view_is
+    subst (λ (v : Readied g.row.H-Digest.Denot g.row.C-Item-Cfg.Denot). StandsWhileOpened g.F.Family.shape g.H.Hasher.hash g.H.Digest.Spelled.spelling spelling list rest marks v s0 s3) c.self.view_is
     (λ ready run long of low_items low_nodes has.
     let prepared = prepared_later r.tree s0 s1 ((cut.call.log told).others.logs r.tree.log.name (λ e. sound.apart (sym e))) ((cut.call.log told).others.maps r.tree.metadata) ready.tree in
-    let few : length all ≤ 2 ^ 62 = omega (arith, long, length-leaves_of s h spelling list) in
-    let digests = all_digests s h admits (map spelling list) (λ m. g.met.H.Digest.Digest.allowed (h.digest m) (ap length (sym (g.met.H.Hasher.same_bytes (h.digest m))) ∙ g.met.H.Hasher.one_size m)) in
-    let of_front = subst (λ (ds : List g.row.H-Digest.Denot). IsOf s h ds r.tree.tree) (sym (leaves_take s h spelling r.tree.tree.leaves list)) of in
+    let few : length all ≤ 2 ^ 62 = omega (arith, long, length-leaves_of s h spelling whole) in
+    let digests = all_digests s h admits (map spelling whole) (λ m. g.met.H.Digest.Digest.allowed (h.digest m) (ap length (sym (g.met.H.Hasher.same_bytes (h.digest m))) ∙ g.met.H.Hasher.one_size m)) in
+    let of_front = subst (λ (ds : List g.row.H-Digest.Denot). IsOf s h ds r.tree.tree) (sym (leaves_take s h spelling r.tree.tree.leaves whole)) of in
     let now = g.met.V.Volume.contents_left c.finish.new.vol told in
-    let ab = cut_keeps s h digest spelling list marks r sound s0 s1 ready low_items (cut.call.log told).images has in
-    let bc = opened_keeps s h digest spelling list marks r sound s0 s1 s2 ab (opened.names told) now (λ top. opened.images told h all marks.node_durable top prepared few digests of_front low_nodes) in
-    let stands = tree_beside s h digest spelling list (opened_as r) sound.apart marks s1 (s1.log r.items.name) (now.logs r.items.name) (now_after (Left s h digest spelling list marks r sound) (Stands s h digest spelling list marks r sound) s0 s1 ab) (s1.log r.tree.log.name) (s1.map r.tree.metadata) (now.logs r.tree.log.name) (now.maps r.tree.metadata) in
+    let ab = cut_keeps s h digest spelling whole marks r sound s0 s1 ready low_items (cut.call.log told).images has in
+    let bc = opened_keeps s h digest spelling whole marks r sound s0 s1 s2 ab (opened.names told) now (λ top. opened.images told h all marks.node_durable top prepared few digests of_front low_nodes) in
+    let stands = tree_beside s h digest spelling whole (opened_as r) sound.apart marks s1 (s1.log r.items.name) (now.logs r.items.name) (now_after (Left s h digest spelling whole marks r sound) (Stands s h digest spelling whole marks r sound) s0 s1 ab) (s1.log r.tree.log.name) (s1.map r.tree.metadata) (now.logs r.tree.log.name) (now.maps r.tree.metadata) in
     let stood = subst (λ (m : Map). TreeStands s h digest all marks.node_durable (s1.log r.items.name).start (s1.log r.tree.log.name) m) prepared.read stands in
-    let full = opened.full told h all marks.node_durable (s1.log r.items.name).start prepared stood few digests of_front in
+    let within : r.tree.tree.leaves ≤ length list = omega (arith, ready.high, sound.within, ready.items.end_is, run_end spelling list (log_of r.items s0) run) in
+    let full = subst (λ (ds : List g.row.H-Digest.Denot). IsFullOf s h digest admits ds t (present s2)) (leaves_ahead s h spelling r.tree.tree.leaves list rest within)
+    (opened.full told h all marks.node_durable (s1.log r.items.name).start prepared stood few digests of_front) in
     let here = cut_at s h digest admits spelling list r items t s0 s1 s2 sound ready run name (cut.listed told list run) ((opened.names told).others.logs items.name (apart, tt)) opened.from.leaves full in
-    let split = leaves_split s h spelling list t.tree.leaves r.end (omega (arith, opened.from.leaves, ready.high)) (omega (arith, run_end spelling list (log_of r.items s0) run, sound.within, ready.items.end_is)) in
-    caught_keeps s h digest spelling list marks r sound s0 s2 s3 t.log.name (sym node) bc (caught.names told) (g.met.V.Volume.contents_left c.finish-2.new.vol told)
+    let split = leaves_split s h spelling list rest t.tree.leaves r.end (omega (arith, opened.from.leaves, ready.high)) (omega (arith, run_end spelling list (log_of r.items s0) run, sound.within, ready.items.end_is)) in
+    caught_keeps s h digest spelling whole marks r sound s0 s2 s3 t.log.name (sym node) bc (caught.names told) (g.met.V.Volume.contents_left c.finish-2.new.vol told)
     (λ top. subst (λ (ds : List g.row.H-Digest.Denot). AllStand s h digest ds marks.node_durable top (opened_as r).tree s2 → AllKeepStanding s h digest ds marks.node_durable top (opened_as r).tree s2 s3) split
     (named_keeps s h digest (leaves_of s h spelling (take (max t.tree.leaves r.end) (take r.end list)) ++ drop r.end all) marks.node_durable top (opened_as r).tree t s2 s3 node opened.from.metadata
     (caught.images told (take r.end list) (drop r.end all) marks.node_durable top here.run here.long here.full))))
 
 pub returns-clause-images : goal.returns-clause-images
-returns-clause-images g c told list marks =
+returns-clause-images g c told list rest marks =
     let tells = g.V.Volume.tells in
     let spelling = g.C.Item.Spelled.spelling in
     let s0 = g.V.Volume.state c.args.vol.now in
@@ -779,24 +782,27 @@ returns-clause-images g c told list marks =
     let h = g.H.Hasher.hash in
     let digest = g.H.Digest.Spelled.spelling in
     let admits = g.H.Digest.Read.admits tt in
-    let all = leaves_of s h spelling list in
+    let whole = list ++ rest in
+    let all = leaves_of s h spelling whole in
     let s3 = g.V.Volume.state c.catch_up.new.vol in
     let caught = c.in_ok-merkle.ensures {u = tt} in
-    subst (λ (v : Readied g.row.H-Digest.Denot g.row.C-Item-Cfg.Denot). StandsWhileOpened g.F.Family.shape g.H.Hasher.hash g.H.Digest.Spelled.spelling spelling list marks v s0 s3) c.self.view_is
+    subst (λ (v : Readied g.row.H-Digest.Denot g.row.C-Item-Cfg.Denot). StandsWhileOpened g.F.Family.shape g.H.Hasher.hash g.H.Digest.Spelled.spelling spelling list rest marks v s0 s3) c.self.view_is
     (λ ready run long of low_items low_nodes has.
     let prepared = prepared_later r.tree s0 s1 ((cut.call.log told).others.logs r.tree.log.name (λ e. sound.apart (sym e))) ((cut.call.log told).others.maps r.tree.metadata) ready.tree in
-    let few : length all ≤ 2 ^ 62 = omega (arith, long, length-leaves_of s h spelling list) in
-    let digests = all_digests s h admits (map spelling list) (λ m. g.met.H.Digest.Digest.allowed (h.digest m) (ap length (sym (g.met.H.Hasher.same_bytes (h.digest m))) ∙ g.met.H.Hasher.one_size m)) in
-    let of_front = subst (λ (ds : List g.row.H-Digest.Denot). IsOf s h ds r.tree.tree) (sym (leaves_take s h spelling r.tree.tree.leaves list)) of in
+    let few : length all ≤ 2 ^ 62 = omega (arith, long, length-leaves_of s h spelling whole) in
+    let digests = all_digests s h admits (map spelling whole) (λ m. g.met.H.Digest.Digest.allowed (h.digest m) (ap length (sym (g.met.H.Hasher.same_bytes (h.digest m))) ∙ g.met.H.Hasher.one_size m)) in
+    let of_front = subst (λ (ds : List g.row.H-Digest.Denot). IsOf s h ds r.tree.tree) (sym (leaves_take s h spelling r.tree.tree.leaves whole)) of in
     let now = g.met.V.Volume.contents_left c.finish.new.vol told in
-    let ab = cut_keeps s h digest spelling list marks r sound s0 s1 ready low_items (cut.call.log told).images has in
-    let bc = opened_keeps s h digest spelling list marks r sound s0 s1 s2 ab (opened.names told) now (λ top. opened.images told h all marks.node_durable top prepared few digests of_front low_nodes) in
-    let stands = tree_beside s h digest spelling list (opened_as r) sound.apart marks s1 (s1.log r.items.name) (now.logs r.items.name) (now_after (Left s h digest spelling list marks r sound) (Stands s h digest spelling list marks r sound) s0 s1 ab) (s1.log r.tree.log.name) (s1.map r.tree.metadata) (now.logs r.tree.log.name) (now.maps r.tree.metadata) in
+    let ab = cut_keeps s h digest spelling whole marks r sound s0 s1 ready low_items (cut.call.log told).images has in
+    let bc = opened_keeps s h digest spelling whole marks r sound s0 s1 s2 ab (opened.names told) now (λ top. opened.images told h all marks.node_durable top prepared few digests of_front low_nodes) in
+    let stands = tree_beside s h digest spelling whole (opened_as r) sound.apart marks s1 (s1.log r.items.name) (now.logs r.items.name) (now_after (Left s h digest spelling whole marks r sound) (Stands s h digest spelling whole marks r sound) s0 s1 ab) (s1.log r.tree.log.name) (s1.map r.tree.metadata) (now.logs r.tree.log.name) (now.maps r.tree.metadata) in
     let stood = subst (λ (m : Map). TreeStands s h digest all marks.node_durable (s1.log r.items.name).start (s1.log r.tree.log.name) m) prepared.read stands in
-    let full = opened.full told h all marks.node_durable (s1.log r.items.name).start prepared stood few digests of_front in
+    let within : r.tree.tree.leaves ≤ length list = omega (arith, ready.high, sound.within, ready.items.end_is, run_end spelling list (log_of r.items s0) run) in
+    let full = subst (λ (ds : List g.row.H-Digest.Denot). IsFullOf s h digest admits ds t (present s2)) (leaves_ahead s h spelling r.tree.tree.leaves list rest within)
+    (opened.full told h all marks.node_durable (s1.log r.items.name).start prepared stood few digests of_front) in
     let here = cut_at s h digest admits spelling list r items t s0 s1 s2 sound ready run name (cut.listed told list run) ((opened.names told).others.logs items.name (apart, tt)) opened.from.leaves full in
-    let split = leaves_split s h spelling list t.tree.leaves r.end (omega (arith, opened.from.leaves, ready.high)) (omega (arith, run_end spelling list (log_of r.items s0) run, sound.within, ready.items.end_is)) in
-    caught_keeps s h digest spelling list marks r sound s0 s2 s3 t.log.name (sym node) bc (caught.names told) (g.met.V.Volume.contents_left c.finish-2.new.vol told)
+    let split = leaves_split s h spelling list rest t.tree.leaves r.end (omega (arith, opened.from.leaves, ready.high)) (omega (arith, run_end spelling list (log_of r.items s0) run, sound.within, ready.items.end_is)) in
+    caught_keeps s h digest spelling whole marks r sound s0 s2 s3 t.log.name (sym node) bc (caught.names told) (g.met.V.Volume.contents_left c.finish-2.new.vol told)
     (λ top. subst (λ (ds : List g.row.H-Digest.Denot). AllStand s h digest ds marks.node_durable top (opened_as r).tree s2 → AllKeepStanding s h digest ds marks.node_durable top (opened_as r).tree s2 s3) split
     (named_keeps s h digest (leaves_of s h spelling (take (max t.tree.leaves r.end) (take r.end list)) ++ drop r.end all) marks.node_durable top (opened_as r).tree t s2 s3 node opened.from.metadata
     (caught.images told (take r.end list) (drop r.end all) marks.node_durable top here.run here.long here.full))))
@@ -817,33 +823,31 @@ returns-in_err-merkle-clause-lifted g c =
     err_and _ e IsLifted c.from_residual-in_err-merkle.ensures.1 c.in_err-merkle.ensures.lifted
 
 pub returns-clause-settled : goal.returns-clause-settled
-returns-clause-settled g c told list marks ready run long of low_items low_nodes has =
+returns-clause-settled g c told list rest marks ready run long of low_items low_nodes has =
     let s = g.F.Family.shape in
     let h = g.H.Hasher.hash in
     let digest = g.H.Digest.Spelled.spelling in
     let spelling = g.C.Item.Spelled.spelling in
     let s0 = g.V.Volume.state c.args.vol.now in
     let s3 = g.V.Volume.state c.catch_up.new.vol in
+    let longer = list ++ rest in
     let r = c.args.self in
     let names = two_logs_and_map r.items.name r.tree.log.name r.tree.metadata in
-    let Stands = NamesStand s h digest spelling list marks r.items.name r.tree.log.name r.tree.metadata in
+    let Stands = NamesStand s h digest spelling longer marks r.items.name r.tree.log.name r.tree.metadata in
     let image = has (present s0) (names_of_image names s0 s0.clock (present s0) (g.met.V.Volume.contents_left c.args.vol.now told)) in
-    let stands = subst (λ (m : Map). TreeStands s h digest (leaves_of s h spelling list) marks.node_durable (s0.log r.items.name).start (s0.log r.tree.log.name) m) ready.tree.read image.tree in
-    let here = now_after (NamesLeft names) Stands s0 s3 (returns-clause-images g c told list marks ready run long of low_items low_nodes has) in
+    let stands = subst (λ (m : Map). TreeStands s h digest (leaves_of s h spelling longer) marks.node_durable (s0.log r.items.name).start (s0.log r.tree.log.name) m) ready.tree.read image.tree in
+    let here = now_after (NamesLeft names) Stands s0 s3 (returns-clause-images g c told list rest marks ready run long of low_items low_nodes has) in
     let j : Joined g.row.H-Digest.Denot g.row.C-Item-Cfg.Denot = record { items = g.C.Contiguous.view c.in_ok-journal.journal; tree = c.in_ok-merkle.merkle; bagging = c.self.inside.hasher; failed = false } in
     let from = returns-clause-from g c in
     let end : j.items.end ≡ r.end = (returns-clause-reached g c told ready).0 in
-    let same : list ≡ list ++ [] = sym (append-nothing list) in
     let start = (s0.log r.items.name).start in
-    let joined = returns-clause-joined g c told list [] marks.node_durable start ready run (subst (λ (l : List g.row.C-Item.Denot). length l ≤ 2 ^ 62) same long)
-    (subst (λ (l : List g.row.C-Item.Denot). TreeStands s h digest (leaves_of s h spelling l) marks.node_durable start (s0.log r.tree.log.name) r.tree.read) same stands)
-    (subst (λ (l : List g.row.C-Item.Denot). IsOf s h (leaves_of s h spelling (take r.tree.tree.leaves l)) r.tree.tree) same of) in
+    let joined = returns-clause-joined g c told list rest marks.node_durable start ready run long stands of in
     let at_end = subst (λ n. IsJoinedOf s h digest (g.H.Digest.Read.admits tt) spelling (take n list) j (present s3)) (sym end) joined in
     let durable = returns-clause-durable g c told in
     let item_name : j.items.name ≡ r.items.name = ap (λ (v : View g.row.C-Item-Cfg.Denot). v.name) from.items in
     let node_name : j.tree.log.name ≡ r.tree.log.name = ap (λ (v : View (Unit {0})). v.name) from.log in
     let item_log = subst (λ n. OnlyLeft (s3.log_left s3.clock n) (s3.log n)) (sym item_name) durable.0 in
     let node_log = subst (λ n. OnlyLeft (s3.log_left s3.clock n) (s3.log n)) (sym node_name) durable.1 in
-    let whole = opened_settled s h digest (g.H.Digest.Read.admits tt) spelling list marks j s3 g.met.F.Family.lawful (c.in_ok-merkle.ensures {u = tt}).rests (c.in_ok-merkle.ensures {u = tt}).whole at_end item_log node_log in
-    let named = renamed_settles s h digest spelling list j.items.end marks j.items.name j.tree.log.name j.tree.metadata r.items.name r.tree.log.name r.tree.metadata s3 item_name node_name from.metadata whole in
-    subst (λ n. Now (NamesLeft names) (NamesStand s h digest spelling (take n list) (all_synced n marks) r.items.name r.tree.log.name r.tree.metadata) s3) end (named here)
+    let whole = opened_settled s h digest (g.H.Digest.Read.admits tt) spelling list rest marks j s3 g.met.F.Family.lawful (c.in_ok-merkle.ensures {u = tt}).rests (c.in_ok-merkle.ensures {u = tt}).whole at_end item_log node_log in
+    let named = renamed_settles s h digest spelling longer j.items.end marks j.items.name j.tree.log.name j.tree.metadata r.items.name r.tree.log.name r.tree.metadata s3 item_name node_name from.metadata whole in
+    subst (λ n. Now (NamesLeft names) (NamesStand s h digest spelling (take n longer) (all_synced n marks) r.items.name r.tree.log.name r.tree.metadata) s3) end (named here)

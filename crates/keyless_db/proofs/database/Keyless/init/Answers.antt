@@ -180,22 +180,22 @@ returns-in-Err-open_journal-clause-outside g c tells some list rest durable run 
     (returns-in-Err-open_journal-clause-refused g c tells some)
 
 pub returns-in-Err-clause-images : goal.returns-in-Err-clause-images
-returns-in-Err-clause-images g c tells list marks past within run few has =
+returns-in-Err-clause-images g c tells list rest marks past within run few has =
     let names = two_logs_and_map (g.C.Backing.config c.args.cfg.log).name (string_bytes c.args.cfg.merkle.nodes) (string_bytes c.args.cfg.merkle.metadata) in
-    keeps_none (NamesLeft names) (NamesStand g.F.Family.shape g.H.Hasher.hash g.H.Digest.Spelled.spelling g.O.Spelled.spelling list marks (g.C.Backing.config c.args.cfg.log).name (string_bytes c.args.cfg.merkle.nodes) (string_bytes c.args.cfg.merkle.metadata)) (g.V.Volume.state c.args.vol.now) has
+    keeps_none (NamesLeft names) (NamesStand g.F.Family.shape g.H.Hasher.hash g.H.Digest.Spelled.spelling g.O.Spelled.spelling (list ++ rest) marks (g.C.Backing.config c.args.cfg.log).name (string_bytes c.args.cfg.merkle.nodes) (string_bytes c.args.cfg.merkle.metadata)) (g.V.Volume.state c.args.vol.now) has
 
 pub returns-in-Err-open_journal-clause-images : goal.returns-in-Err-open_journal-clause-images
-returns-in-Err-open_journal-clause-images g c tells list marks past within run few = c.in-Err-open_journal.ensures.images tells list marks within run few
+returns-in-Err-open_journal-clause-images g c tells list rest marks past within run few = c.in-Err-open_journal.ensures.images tells list rest marks within run few
 
 pub returns-in-Ok-open_journal-clause-images : goal.returns-in-Ok-open_journal-clause-images
-returns-in-Ok-open_journal-clause-images g c tells list marks past within run few has =
+returns-in-Ok-open_journal-clause-images g c tells list rest marks past within run few has =
     let old = g.V.Volume.state c.args.vol.now in
     let mid = g.V.Volume.state c.open_journal.new.vol in
     let new = g.V.Volume.state c.opened_from.new.vol in
     let opened = c.in-Ok-open_journal.ensures in
     let still = c.opened_from.ensures.still tells (past c.in-Ok-open_journal.journal.items.end (opened.found tells)) in
     let names = two_logs_and_map (g.C.Backing.config c.args.cfg.log).name (string_bytes c.args.cfg.merkle.nodes) (string_bytes c.args.cfg.merkle.metadata) in
-    keeps_still names (NamesStand g.F.Family.shape g.H.Hasher.hash g.H.Digest.Spelled.spelling g.O.Spelled.spelling list marks (g.C.Backing.config c.args.cfg.log).name (string_bytes c.args.cfg.merkle.nodes) (string_bytes c.args.cfg.merkle.metadata)) old mid new still.0 still.1 (opened.images tells list marks within run few has)
+    keeps_still names (NamesStand g.F.Family.shape g.H.Hasher.hash g.H.Digest.Spelled.spelling g.O.Spelled.spelling (list ++ rest) marks (g.C.Backing.config c.args.cfg.log).name (string_bytes c.args.cfg.merkle.nodes) (string_bytes c.args.cfg.merkle.metadata)) old mid new still.0 still.1 (opened.images tells list rest marks within run few has)
 
 pub returns-in-Ok-open_journal-clause-settled : goal.returns-in-Ok-open_journal-clause-settled
 returns-in-Ok-open_journal-clause-settled g c =
@@ -206,12 +206,12 @@ returns-in-Ok-open_journal-clause-settled g c =
     let j = c.in-Ok-open_journal.journal in
     let names = two_logs_and_map (g.C.Backing.config c.args.cfg.log).name (string_bytes c.args.cfg.merkle.nodes) (string_bytes c.args.cfg.merkle.metadata) in
     if_ok _ _ c.opened_from.result
-    (λ d at. λ tells list marks past within run few has.
+    (λ d at. λ tells list rest marks past within run few has.
     let some = past j.items.end (opened.found tells) in
     let still = c.opened_from.ensures.still tells some in
     let sized = built_at (g.O.KeylessOperation.committed None 0) j.items.end d some at in
-    subst (λ (n : ℕ). Now (NamesLeft names) (NamesStand g.F.Family.shape g.H.Hasher.hash g.H.Digest.Spelled.spelling g.O.Spelled.spelling (take n list) (all_synced n marks) (g.C.Backing.config c.args.cfg.log).name (string_bytes c.args.cfg.merkle.nodes) (string_bytes c.args.cfg.merkle.metadata)) new) (sym sized)
-    (now_still names (NamesStand g.F.Family.shape g.H.Hasher.hash g.H.Digest.Spelled.spelling g.O.Spelled.spelling (take j.items.end list) (all_synced j.items.end marks) (g.C.Backing.config c.args.cfg.log).name (string_bytes c.args.cfg.merkle.nodes) (string_bytes c.args.cfg.merkle.metadata)) old mid new still.0 still.1 (opened.settled tells list marks within run few has)))
+    subst (λ (n : ℕ). Now (NamesLeft names) (NamesStand g.F.Family.shape g.H.Hasher.hash g.H.Digest.Spelled.spelling g.O.Spelled.spelling (take n (list ++ rest)) (all_synced n marks) (g.C.Backing.config c.args.cfg.log).name (string_bytes c.args.cfg.merkle.nodes) (string_bytes c.args.cfg.merkle.metadata)) new) (sym sized)
+    (now_still names (NamesStand g.F.Family.shape g.H.Hasher.hash g.H.Digest.Spelled.spelling g.O.Spelled.spelling (take j.items.end (list ++ rest)) (all_synced j.items.end marks) (g.C.Backing.config c.args.cfg.log).name (string_bytes c.args.cfg.merkle.nodes) (string_bytes c.args.cfg.merkle.metadata)) old mid new still.0 still.1 (opened.settled tells list rest marks within run few has)))
     c.opened_from.ensures.at
 
 pub returns-in-Err-clause-begins : goal.returns-in-Err-clause-begins
@@ -225,7 +225,7 @@ returns-in-Err-open_journal-clause-begins g c tells marks some within run has =
     let metadata = string_bytes c.args.cfg.merkle.metadata in
     let old = g.V.Volume.state c.args.vol.now in
     let mid = g.V.Volume.state c.open_journal.new.vol in
-    begins_none g.F.Family.shape g.H.Hasher.hash g.H.Digest.Spelled.spelling g.O.Spelled.spelling (g.O.KeylessOperation.committed None 0) marks g.met.F.Family.lawful view.name nodes metadata old mid _ tt (c.in-Err-open_journal.ensures.images tells [] marks within run (omega arith) has)
+    begins_none g.F.Family.shape g.H.Hasher.hash g.H.Digest.Spelled.spelling g.O.Spelled.spelling (g.O.KeylessOperation.committed None 0) marks g.met.F.Family.lawful view.name nodes metadata old mid _ tt (c.in-Err-open_journal.ensures.images tells [] [] marks within run (omega arith) has)
 
 pub returns-in-Ok-open_journal-clause-begins : goal.returns-in-Ok-open_journal-clause-begins
 returns-in-Ok-open_journal-clause-begins g c tells marks some within run has =
@@ -248,4 +248,4 @@ returns-in-Ok-open_journal-clause-begins g c tells marks some within run has =
     let empty = subst (λ (xs : List g.row.O.Denot). IsJoinedOf g.F.Family.shape g.H.Hasher.hash g.H.Digest.Spelled.spelling (g.H.Digest.Read.admits tt) g.O.Spelled.spelling xs j (present mid)) none listed.joined in
     begins_behind g.F.Family.shape g.H.Hasher.hash g.H.Digest.Spelled.spelling g.O.Spelled.spelling (g.O.KeylessOperation.committed None 0) marks g.met.F.Family.lawful view.name nodes metadata j.items.name j.tree.log.name j.tree.metadata old mid new c.opened_from.result
     (ap (λ (n : Names). get_or n.logs 0 []) opened.joined) (ap (λ (n : Names). get_or n.logs 1 []) opened.joined) (ap (λ (n : Names). get_or n.maps 0 []) opened.joined)
-    (opened.images tells [] marks within run (omega arith) has) (c.opened_from.ensures.begins tells marks zero empty)
+    (opened.images tells [] [] marks within run (omega arith) has) (c.opened_from.ensures.begins tells marks zero empty)

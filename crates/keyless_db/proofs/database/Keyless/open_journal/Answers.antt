@@ -112,55 +112,55 @@ pub returns-in-Err-new-clause-errors : goal.returns-in-Err-new-clause-errors
 returns-in-Err-new-clause-errors g c = inr (c.in-Err-new.error, c.from_joined-in-Err-new.ensures, c.in-Err-new.ensures.lifted)
 
 pub returns-in-Ok-clause-images : goal.returns-in-Ok-clause-images
-returns-in-Ok-clause-images g c tells list marks within run few =
+returns-in-Ok-clause-images g c tells list rest marks within run few =
     let m = g.O.Logged.meaning in
     let items : Items g.row.O.Denot = items_of g.O.Spelled.spelling g.O.Read.admits (g.C.Backing.config c.args.cfg.log) (g.V.Volume.state c.args.vol.now) in
     let most : Option ℕ = Some c.as_u64.result in
     let cap : most ≡ c.args.max_size = ap Some c.as_u64.ensures ∙ sym c.in-Some.is in
-    c.in-Ok.ensures.images tells list marks
+    c.in-Ok.ensures.images tells list rest marks
     (λ end ends. within end (subst (λ (o : Option ℕ). EndsAt items (IsSaidCommit m) o end) cap (ends_as items _ (IsSaidCommit m) most end (λ x b k. search rules) ends))) run few
 
 pub returns-in-Ok-clause-settled : goal.returns-in-Ok-clause-settled
-returns-in-Ok-clause-settled g c tells list marks within run few =
+returns-in-Ok-clause-settled g c tells list rest marks within run few =
     let m = g.O.Logged.meaning in
     let items : Items g.row.O.Denot = items_of g.O.Spelled.spelling g.O.Read.admits (g.C.Backing.config c.args.cfg.log) (g.V.Volume.state c.args.vol.now) in
     let most : Option ℕ = Some c.as_u64.result in
     let cap : most ≡ c.args.max_size = ap Some c.as_u64.ensures ∙ sym c.in-Some.is in
-    c.in-Ok.ensures.settled tells list marks
+    c.in-Ok.ensures.settled tells list rest marks
     (λ end ends. within end (subst (λ (o : Option ℕ). EndsAt items (IsSaidCommit m) o end) cap (ends_as items _ (IsSaidCommit m) most end (λ x b k. search rules) ends))) run few
 
 pub returns-in-Err-clause-images : goal.returns-in-Err-clause-images
-returns-in-Err-clause-images g c tells list marks within run few =
+returns-in-Err-clause-images g c tells list rest marks within run few =
     let m = g.O.Logged.meaning in
     let items : Items g.row.O.Denot = items_of g.O.Spelled.spelling g.O.Read.admits (g.C.Backing.config c.args.cfg.log) (g.V.Volume.state c.args.vol.now) in
     let most : Option ℕ = Some c.as_u64.result in
     let cap : most ≡ c.args.max_size = ap Some c.as_u64.ensures ∙ sym c.in-Some.is in
-    c.in-Err.ensures.images tells list marks
+    c.in-Err.ensures.images tells list rest marks
     (λ end ends. within end (subst (λ (o : Option ℕ). EndsAt items (IsSaidCommit m) o end) cap (ends_as items _ (IsSaidCommit m) most end (λ x b k. search rules) ends))) run few
 
 pub returns-in-Ok-new-clause-images : goal.returns-in-Ok-new-clause-images
-returns-in-Ok-new-clause-images g c tells list marks within run few =
+returns-in-Ok-new-clause-images g c tells list rest marks within run few =
     let m = g.O.Logged.meaning in
     let items : Items g.row.O.Denot = items_of g.O.Spelled.spelling g.O.Read.admits (g.C.Backing.config c.args.cfg.log) (g.V.Volume.state c.args.vol.now) in
     let most : Option ℕ = None in
     let cap : most ≡ c.args.max_size = sym c.in-None.is in
-    c.in-Ok-new.ensures.images tells list marks
+    c.in-Ok-new.ensures.images tells list rest marks
     (λ end ends. within end (subst (λ (o : Option ℕ). EndsAt items (IsSaidCommit m) o end) cap (ends_as items _ (IsSaidCommit m) most end (λ x b k. search rules) ends))) run few
 
 pub returns-in-Ok-new-clause-settled : goal.returns-in-Ok-new-clause-settled
-returns-in-Ok-new-clause-settled g c tells list marks within run few =
+returns-in-Ok-new-clause-settled g c tells list rest marks within run few =
     let m = g.O.Logged.meaning in
     let items : Items g.row.O.Denot = items_of g.O.Spelled.spelling g.O.Read.admits (g.C.Backing.config c.args.cfg.log) (g.V.Volume.state c.args.vol.now) in
     let most : Option ℕ = None in
     let cap : most ≡ c.args.max_size = sym c.in-None.is in
-    c.in-Ok-new.ensures.settled tells list marks
+    c.in-Ok-new.ensures.settled tells list rest marks
     (λ end ends. within end (subst (λ (o : Option ℕ). EndsAt items (IsSaidCommit m) o end) cap (ends_as items _ (IsSaidCommit m) most end (λ x b k. search rules) ends))) run few
 
 pub returns-in-Err-new-clause-images : goal.returns-in-Err-new-clause-images
-returns-in-Err-new-clause-images g c tells list marks within run few =
+returns-in-Err-new-clause-images g c tells list rest marks within run few =
     let m = g.O.Logged.meaning in
     let items : Items g.row.O.Denot = items_of g.O.Spelled.spelling g.O.Read.admits (g.C.Backing.config c.args.cfg.log) (g.V.Volume.state c.args.vol.now) in
     let most : Option ℕ = None in
     let cap : most ≡ c.args.max_size = sym c.in-None.is in
-    c.in-Err-new.ensures.images tells list marks
+    c.in-Err-new.ensures.images tells list rest marks
     (λ end ends. within end (subst (λ (o : Option ℕ). EndsAt items (IsSaidCommit m) o end) cap (ends_as items _ (IsSaidCommit m) most end (λ x b k. search rules) ends))) run few
