@@ -1,5 +1,5 @@
 -- What a step makes durable outlasts a crash, also by the names of a configuration.
-use Rattle.std.proofs.Common.{◌≡◌, ℕ, ◌+◌, ◌<◌, ◌≤◌, ◌×◌, ◌++◌, [], ◌∷◌, List, length, take, get_or, ◌∙◌, ap, subst, sym}
+use Rattle.std.proofs.Common.{◌≡◌, ℕ, ◌+◌, ◌<◌, ◌≤◌, ◌++◌, [], ◌∷◌, List, length, take, get_or, ◌∙◌, ap, subst, sym}
 use Rattle.std.proofs.lemmas.List.{take_all, take_more}
 use Rattle.volume_base.specs.Names.{Names}
 use Rattle.volume_base.specs.Volume as volume
@@ -50,7 +50,7 @@ pub lasts_next : (config : Config) (v : volume.State) (commands : List Command) 
     → get_or commands i c ≡ c → i < length commands → LastsAfter config v c → LastsBehind config v (take (i + 1) commands)
 lasts_next config v commands i c is lt lasts =
     let last : take i commands ++ c ∷ [] ≡ take (i + 1) commands =
-        sym (take_more commands i c lt ∙ ap (λ (x : Command). take i commands ++ x ∷ []) is) in
+    sym (take_more commands i c lt ∙ ap (λ (x : Command). take i commands ++ x ∷ []) is) in
     subst (LastsBehind config v) last (lasts_last config v (take i commands) c lasts)
 
 pub lasts_all : (config : Config) (v : volume.State) (commands : List Command) (i : ℕ) → length commands ≤ i

@@ -1,5 +1,5 @@
 -- What of a run outlasts a crash.
-use Rattle.std.specs.Prelude.{List, [], ◌∷◌, ◌×◌}
+use Rattle.std.specs.Prelude.{List, [], ◌∷◌}
 use Rattle.volume_base.specs.Volume as volume
 use Rattle.volume_base.specs.Volume.{OnlyLeft}
 use Rattle.command_text.specs.declared.command.Command.{Command}

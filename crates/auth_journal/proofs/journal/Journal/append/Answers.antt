@@ -4,14 +4,16 @@ use Rattle.journal_base.specs.View.{log_of}
 use Rattle.tree_core.specs.Applied.{FitsTree}
 use Rattle.tree_core.specs.Batches.{IsSealedOf}
 use Rattle.volume_base.specs.Log.{end_of, Grows}
+use Rattle.volume_base.specs.declared.error.JournalError.TheVariants as journal
 use Rattle.volume_base.specs.Volume.{LogCall}
 use Rattle.auth_journal.proofs.GrowLemmas.{items_grow, none_stands}
 use Rattle.volume_base.specs.Moments.{present}
 use Rattle.merkle_full.specs.Full.{IsSeated}
 use Rattle.merkle_full.specs.Lists.{AreDigests}
+use Rattle.auth_journal.specs.Appending.{Appends}
 use Rattle.auth_journal.specs.Joined.{Joined, IsJoinedOf, leaves_of}
 use Rattle.auth_journal.specs.declared.error.Error.TheVariants as joined
-use Rattle.auth_journal.proofs.AppendLemmas.{appends_not, appends_refused}
+use Rattle.auth_journal.proofs.AppendLemmas.{appends_not, appends_refused, appends_below}
 use Rattle.auth_journal.proofs.BatchLemmas.{only_memory}
 use Rattle.auth_journal.proofs.ErrorLemmas.{answered_size, unwritten_below, memory_not_merkle, leaves_never}
 use Rattle.auth_journal.proofs.JoinedLemmas.{appended_joined, seated_later}
@@ -34,6 +36,16 @@ pub returns-in_err-merkle-clause-appends : goal.returns-in_err-merkle-clause-app
 returns-in_err-merkle-clause-appends g c =
     let a = g.V.Volume.state c.args.vol.now in
     appends_refused g.V.Volume.tells g.C.Item.Spelled.spelling c.args.self.items (c.args.item.now ∷ []) a a g.F.Family.shape c.self.inside.merkle.tree c.in_ok-batch.batch _ c.in_err-merkle.field-0.0 _ c.from_residual-in_err-merkle.ensures.1 (c.in_err-merkle.ensures {u = tt}).answer
+
+pub returns-in_err-journal-clause-appends : goal.returns-in_err-journal-clause-appends
+returns-in_err-journal-clause-appends g c =
+    let tells = g.V.Volume.tells in
+    let spelling = g.C.Item.Spelled.spelling in
+    let old = g.V.Volume.state c.args.vol.now in
+    let new = g.V.Volume.state c.append_one.new.vol in
+    let items : List g.row.C-Item.Denot = c.args.item.now ∷ [] in
+    let here = subst (λ (j : Joined g.row.H-Digest.Denot g.row.C-Item-Cfg.Denot). Appends tells journal.Volume spelling j.items (λ made. g.C.Contiguous.view made.0) items old new c.append_one.result) c.self.view_is c.append_one.ensures.appends in
+    appends_below tells spelling c.args.self.items items old new (λ made. g.C.Contiguous.view made.0) _ c.append_one.result c.in_err-journal.field-0.0 c.from_residual-in_err-journal.result (c.in_err-journal.was {u = tt}) c.from_residual-in_err-journal.ensures.1 here
 
 pub returns-in_err-journal-clause-unwritten : goal.returns-in_err-journal-clause-unwritten
 returns-in_err-journal-clause-unwritten g c =

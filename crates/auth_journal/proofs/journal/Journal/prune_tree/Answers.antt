@@ -7,6 +7,7 @@ use Rattle.volume_base.specs.Moments.{present}
 use Rattle.merkle_full.specs.Flushing.{AllStand, IsSameTree}
 use Rattle.journal_base.specs.Blobs.{blob_start}
 use Rattle.journal_base.specs.Items.{items_of}
+use Rattle.journal_base.specs.View.{View}
 use Rattle.tree_shape.specs.Shape.{made}
 use Rattle.merkle_full.specs.Full.{Full, Rests}
 use Rattle.merkle_full.specs.Lists.{IsFullOf}
@@ -19,6 +20,19 @@ use Rattle.auth_journal.proofs.DurableLemmas.{err_and, err_not_ok, fault_below}
 use Rattle.auth_journal.proofs.ErrorLemmas.{tree_outside, volume_from_tree}
 use Rattle.auth_journal.proofs.PruneLemmas.{changes_done, not_failed, same_made, pruned_same, pruned_rests, why_unpruned}
 use Rattle.auth_journal.proofs.journal.Journal.prune_tree.Goals as goal
+
+pub invariant_of-result : goal.invariant_of-result
+invariant_of-result g c =
+    let t = c.self.inside.merkle in
+    let u = c.in_ok-merkle.merkle in
+    let did = c.in_ok-merkle.ensures {u = tt} in
+    let stays : c.new.result ≤ t.boundary → u ≡ t = λ le. same_made u t c.prune.result (c.in_ok-merkle.was {u = tt}) (c.prune.ensures.below (not_failed t.log.failed (λ is. let bad = (did.kept is).0 in cc)) le).0 in
+    let same = (pruned_same t u c.new.result stays did.moved).log in
+    record {
+      apart = λ e. c.self.invariant.apart (e ∙ ap (λ (v : View _). v.name) same);
+      items = c.self.invariant.items;
+      tree = λ kept. ap (λ (v : View _). v.failed) same ∙ c.self.invariant.tree kept;
+    }
 
 pub returns-in_err-merkle-clause-outside : goal.returns-in_err-merkle-clause-outside
 returns-in_err-merkle-clause-outside g c tells all full low =
