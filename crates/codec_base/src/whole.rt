@@ -7,12 +7,15 @@ use crate::error::InvalidAt;
 use crate::{Bytes, CodecError, Cursor, Read, Write};
 use std::alloc::Global;
 
+/// The room that a spelling begins with, in bytes: that of a digest.
+const ROOM: usize = 32;
+
 /// The spelling of a value.
 pub fn encode<T: Write>(alloc: Global, value: &T) -> Result<Bytes, CodecError>
     ensures spelled { IfOk result (λ bytes. bytes ≡ T.spelling value.now) }
     ensures memory { IsOkUnless result CodecError.Memory }
 {
-    let mut out = Bytes::new(alloc);
+    let mut out = Bytes::from_vec(Vec::with_capacity(alloc, ROOM)?);
     value.write(&mut out)?;
     Ok(out)
 }

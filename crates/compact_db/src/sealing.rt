@@ -48,7 +48,7 @@ fn leaves_of<F: Family, O: Logged, H: Hasher>(
         leaves_from F.shape H.hash O.meaning first operations.now) }
     ensures memory { IsOkUnless result CodecError.Memory }
 {
-    let mut leaves = Vec::new(alloc);
+    let mut leaves = Vec::with_capacity(alloc, operations.len())?;
     let mut buffer = Bytes::new(alloc);
     for i in 0..operations.len() {
         let place = first + i as u64;

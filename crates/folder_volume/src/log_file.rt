@@ -10,6 +10,15 @@ use std::alloc::Global;
 use std::fs::{Files, OpenFile};
 use std::io::{self, Read, Seek, SeekFrom, Write};
 
+/// How many bytes a log's file has of these items and of its start.
+fn room_for(items: &[Bytes]) -> usize {
+    let mut room = HEAD;
+    for item in items {
+        room = room.saturating_add(item.len().saturating_add(4));
+    }
+    room as usize
+}
+
 /// A log, as its file has it. The file is read once.
 #[derive(Drop)]
 pub(crate) struct LogFile<R: Files> {
@@ -104,8 +113,8 @@ where
     /// Items as they are written behind the log, with its start where that doesn't stand there, and where each ends.
     fn encoded(&self, alloc: Global, items: &[Bytes]) -> Result<(Vec<u8>, Vec<u64>), Failure> {
         let end = self.offset(self.ends.len());
-        let mut bytes = Vec::new(alloc);
-        let mut ends = Vec::new(alloc);
+        let mut bytes = Vec::with_capacity(alloc, room_for(items))?;
+        let mut ends = Vec::with_capacity(alloc, items.len())?;
         if !self.headed {
             bytes.extend_from_slice(&self.start.to_be_bytes())?;
         }

@@ -85,7 +85,7 @@ fn encode_all<T: Write>(alloc: Global, items: &[T]) -> Result<Vec<Bytes>, Journa
     ensures same { IfOk result (λ texts. texts.items ≡ map T.spelling items.now) }
     ensures memory { IsOkUnless result JournalError.Memory }
 {
-    let mut texts = Vec::new(alloc);
+    let mut texts = Vec::with_capacity(alloc, items.len())?;
     for item in items {
         texts.push(encode_one(alloc, item)?)?;
     }

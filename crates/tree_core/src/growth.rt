@@ -70,7 +70,9 @@ pub(crate) fn nodes_after<F: Family, H: Hasher>(
     ensures hashed { IfOk result (λ since.
         AreHashed F.shape H.hash mark.now.leaves (length digests.now) mark.now.peaks.items since.items) }
 {
-    let mut since = Vec::new(alloc);
+    let later = digests.len() as u64;
+    let count = F::size(mark.leaves + later).saturating_sub(F::size(mark.leaves));
+    let mut since = Vec::with_capacity(alloc, count as usize)?;
     for i in 0..digests.len() {
         since.push(digests[i])?;
         push_parents::<F, H>(mark, &mut since, i as u64, hasher)?;
@@ -90,9 +92,9 @@ pub(crate) fn mark_of<F: Family, D: Digest, P: Peaks<F, D>>(
     ensures peaks { IfOk result (λ m. map Some m.peaks.items ≡
         map (λ c. P.told peaks.now c.0 c.1) (peaks_down leaves (F.shape.heights leaves))) }
 {
-    let mut digests = Vec::new(alloc);
-    let mut end = leaves;
     let count = F::peak_count(leaves);
+    let mut digests = Vec::with_capacity(alloc, count as usize)?;
+    let mut end = leaves;
     for i in 0..count {
         let height = F::peak_height(leaves, i);
         end -= width(height);

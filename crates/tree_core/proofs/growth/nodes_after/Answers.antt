@@ -10,10 +10,10 @@ use Rattle.tree_core.proofs.growth.nodes_after.Goals as goal
 
 pub loop-i-init : goal.loop-i-init
 loop-i-init g c = record {
-  counted = ap length c.new-since.ensures.items ∙ (nothing_since g.F.Family.shape g.H.Hasher.hash [] c.args.mark.now.leaves).1;
-  told = λ all peaks more. c.new-since.ensures.items ∙ (nothing_since g.F.Family.shape g.H.Hasher.hash all c.args.mark.now.leaves).0;
+  counted = ap length c.in_ok-since.ensures.items ∙ (nothing_since g.F.Family.shape g.H.Hasher.hash [] c.args.mark.now.leaves).1;
+  told = λ all peaks more. c.in_ok-since.ensures.items ∙ (nothing_since g.F.Family.shape g.H.Hasher.hash all c.args.mark.now.leaves).0;
   leaves = λ i d lt is. absurd (omega (arith, lt));
-  hashed = nothing_hashed g.F.Family.shape g.H.Hasher.hash c.args.mark.now.leaves c.args.mark.now.peaks.items 0 c.new-since.result.items c.new-since.ensures.items;
+  hashed = nothing_hashed g.F.Family.shape g.H.Hasher.hash c.args.mark.now.leaves c.args.mark.now.peaks.items 0 c.in_ok-since.since.items c.in_ok-since.ensures.items;
 }
 
 pub loop-i-preserved : goal.loop-i-preserved
