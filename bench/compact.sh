@@ -8,7 +8,7 @@
 # states and of as many look-ups, with the making of the database and as many prunes alone taken off, the best of five
 # rounds counts.
 # Then the same of an apply in databases of growing size, against the same hash calls alone: as many, over as many
-# blocks, by the same SHA-256, the folds of both its roots included. Each size is run as often as makes 200000 batches,
+# blocks, by the same SHA-256, the folds of its root included. Each size is run as often as makes 200000 batches,
 # the start of the program is taken off, and of five rounds the best counts.
 set -eu
 top=$(cd -- "$(dirname -- "$0")/.." && pwd -P)

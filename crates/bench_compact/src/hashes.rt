@@ -35,8 +35,7 @@ impl Chain {
     }
 }
 
-/// The hash calls of so many batches of one value, each with its commit and two roots: one of the sealed batch, and one
-/// of its witness.
+/// The hash calls of so many batches of one value, each with its commit and its root.
 pub(crate) fn hash_all(batches: u64) -> [u8; 32]
     requires { batches ≤ 1000000 }
 {
@@ -49,8 +48,6 @@ pub(crate) fn hash_all(batches: u64) -> [u8; 32]
         let folds = u64::from(Mmr::peak_count(before + 2)).saturating_sub(1);
         chain.hash(LEAF, 2);
         chain.hash(NODE, parents);
-        chain.hash(FOLD, folds);
-        chain.hash(ROOT, 1);
         chain.hash(FOLD, folds);
         chain.hash(ROOT, 1);
     }

@@ -19,6 +19,7 @@ use Rattle.chain_core.proofs.PoolLemmas.{alive_held, alive_drawn, released_lengt
 use Rattle.chain_core.proofs.StateLemmas.{whole, state_of_front}
 use Rattle.compact_db.specs.Batches.{MerkleizedView, IsMerkleizedOf}
 use Rattle.compact_db.specs.StateOf.{IsStateOf}
+use Rattle.compact_db.specs.Verified.{root_under}
 use Rattle.compact_db.specs.declared.verified.VerifiedWitness.{VerifiedWitness}
 
 state_by : {F D : Type 0} (c : Commitment F D) (n : ℕ) (r : D) → c.size ≡ n → c.root ≡ r → c ≡ record { size = n; root = r }
@@ -31,6 +32,18 @@ floor_by_last m (x ∷ []) op at = let e : x ≡ op = cc in ap (λ o. floor_of m
 floor_by_last m (x ∷ y ∷ ops) op at =
     let n : length (x ∷ y ∷ ops) - 1 ≡ suc (length (y ∷ ops) - 1) = omega arith in
     floor_by_last m (y ∷ ops) op (rw n at at)
+
+-- the root at the tip of a batch of a list
+pub root_of_batch : {F D Op V : Type 0} (s : Shape) (h : Hashing D) (m : Meaning Op V) (list : List Op) (x b : MerkleizedView F D Op) → x ≡ b
+    → IsMerkleizedOf s h m list b → x.bounds.tip.root ≡ root_of s h m list
+root_of_batch {F} {D} {Op} s h m list x b same of =
+    ap (λ (y : MerkleizedView F D Op). y.bounds.tip.root) same ∙ ap (λ (c : Commitment F D). c.root) of.batch.bounds.tip
+
+-- the root of a list is that of its leaves under the floor of its last operation
+pub root_under_last : {D Op V : Type 0} (s : Shape) (h : Hashing D) (m : Meaning Op V) (ops : List Op) (op : Op) (leaves : List D) (r : D)
+    → slice_get ops (length ops - 1) ≡ Some op → leaves_from s h m 0 ops ≡ leaves → r ≡ root_of s h m ops → r ≡ root_under s h leaves (floor_of m (op ∷ []))
+root_under_last s h m ops op leaves r at are is =
+    is ∙ sym (root_of-parts s h m ops leaves (length leaves) (floor_of m (op ∷ [])) _ (sym are) (ap length (sym are) ∙ length-leaves_from s h m 0 ops) (floor_by_last m ops op at) refl)
 
 module _ {F D Op V : Type 0} (s : Shape) (h : Hashing D) (m : Meaning Op V) (list : List Op) (tip : VerifiedWitness F D) (tree : Tree D) (commit : Op)
     (is : IsStateOf s h m list tip tree commit) where

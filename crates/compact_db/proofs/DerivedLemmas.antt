@@ -4,14 +4,19 @@ use Rattle.std.proofs.lemmas.List.{append-nil, same_lists, reverse-reverse}
 use Rattle.std.proofs.lemmas.Option.{slice_get_within}
 use Rattle.tree_shape.specs.Kept.{PeakIn, PeakOf}
 use Rattle.tree_shape.specs.Pins.{pins, position_of}
-use Rattle.tree_shape.specs.Shape.{Shape, made, peaks_down, IsLawful}
+use Rattle.tree_shape.specs.Hashing.{Hashing}
+use Rattle.tree_shape.specs.Root.{root, root_over}
+use Rattle.tree_shape.specs.Shape.{Shape, inactive, made, peaks_down, IsLawful}
+use Rattle.tree_shape.specs.declared.bagging.Bagging.{Bagging}
+use Rattle.tree_shape.specs.declared.bagging.Bagging.TheVariants.{ForwardFold}
 use Rattle.tree_shape.proofs.NodeLemmas.{map-reverse}
 use Rattle.tree_core.specs.Reading.{ArePeaks}
 use Rattle.tree_core.specs.Tree.{Tree, node_at}
 use Rattle.tree_core.proofs.MarkLemmas.{mark_peaks}
 use Rattle.tree_core.proofs.PrunedLemmas.{peak_stands}
 use Rattle.witness_store.specs.declared.witness.Witness.{Witness}
-use Rattle.compact_db.specs.Derived.{ArePinsIn}
+use Rattle.compact_db.specs.Derived.{ArePinsIn, IsRootOver}
+use Rattle.compact_db.specs.Verified.{root_under}
 use Rattle.compact_db.proofs.PinLemmas.{pins_are}
 
 -- all positions were read
@@ -65,3 +70,18 @@ pins_given s t u n given read w at are same pinned =
 pub witness_by : {F D : Type 0} (w : Witness F D) (bytes : List ℕ) (n : ℕ) (pins : List D) → w.op_bytes ≡ bytes → w.size ≡ n → w.pinned_nodes ≡ pins
     → w ≡ record { op_bytes = bytes; size = n; pinned_nodes = pins }
 witness_by w bytes n pins p q r i = record { op_bytes = p i; size = q i; pinned_nodes = r i }
+
+-- the root of leaves under a floor, by the inactive peaks and the fold
+pub root_under_is : {D : Type 0} (s : Shape) (h : Hashing D) (all : List D) (below floor k n : ℕ) (b : Bagging) (d : D) → k ≡ inactive s n below
+    → n ≡ length all → below ≡ floor → b ≡ ForwardFold → d ≡ root s h all k b → d ≡ root_under s h all floor
+root_under_is s h all below floor k n b d count size same forward is =
+    is ∙ ap (λ j. root s h all j b) (count ∙ ap (λ m. inactive s m below) size ∙ ap (inactive s (length all)) same)
+    ∙ ap (root s h all (inactive s (length all) floor)) forward
+
+-- and that over a tree's peaks
+pub root_over_is : {D : Type 0} (s : Shape) (h : Hashing D) (t : Tree D) (below floor k n : ℕ) (b : Bagging) (d : D) → k ≡ inactive s n below
+    → n ≡ t.leaves → below ≡ floor → b ≡ ForwardFold
+    → ((ds : List D) → ArePeaks s t.leaves (λ x j. node_at t (s.position x j)) ds → d ≡ root_over h t.leaves ds k b) → IsRootOver s h t floor d
+root_over_is s h t below floor k n b d count size same forward is ds are =
+    is ds are ∙ ap (λ j. root_over h t.leaves ds j b) (count ∙ ap (λ m. inactive s m below) size ∙ ap (inactive s t.leaves) same)
+    ∙ ap (root_over h t.leaves ds (inactive s t.leaves floor)) forward

@@ -15,6 +15,12 @@ use Rattle.compact_db.specs.declared.verified.VerifiedWitness.{VerifiedWitness}
 abbrev pub ArePinsIn : {D : Type 0} → Shape → Tree D → ℕ → List D → Type 0
 ArePinsIn s t leaves ds = map Some ds ≡ map (node_at t) (pins s leaves)
 
+-- It is the root over the tree's own peaks under this floor.
+abbrev pub IsRootOver : {D : Type 0} → Shape → Hashing D → Tree D → ℕ → D → Type 0
+IsRootOver {D} s h t floor d =
+    (ds : List D) → ArePeaks s t.leaves (λ x k. node_at t (s.position x k)) ds →
+    d ≡ root_over h t.leaves ds (inactive s t.leaves floor) ForwardFold
+
 -- It is derived of a tree whose last leaf is the commit of these bytes and this floor: the peaks before that leaf, the
 -- root over its own peaks, and the proof of the leaf.
 pub record IsDerivedOf {F D : Type 0} (s : Shape) (h : Hashing D) (t : Tree D) (bytes : List ℕ) (floor : ℕ)
@@ -22,7 +28,6 @@ pub record IsDerivedOf {F D : Type 0} (s : Shape) (h : Hashing D) (t : Tree D) (
   pub bytes_are : v.witness.op_bytes ≡ bytes
   pub size : v.witness.size ≡ t.leaves
   pub pinned : ArePinsIn s t (t.leaves - 1) v.witness.pinned_nodes
-  pub root : (ds : List D) → ArePeaks s t.leaves (λ x k. node_at t (s.position x k)) ds →
-      v.root ≡ root_over h t.leaves ds (inactive s t.leaves floor) ForwardFold
+  pub root : IsRootOver s h t floor v.root
   pub proof : Proves s (leaf_answer t.leaves (t.leaves - 1)) t.leaves (inactive s t.leaves floor)
       (meets (t.leaves - 1) t.leaves) (node_at t) (Ok v.proof)

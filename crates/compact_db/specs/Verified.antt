@@ -9,6 +9,10 @@ use Rattle.tree_proof.specs.Cover.{meets}
 use Rattle.tree_proof.specs.SlowProof.{proof_of}
 use Rattle.compact_db.specs.declared.verified.VerifiedWitness.{VerifiedWitness}
 
+-- The root of these leaves under a floor.
+abbrev pub root_under : {D : Type 0} → Shape → Hashing D → List D → ℕ → D
+root_under s h all floor = root s h all (inactive s (length all) floor) ForwardFold
+
 module _ {F D : Type 0} (s : Shape) (h : Hashing D) where
   -- Of the leaves of a list that a commit of these bytes and this floor ends.
   abbrev pub verified_leaves : List D → List ℕ → ℕ → VerifiedWitness F D
@@ -18,6 +22,6 @@ module _ {F D : Type 0} (s : Shape) (h : Hashing D) where
       size = length all;
       pinned_nodes = map (node_of s h all) (peaks s (length all - 1));
     };
-    root = root s h all (inactive s (length all) floor) ForwardFold;
+    root = root_under s h all floor;
     proof = proof_of s h all (inactive s (length all) floor) (meets (length all - 1) (length all));
   }

@@ -7,8 +7,10 @@ ghost use Rattle.tree_store.specs.declared.error.Error.TheVariants as tree_error
 ghost use Rattle.log_model.specs.Operations.{floor_of};
 ghost use Rattle.merkle_compact.specs.Frontier.{IsFrontier};
 ghost use Rattle.compact_db.specs.StateOf.{IsRestored};
+ghost use Rattle.compact_db.specs.Verified.{root_under};
 
-use crate::{CompactOperation, VerifiedWitness, build_witness};
+use crate::verified::witness_under;
+use crate::{CompactOperation, VerifiedWitness};
 use chain_core::Error;
 use codec_base::encode;
 use merkle_compact::Merkle;
@@ -26,12 +28,13 @@ fn as_stale<F>(error: tree_core::Error<F>) -> Error<F>
     }
 }
 
-/// The tree with what a batch has behind it, which this commit ends, and what is derived of it. It refuses with
-/// `StaleBatch` where the tree takes the batch at no mark, and with `Memory`.
+/// The tree with what a batch has behind it, which this commit ends, and what is derived of it under the batch's root,
+/// which isn't hashed again. It refuses with `StaleBatch` where the tree takes the batch at no mark, and with `Memory`.
 pub(crate) fn applied<F: Family, O: CompactOperation, H: Hasher>(
     alloc: Global,
     mut merkle: Merkle<F, H::Digest>,
     batch: &MerkleizedBatch<F, H::Digest>,
+    root: H::Digest,
     commit: &O,
 ) -> Result<(VerifiedWitness<F, H::Digest>, Merkle<F, H::Digest>), Error<F>>
     requires longer { merkle.leaves < batch.now.leaves }
@@ -41,6 +44,7 @@ pub(crate) fn applied<F: Family, O: CompactOperation, H: Hasher>(
     ensures short { IfOk result (λ r. length r.0.witness.op_bytes < 2 ^ 64) }
     ensures list { IfOk result (λ r. (all more : List H.Digest) → IsOf F.shape H.hash all merkle →
         IsSealedOf F.shape H.hash (all ++ more) batch.now →
+        root ≡ root_under F.shape H.hash (all ++ more) (floor_of O.meaning (commit.now ∷ [])) →
         IsRestored F.shape H.hash (all ++ more) (O.meaning.encoding commit.now)
         (floor_of O.meaning (commit.now ∷ [])) (r.0, r.1)) }
     ensures stale { IsErrOf result Error.StaleBatch → (i : ℕ) → FitsTree F.shape merkle batch.now i → ⊥ }
@@ -60,7 +64,7 @@ pub(crate) fn applied<F: Family, O: CompactOperation, H: Hasher>(
         Err(error) => return Err(as_stale(error)),
     }
     let floor = Location::new(commit.commit_floor().unwrap_or(0));
-    let tip = build_witness::<F, H>(alloc, &merkle, floor, op_bytes)?;
+    let tip = witness_under::<F, H>(alloc, &merkle, root, floor, op_bytes)?;
     merkle.prune_to_frontier();
     Ok((tip, merkle))
 }

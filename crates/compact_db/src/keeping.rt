@@ -9,7 +9,7 @@ ghost use Rattle.volume_base.specs.declared.error.JournalError.TheVariants.{Size
 ghost use Rattle.tree_core.specs.Applied.{Fits};
 ghost use Rattle.tree_core.specs.Batches.{IsSealedOf};
 ghost use Rattle.log_model.specs.Good.{EndsWithCommit};
-ghost use Rattle.log_model.specs.Operations.{leaves_from};
+ghost use Rattle.log_model.specs.Operations.{leaves_from, root_of};
 ghost use Rattle.chain_core.specs.Reached.{item_at};
 ghost use Rattle.chain_core.specs.Slots.{IsAlive};
 ghost use Rattle.chain_core.specs.declared.error.Error.TheVariants as error;
@@ -29,11 +29,12 @@ use tree_core::{Family, Hasher};
 use volume_base::Volume;
 
 impl<F: Family, O: CompactOperation, H: Hasher> CompactDb<F, O, H> {
-    /// The database with what a batch has behind it, which this commit ends, and one more witness.
+    /// The database with what a batch has behind it, which this commit ends, under the batch's root, and one more witness.
     pub(crate) fn grown<V: Volume>(
         self,
         vol: &mut V,
         batch: &tree_core::MerkleizedBatch<F, H::Digest>,
+        root: H::Digest,
         commit: O,
     ) -> Result<Self, Error<F>>
         requires longer { self.tree.leaves < batch.now.leaves }
@@ -45,6 +46,7 @@ impl<F: Family, O: CompactOperation, H: Hasher> CompactDb<F, O, H> {
             IsSealedOf F.shape H.hash (leaves_from F.shape H.hash O.meaning 0 (ops ++ more)) batch.now →
             EndsWithCommit O.meaning (ops ++ more) → length (ops ++ more) ≤ 2 ^ 62 →
             slice_get (ops ++ more) (length (ops ++ more) - 1) ≡ Some commit →
+            root ≡ root_of F.shape H.hash O.meaning (ops ++ more) →
             IsOfList F.shape H.hash O.meaning (ops ++ more) made) }
         ensures held { IfOk result (λ made. V.tells → (ops more : List O) (sizes : List ℕ) →
             IsHeldFor F.shape H.hash O.meaning H.Digest.spelling (H.Digest.admits tt) ops sizes self (V.state vol.old) →
@@ -72,6 +74,7 @@ impl<F: Family, O: CompactOperation, H: Hasher> CompactDb<F, O, H> {
             IsSealedOf F.shape H.hash (leaves_from F.shape H.hash O.meaning 0 (ops ++ more)) batch.now →
             EndsWithCommit O.meaning (ops ++ more) → length (ops ++ more) ≤ 2 ^ 62 →
             slice_get (ops ++ more) (length (ops ++ more) - 1) ≡ Some commit →
+            root ≡ root_of F.shape H.hash O.meaning (ops ++ more) →
             let ws = map (witness_of {F = F} F.shape H.hash O.meaning ops) sizes in
             let last = witness_of F.shape H.hash O.meaning (ops ++ more) (length (ops ++ more)) in
             LogHas (V.state vol.old) (seen_log self.log).name (HasWitnesses H.Digest.spelling ws greatest least) →
@@ -83,6 +86,7 @@ impl<F: Family, O: CompactOperation, H: Hasher> CompactDb<F, O, H> {
             IsSealedOf F.shape H.hash (leaves_from F.shape H.hash O.meaning 0 (ops ++ more)) batch.now →
             EndsWithCommit O.meaning (ops ++ more) → length (ops ++ more) ≤ 2 ^ 62 →
             slice_get (ops ++ more) (length (ops ++ more) - 1) ≡ Some commit →
+            root ≡ root_of F.shape H.hash O.meaning (ops ++ more) →
             let last = witness_of {F = F} F.shape H.hash O.meaning (ops ++ more) (length (ops ++ more)) in
             LogCall (seen_log self.log).name (Settles H.Digest.spelling self.log last (V.state vol.old))
             (V.state vol.old) (V.state vol.new) }
@@ -108,7 +112,7 @@ impl<F: Family, O: CompactOperation, H: Hasher> CompactDb<F, O, H> {
             last_commit: _,
             codec,
         } = self;
-        let (tip, merkle) = applied::<F, O, H>(alloc, merkle, batch, &commit)?;
+        let (tip, merkle) = applied::<F, O, H>(alloc, merkle, batch, root, &commit)?;
         let store = extended(log, vol, &tip.witness)?;
         Ok(CompactDb {
             alloc,
@@ -301,6 +305,6 @@ impl<F: Family, O: CompactOperation, H: Hasher> CompactDb<F, O, H> {
         let Ok(commit) = commit.duplicate() else {
             return Err(Error::Memory);
         };
-        self.grown(vol, &batch.tree, commit)
+        self.grown(vol, &batch.tree, batch.bounds.tip.root, commit)
     }
 }

@@ -3,8 +3,8 @@ ghost use Rattle.std.specs.Prelude.{◌≡◌, ◌<◌, ◌≤◌, List, map, If
 ghost use Rattle.tree_shape.specs.Shape.{peaks};
 ghost use Rattle.tree_shape.specs.Slow.{node_of};
 ghost use Rattle.tree_core.specs.Tree.{IsOf, IsSound};
-ghost use Rattle.compact_db.specs.Derived.{ArePinsIn, IsDerivedOf};
-ghost use Rattle.compact_db.specs.Verified.{verified_leaves};
+ghost use Rattle.compact_db.specs.Derived.{ArePinsIn, IsDerivedOf, IsRootOver};
+ghost use Rattle.compact_db.specs.Verified.{root_under, verified_leaves};
 
 use codec_base::{Bytes, ListOf};
 use merkle_compact::Merkle;
@@ -44,6 +44,42 @@ fn pins_before<F: Family, H: Hasher>(
     Ok(pins)
 }
 
+/// What is derived of a state with this root, from a tree whose last leaf is the commit of these bytes and this floor, and
+/// which keeps what stands before that leaf. Nothing is hashed. It refuses with `Memory` alone.
+pub(crate) fn witness_under<F: Family, H: Hasher>(
+    alloc: Global,
+    merkle: &Merkle<F, H::Digest>,
+    root: H::Digest,
+    floor: Location<F>,
+    op_bytes: Bytes,
+) -> Result<VerifiedWitness<F, H::Digest>, Error<F>>
+    requires kept { merkle.now.boundary < merkle.now.leaves }
+    ensures verified { IfOk result (λ v. (all : List H.Digest) → IsOf F.shape H.hash all merkle.now →
+        root ≡ root_under F.shape H.hash all floor →
+        v ≡ verified_leaves F.shape H.hash all op_bytes floor) }
+    // Of whichever tree whose root this is, it is what the tree's nodes make.
+    ensures derived { IfOk result (λ v. IsRootOver F.shape H.hash merkle.now floor root →
+        IsDerivedOf F.shape H.hash merkle.now op_bytes floor v) }
+    ensures size { IfOk result (λ v. v.witness.size ≡ merkle.now.leaves) }
+    ensures bytes { IfOk result (λ v. v.witness.op_bytes ≡ op_bytes) }
+    ensures memory { IsOkUnless result Error.Memory }
+{
+    let size = merkle.leaves().as_u64();
+    let inactive = F::inactive_peaks(Location::new(size), floor);
+    let pins = pins_before::<F, H>(alloc, merkle.mem(), size - 1)?;
+    let proof = merkle.mem().proof(Location::new(size - 1), inactive)?;
+    let witness = Witness {
+        op_bytes,
+        size: Location::new(size),
+        pinned_nodes: ListOf::from_vec(pins),
+    };
+    Ok(VerifiedWitness {
+        witness,
+        root,
+        proof,
+    })
+}
+
 /// What is derived of a state, from a tree whose last leaf is the commit of these bytes and this floor, and which keeps
 /// what stands before that leaf. It refuses with `Memory` alone.
 pub fn build_witness<F: Family, H: Hasher>(
@@ -63,18 +99,8 @@ pub fn build_witness<F: Family, H: Hasher>(
 {
     let size = merkle.leaves().as_u64();
     let hasher = Standard::<H>::new(Bagging::ForwardFold);
-    let inactive = F::inactive_peaks(Location::new(size), floor);
+    let below = Location::new(floor.as_u64());
+    let inactive = F::inactive_peaks(Location::new(size), below);
     let root = merkle.root(&hasher, inactive)?;
-    let pins = pins_before::<F, H>(alloc, merkle.mem(), size - 1)?;
-    let proof = merkle.mem().proof(Location::new(size - 1), inactive)?;
-    let witness = Witness {
-        op_bytes,
-        size: Location::new(size),
-        pinned_nodes: ListOf::from_vec(pins),
-    };
-    Ok(VerifiedWitness {
-        witness,
-        root,
-        proof,
-    })
+    witness_under::<F, H>(alloc, merkle, root, floor, op_bytes)
 }

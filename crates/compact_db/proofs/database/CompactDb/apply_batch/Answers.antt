@@ -19,7 +19,7 @@ use Rattle.compact_db.proofs.ApplyLemmas.{none_more, always, for_each, both, one
 use Rattle.compact_db.proofs.HeldLemmas.{list_same, last_witness, still_held}
 use Rattle.compact_db.proofs.ImageLemmas.{images_none, call_none, call_settled, restarts_none}
 use Rattle.compact_db.proofs.MarkLemmas.{marked_fits}
-use Rattle.compact_db.proofs.DbLemmas.{size_of_list}
+use Rattle.compact_db.proofs.DbLemmas.{root_of_batch, size_of_list}
 use Rattle.compact_db.proofs.database.CompactDb.apply_batch.Goals as goal
 
 pub returns-then-as_u64-clause-stands : goal.returns-then-as_u64-clause-stands
@@ -61,7 +61,7 @@ returns-clause-held g c = both c.grown.result _ _ _ c.grown.ensures.list c.grown
     let rest = c.as_slice.ensures ∙ ap (λ (x : MerkleizedView g.row.F.Denot g.row.H-Digest.Denot g.row.O.Denot). x.operations) same ∙ of.batch.own in
     let read = last_read c.as_slice.result.now (ops ++ more) b.bounds.base.size c.commit-item.result _ rest c.in-len1-up.len_at_least c.commit-item.is in
     held told ops more sizes was
-    (list ops more was.list sealed of.ends of.few (read ∙ ap Some (sym c.in-Ok-duplicate.ensures.same)))
+    (list ops more was.list sealed of.ends of.few (read ∙ ap Some (sym c.in-Ok-duplicate.ensures.same)) (root_of_batch s h m (ops ++ more) _ b same of))
     (omega (arith, some, length-append ops more)))
 
 pub returns-clause-imported : goal.returns-clause-imported
@@ -74,7 +74,7 @@ returns-clause-imported g c waiting = both c.grown.result _ _ _ c.grown.ensures.
     subst (IsSealedOf s h (leaves_from s h m 0 (ops ++ more))) (sym (ap (λ (x : MerkleizedView g.row.F.Denot g.row.H-Digest.Denot g.row.O.Denot). x.tree) same)) of.tree in
     let rest = c.as_slice.ensures ∙ ap (λ (x : MerkleizedView g.row.F.Denot g.row.H-Digest.Denot g.row.O.Denot). x.operations) same ∙ of.batch.own in
     let read = last_read c.as_slice.result.now (ops ++ more) b.bounds.base.size c.commit-item.result _ rest c.in-len1-up.len_at_least c.commit-item.is in
-    imported told (ops ++ more) (list ops more was sealed of.ends of.few (read ∙ ap Some (sym c.in-Ok-duplicate.ensures.same))))
+    imported told (ops ++ more) (list ops more was sealed of.ends of.few (read ∙ ap Some (sym c.in-Ok-duplicate.ensures.same)) (root_of_batch s h m (ops ++ more) _ b same of)))
 
 pub returns-then-as_u64-clause-imported : goal.returns-then-as_u64-clause-imported
 returns-then-as_u64-clause-imported g c waiting = both c.settled.result _ _ _ (c.settled.ensures.imported waiting) (c.settled.ensures.imported waiting) (λ made imported too told ops more b at was of.
@@ -264,7 +264,7 @@ returns-clause-list g c = both c.grown.result _ _ _ c.grown.ensures.list c.grown
     subst (IsSealedOf s h (leaves_from s h m 0 (ops ++ more))) (sym (ap (λ (x : MerkleizedView g.row.F.Denot g.row.H-Digest.Denot g.row.O.Denot). x.tree) same)) of.tree in
     let rest = c.as_slice.ensures ∙ ap (λ (x : MerkleizedView g.row.F.Denot g.row.H-Digest.Denot g.row.O.Denot). x.operations) same ∙ of.batch.own in
     let read = last_read c.as_slice.result.now (ops ++ more) b.bounds.base.size c.commit-item.result _ rest c.in-len1-up.len_at_least c.commit-item.is in
-    list ops more was sealed of.ends of.few (read ∙ ap Some (sym c.in-Ok-duplicate.ensures.same)))
+    list ops more was sealed of.ends of.few (read ∙ ap Some (sym c.in-Ok-duplicate.ensures.same)) (root_of_batch s h m (ops ++ more) _ b same of))
 
 pub returns-clause-kept : goal.returns-clause-kept
 returns-clause-kept g c = for_each c.grown.result _ (λ made told ops sizes b at le was.
@@ -347,7 +347,7 @@ returns-clause-images g c told ops more sizes b greatest least at was of some ha
     subst (IsSealedOf s h (leaves_from s h m 0 (ops ++ more))) (sym (ap (λ (x : MerkleizedView g.row.F.Denot g.row.H-Digest.Denot g.row.O.Denot). x.tree) same)) of.tree in
     let rest = c.as_slice.ensures ∙ ap (λ (x : MerkleizedView g.row.F.Denot g.row.H-Digest.Denot g.row.O.Denot). x.operations) same ∙ of.batch.own in
     let read = last_read c.as_slice.result.now (ops ++ more) b.bounds.base.size c.commit-item.result _ rest c.in-len1-up.len_at_least c.commit-item.is in
-    c.grown.ensures.images told ops more sizes greatest least was sealed of.ends of.few (read ∙ ap Some (sym c.in-Ok-duplicate.ensures.same)) has
+    c.grown.ensures.images told ops more sizes greatest least was sealed of.ends of.few (read ∙ ap Some (sym c.in-Ok-duplicate.ensures.same)) (root_of_batch s h m (ops ++ more) _ b same of) has
 
 -- ---- its log, of whichever list
 
@@ -415,7 +415,7 @@ returns-clause-restarts g c waiting told ops more b at was of =
     subst (IsSealedOf s h (leaves_from s h m 0 (ops ++ more))) (sym (ap (λ (x : MerkleizedView g.row.F.Denot g.row.H-Digest.Denot g.row.O.Denot). x.tree) same)) of.tree in
     let rest = c.as_slice.ensures ∙ ap (λ (x : MerkleizedView g.row.F.Denot g.row.H-Digest.Denot g.row.O.Denot). x.operations) same ∙ of.batch.own in
     let read = last_read c.as_slice.result.now (ops ++ more) b.bounds.base.size c.commit-item.result _ rest c.in-len1-up.len_at_least c.commit-item.is in
-    c.grown.ensures.restarts waiting told ops more was sealed of.ends of.few (read ∙ ap Some (sym c.in-Ok-duplicate.ensures.same))
+    c.grown.ensures.restarts waiting told ops more was sealed of.ends of.few (read ∙ ap Some (sym c.in-Ok-duplicate.ensures.same)) (root_of_batch s h m (ops ++ more) _ b same of)
 
 -- ---- its bounds, and the batch's
 

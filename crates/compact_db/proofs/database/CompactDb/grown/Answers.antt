@@ -21,7 +21,7 @@ use Rattle.compact_db.specs.Held.{IsHeldFor}
 use Rattle.compact_db.specs.StateOf.{IsRestored}
 use Rattle.compact_db.specs.WitnessOf.{witness_of}
 use Rattle.compact_db.specs.Writing.{place_in, written_log, Extends, IsOutsideOrFull}
-use Rattle.compact_db.proofs.DbLemmas.{size_of_list}
+use Rattle.compact_db.proofs.DbLemmas.{root_under_last, size_of_list}
 use Rattle.compact_db.specs.declared.database.WitnessLog.TheVariants.{Open}
 use Rattle.compact_db.proofs.StateLemmas.{ones}
 use Rattle.compact_db.proofs.ImageLemmas.{images_none, call_none, call_restarts, restarts_none, no_result}
@@ -30,7 +30,7 @@ use Rattle.compact_db.proofs.SettleLemmas.{never_stale, full_cause, same_err, pa
 use Rattle.compact_db.proofs.database.CompactDb.grown.Goals as goal
 
 pub returns-clause-list : goal.returns-clause-list
-returns-clause-list g c ops more told sealed ends few at =
+returns-clause-list g c ops more told sealed ends few at rooted =
     let s = g.F.Family.shape in
     let h = g.H.Hasher.hash in
     let m = g.O.Logged.meaning in
@@ -41,7 +41,8 @@ returns-clause-list g c ops more told sealed ends few at =
     grown_state s h m ops more c.args.commit c.in_ok-tip.tip c.in_ok-tip.merkle ends few at
     (subst (λ ds. IsRestored s h ds (m.encoding c.args.commit) (floor_of m (c.args.commit ∷ [])) (c.in_ok-tip.tip, c.in_ok-tip.merkle)) (sym whole)
     (c.in_ok-tip.ensures.list (leaves_from s h m 0 ops) (leaves_from s h m (0 + length ops) more) tree
-    (subst (λ ds. IsSealedOf s h ds c.args.batch.now) whole sealed)))
+    (subst (λ ds. IsSealedOf s h ds c.args.batch.now) whole sealed)
+    (root_under_last s h m (ops ++ more) c.args.commit _ c.args.root at whole rooted)))
 
 pub returns-clause-held : goal.returns-clause-held
 returns-clause-held g c told ops more sizes was is lt =
@@ -152,11 +153,11 @@ returns-clause-names g c told =
 -- ---- what a crash leaves
 
 pub returns-in_err-tip-clause-images : goal.returns-in_err-tip-clause-images
-returns-in_err-tip-clause-images g c told ops more sizes greatest least was sealed ends few at has =
+returns-in_err-tip-clause-images g c told ops more sizes greatest least was sealed ends few at rooted has =
     images_none g.H.Digest.Spelled.spelling (seen_log c.args.self.log).name (map (witness_of {F = g.row.F.Denot} g.F.Family.shape g.H.Hasher.hash g.O.Logged.meaning ops) sizes) _ greatest least (g.V.Volume.state c.args.vol.now) has
 
 pub returns-in_err-store-clause-images : goal.returns-in_err-store-clause-images
-returns-in_err-store-clause-images g c told ops more sizes greatest least was sealed ends few at has =
+returns-in_err-store-clause-images g c told ops more sizes greatest least was sealed ends few at rooted has =
     let s = g.F.Family.shape in
     let h = g.H.Hasher.hash in
     let m = g.O.Logged.meaning in
@@ -167,7 +168,8 @@ returns-in_err-store-clause-images g c told ops more sizes greatest least was se
     let made = grown_state s h m ops more c.args.commit c.in_ok-tip.tip c.in_ok-tip.merkle ends few at
     (subst (λ ds. IsRestored s h ds (m.encoding c.args.commit) (floor_of m (c.args.commit ∷ [])) (c.in_ok-tip.tip, c.in_ok-tip.merkle)) (sym whole)
     (c.in_ok-tip.ensures.list (leaves_from s h m 0 ops) (leaves_from s h m (0 + length ops) more) was2.list.tree_of
-    (subst (λ ds. IsSealedOf s h ds c.args.batch.now) whole sealed))) in
+    (subst (λ ds. IsSealedOf s h ds c.args.batch.now) whole sealed)
+    (root_under_last s h m (ops ++ more) c.args.commit _ c.args.root at whole rooted))) in
     let last = last_witness s h m g.met.F.Family.lawful (ops ++ more) c.in_ok-tip.tip c.in_ok-tip.merkle c.args.commit made in
     let ws : List (Witness g.row.F.Denot g.row.H-Digest.Denot) = map (witness_of s h m ops) sizes in
     subst (λ (d : DbView g.row.F.Denot g.row.H-Digest.Denot g.row.O.Denot g.row.O-Cfg.Denot). LogHas (g.V.Volume.state c.args.vol.now) (seen_log d.log).name (HasWitnesses g.H.Digest.Spelled.spelling ws greatest least)
@@ -176,7 +178,7 @@ returns-in_err-store-clause-images g c told ops more sizes greatest least was se
     (c.extended.ensures.images was2.opened told ws greatest least was2.witnesses.spelled left)) has
 
 pub returns-clause-images : goal.returns-clause-images
-returns-clause-images g c told ops more sizes greatest least was sealed ends few at has =
+returns-clause-images g c told ops more sizes greatest least was sealed ends few at rooted has =
     let s = g.F.Family.shape in
     let h = g.H.Hasher.hash in
     let m = g.O.Logged.meaning in
@@ -187,7 +189,8 @@ returns-clause-images g c told ops more sizes greatest least was sealed ends few
     let made = grown_state s h m ops more c.args.commit c.in_ok-tip.tip c.in_ok-tip.merkle ends few at
     (subst (λ ds. IsRestored s h ds (m.encoding c.args.commit) (floor_of m (c.args.commit ∷ [])) (c.in_ok-tip.tip, c.in_ok-tip.merkle)) (sym whole)
     (c.in_ok-tip.ensures.list (leaves_from s h m 0 ops) (leaves_from s h m (0 + length ops) more) was2.list.tree_of
-    (subst (λ ds. IsSealedOf s h ds c.args.batch.now) whole sealed))) in
+    (subst (λ ds. IsSealedOf s h ds c.args.batch.now) whole sealed)
+    (root_under_last s h m (ops ++ more) c.args.commit _ c.args.root at whole rooted))) in
     let last = last_witness s h m g.met.F.Family.lawful (ops ++ more) c.in_ok-tip.tip c.in_ok-tip.merkle c.args.commit made in
     let ws : List (Witness g.row.F.Denot g.row.H-Digest.Denot) = map (witness_of s h m ops) sizes in
     subst (λ (d : DbView g.row.F.Denot g.row.H-Digest.Denot g.row.O.Denot g.row.O-Cfg.Denot). LogHas (g.V.Volume.state c.args.vol.now) (seen_log d.log).name (HasWitnesses g.H.Digest.Spelled.spelling ws greatest least)
@@ -225,11 +228,11 @@ returns-clause-call g c told =
     )
 
 pub returns-in_err-tip-clause-restarts : goal.returns-in_err-tip-clause-restarts
-returns-in_err-tip-clause-restarts g c waiting told ops more was sealed ends few at =
+returns-in_err-tip-clause-restarts g c waiting told ops more was sealed ends few at rooted =
     restarts_none g.H.Digest.Spelled.spelling c.args.self.log _ (g.V.Volume.state c.args.vol.now)
 
 pub returns-in_err-store-clause-restarts : goal.returns-in_err-store-clause-restarts
-returns-in_err-store-clause-restarts g c waiting told ops more was sealed ends few at =
+returns-in_err-store-clause-restarts g c waiting told ops more was sealed ends few at rooted =
     let s = g.F.Family.shape in
     let h = g.H.Hasher.hash in
     let m = g.O.Logged.meaning in
@@ -241,7 +244,8 @@ returns-in_err-store-clause-restarts g c waiting told ops more was sealed ends f
     let made = grown_state s h m ops more c.args.commit c.in_ok-tip.tip c.in_ok-tip.merkle ends few at
     (subst (λ ds. IsRestored s h ds (m.encoding c.args.commit) (floor_of m (c.args.commit ∷ [])) (c.in_ok-tip.tip, c.in_ok-tip.merkle)) (sym whole)
     (c.in_ok-tip.ensures.list (leaves_from s h m 0 ops) (leaves_from s h m (0 + length ops) more) was2.tree_of
-    (subst (λ ds. IsSealedOf s h ds c.args.batch.now) whole sealed))) in
+    (subst (λ ds. IsSealedOf s h ds c.args.batch.now) whole sealed)
+    (root_under_last s h m (ops ++ more) c.args.commit _ c.args.root at whole rooted))) in
     let last = last_witness s h m g.met.F.Family.lawful (ops ++ more) c.in_ok-tip.tip c.in_ok-tip.merkle c.args.commit made in
     let call = subst (λ (d : DbView g.row.F.Denot g.row.H-Digest.Denot g.row.O.Denot g.row.O-Cfg.Denot). LogCall (seen_log d.log).name (Extends sp d.log c.in_ok-tip.tip.witness a) a b) c.self.view_is
     (c.extended.ensures.log told) in
@@ -249,7 +253,7 @@ returns-in_err-store-clause-restarts g c waiting told ops more was sealed ends f
     (subst (λ (w : Witness g.row.F.Denot g.row.H-Digest.Denot). LogCall (seen_log c.args.self.log).name (Extends sp c.args.self.log w a) a b) last call)
 
 pub returns-clause-restarts : goal.returns-clause-restarts
-returns-clause-restarts g c waiting told ops more was sealed ends few at =
+returns-clause-restarts g c waiting told ops more was sealed ends few at rooted =
     let s = g.F.Family.shape in
     let h = g.H.Hasher.hash in
     let m = g.O.Logged.meaning in
@@ -261,7 +265,8 @@ returns-clause-restarts g c waiting told ops more was sealed ends few at =
     let made = grown_state s h m ops more c.args.commit c.in_ok-tip.tip c.in_ok-tip.merkle ends few at
     (subst (λ ds. IsRestored s h ds (m.encoding c.args.commit) (floor_of m (c.args.commit ∷ [])) (c.in_ok-tip.tip, c.in_ok-tip.merkle)) (sym whole)
     (c.in_ok-tip.ensures.list (leaves_from s h m 0 ops) (leaves_from s h m (0 + length ops) more) was2.tree_of
-    (subst (λ ds. IsSealedOf s h ds c.args.batch.now) whole sealed))) in
+    (subst (λ ds. IsSealedOf s h ds c.args.batch.now) whole sealed)
+    (root_under_last s h m (ops ++ more) c.args.commit _ c.args.root at whole rooted))) in
     let last = last_witness s h m g.met.F.Family.lawful (ops ++ more) c.in_ok-tip.tip c.in_ok-tip.merkle c.args.commit made in
     let call = subst (λ (d : DbView g.row.F.Denot g.row.H-Digest.Denot g.row.O.Denot g.row.O-Cfg.Denot). LogCall (seen_log d.log).name (Extends sp d.log c.in_ok-tip.tip.witness a) a b) c.self.view_is
     (c.extended.ensures.log told) in
