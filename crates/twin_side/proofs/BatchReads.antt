@@ -20,7 +20,7 @@ use Rattle.keyless_db.specs.Reading.{IsChainFault, IsReadFault, last_past, locat
 use Rattle.command_text.specs.declared.command.Answer.{Answer}
 use Rattle.command_text.specs.declared.command.Answer.TheVariants as answer
 use Rattle.twin_side.specs.ReadRefusals.{unread_of, unread_or, batch_read}
-use Rattle.twin_side.specs.Unread.{IsUnreadBy}
+use Rattle.twin_side.specs.Unread.{IsReadRefusedBy}
 
 -- ---- refusals that bounds tell
 
@@ -136,15 +136,15 @@ module _ (unread : Refusal → Type 0) where
   so_err (Err e) so = λ why u. absurd (let never = (so why).1 u in cc)
 
 module _ (Here : Type 0) (fit : Option Refusal) where
-  stale_only : (Here → ⊥) → (why : Refusal) → IsUnreadBy Here fit why → refusal.StaleRead ≡ why
+  stale_only : (Here → ⊥) → (why : Refusal) → IsReadRefusedBy Here fit why → refusal.StaleRead ≡ why
   stale_only away why (inl at) = sym at.1
   stale_only away why (inr at) = absurd (away at.0)
 
-  unfit_only : Here → (r : Refusal) → fit ≡ Some r → (why : Refusal) → IsUnreadBy Here fit why → r ≡ why
+  unfit_only : Here → (r : Refusal) → fit ≡ Some r → (why : Refusal) → IsReadRefusedBy Here fit why → r ≡ why
   unfit_only here r is why (inl at) = absurd (at.0 here)
   unfit_only here r is why (inr at) = same_Some r why (sym is ∙ at.1)
 
-  never_unfit : Here → fit ≡ None → (why : Refusal) → IsUnreadBy Here fit why → ⊥
+  never_unfit : Here → fit ≡ None → (why : Refusal) → IsReadRefusedBy Here fit why → ⊥
   never_unfit here is why (inl at) = at.0 here
   never_unfit here is why (inr at) = none-some why (sym is ∙ at.1)
 
@@ -256,14 +256,14 @@ module _ {T : Type 0} (shown : T → Answer) where
     passed_known unread not (Ok x) errors why = (λ e. absurd (never x why (same_answer (shown x) why e)), λ u. absurd (not why u))
     passed_known unread not (Err e) none why = (λ at. absurd (let so = sym (passed_err e none) ∙ at in cc), λ u. absurd (not why u))
 
-    pub read_known : (r : Result T (Error Mmr)) (Here Same : Type 0) (fit : Option Refusal) → Ends r Here Same fit → RefusesSo (λ why. IsUnreadBy Here fit why) (batch_read shown r)
+    pub read_known : (r : Result T (Error Mmr)) (Here Same : Type 0) (fit : Option Refusal) → Ends r Here Same fit → RefusesSo (λ why. IsReadRefusedBy Here fit why) (batch_read shown r)
     read_known r Here Same fit (inl s) =
-        refuses_one (λ why. IsUnreadBy Here fit why) (batch_read shown r) refusal.StaleRead (read_err r db_error.StaleRead refusal.StaleRead s.is refl)
+        refuses_one (λ why. IsReadRefusedBy Here fit why) (batch_read shown r) refusal.StaleRead (read_err r db_error.StaleRead refusal.StaleRead s.is refl)
         (λ why e. inl (s.away, sym e)) (stale_only Here fit s.away)
     read_known r Here Same fit (inr (inl u)) =
-        refuses_one (λ why. IsUnreadBy Here fit why) (batch_read shown r) u.why (read_err r u.error u.why u.is u.told)
+        refuses_one (λ why. IsReadRefusedBy Here fit why) (batch_read shown r) u.why (read_err r u.error u.why u.is u.told)
         (λ why e. inr (u.here, u.unfit ∙ ap Some e)) (unfit_only Here fit u.here u.why u.unfit)
-    read_known r Here Same fit (inr (inr f)) = passed_known (λ why. IsUnreadBy Here fit why) (never_unfit Here fit f.here f.fits) r f.errors
+    read_known r Here Same fit (inr (inr f)) = passed_known (λ why. IsReadRefusedBy Here fit why) (never_unfit Here fit f.here f.fits) r f.errors
 
   -- ---- of a good state
 

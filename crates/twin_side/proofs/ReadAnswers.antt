@@ -50,7 +50,7 @@ use Rattle.twin_batches.proofs.Matching.{alive_where, parent_held, unsealed_ther
 use Rattle.twin_batches.proofs.Reaching.{item_some}
 use Rattle.twin_databases.specs.FullKind.{FullView, SealedView, UnsealedView, IsHeldIn, IsSealedBatchOf, IsUnsealedBatchOf, full_kind}
 use Rattle.twin_side.specs.ReadRefusals.{batch_read, kept_refusal, kept_refusals}
-use Rattle.twin_side.specs.Unread.{IsUnread, IsUnreadBy, IsUnreadAt, AreUnreadAt, ReadBounds, bounds_at, of_sealed, of_unsealed, read_bounds}
+use Rattle.twin_side.specs.Unread.{IsReadRefused, IsReadRefusedBy, IsReadRefusedAt, AreReadsRefusedAt, ReadBounds, bounds_at, of_sealed, of_unsealed, read_bounds}
 use Rattle.twin_side.proofs.BatchReads.{AnswersEach, Ends, Meets, RefusedFor, RefusesSo, chain_faults, chain_faults_at, ends, location_of, locations_of, read_answers, read_known, read_reads, read_refused}
 use Rattle.twin_side.proofs.FullReads.{Admits, admitted, held, parent_items, reads_sealed, reads_unsealed, size_here, stands_or_not, start_here}
 use Rattle.twin_side.proofs.KeptReads.{answers_err, answers_ok, answers_why, many_by_length, meets_many, meets_one}
@@ -90,7 +90,7 @@ module _ (tells : Type 0) (image : Image) (db : FullView) (n : Batches) where
 
     module _ {T : Type 0} (shown : T → Answer) (never : (x : T) (why : Refusal) → shown x ≡ answer.Refused why → ⊥) (old new : volume.State) (r : Result T (Error Mmr)) (Here Same : Type 0)
         (still : Same → new ≡ old) (fit : Option Refusal) (ended : Ends r Here Same fit) (reads : Reads tells Volume old new r) where
-      pub batch_is_read : ((g : IsGiven) → Meets shown r Here fit (target g.state)) → IsRead Same (λ why. IsUnreadBy Here fit why) old new (batch_read shown r)
+      pub batch_is_read : ((g : IsGiven) → Meets shown r Here fit (target g.state)) → IsRead Same (λ why. IsReadRefusedBy Here fit why) old new (batch_read shown r)
       batch_is_read good =
           let each = each_good (batch_read shown r) (read_answers shown (λ (g : IsGiven). target g.state) r Here Same fit good ended) in
           record {
@@ -307,22 +307,22 @@ module _ (db : FullView) (n : Batches) (b : ℕ) where
       by Gone e other = refl
 
   module _ (asked : ReadBounds → Option Refusal) where
-    abbrev IsUnreadHere : Refusal → Type 0
-    IsUnreadHere why = IsUnread db b asked (read_bounds db n b) why
+    abbrev IsReadRefusedHere : Refusal → Type 0
+    IsReadRefusedHere why = IsReadRefused db b asked (read_bounds db n b) why
 
     none_so : (why : Refusal) → (RefusedFor (NoBatch b) ≡ RefusedFor why) ↔ (why ≡ NoBatch b)
     none_so why = (λ e. let same : NoBatch b ≡ why = cc in sym same, λ e. ap RefusedFor (sym e))
 
-    pub no_batch : read_bounds db n b ≡ None → RefusesSo (λ why. IsUnreadHere why) (RefusedFor (NoBatch b))
-    no_batch none = subst (λ (o : Option ReadBounds). RefusesSo (λ why. IsUnread db b asked o why) (RefusedFor (NoBatch b))) (sym none) none_so
+    pub no_batch : read_bounds db n b ≡ None → RefusesSo (λ why. IsReadRefusedHere why) (RefusedFor (NoBatch b))
+    no_batch none = subst (λ (o : Option ReadBounds). RefusesSo (λ why. IsReadRefused db b asked o why) (RefusedFor (NoBatch b))) (sym none) none_so
 
     -- by the bounds of the batch that there is
     pub read_by : (tells : Type 0) (image : Image) (target : State Operation → Answer) (Same : Type 0) (old new : volume.State) (q : Result Answer (Error Mmr)) (r : ReadBounds) → read_bounds db n b ≡ Some r
-        → IsRead tells image db n target Same (λ why. IsUnreadBy (Contains r.states db.state) (asked r) why) old new q → IsRead tells image db n target Same (λ why. IsUnreadHere why) old new q
+        → IsRead tells image db n target Same (λ why. IsReadRefusedBy (Contains r.states db.state) (asked r) why) old new q → IsRead tells image db n target Same (λ why. IsReadRefusedHere why) old new q
     read_by tells image target Same old new q r there is = record {
       ok = is.ok;
       errors = is.errors;
-      known = subst (λ (o : Option ReadBounds). RefusesSo (λ why. IsUnread db b asked o why) q) (sym there) is.known;
+      known = subst (λ (o : Option ReadBounds). RefusesSo (λ why. IsReadRefused db b asked o why) q) (sym there) is.known;
       refused = is.refused;
       reads = is.reads;
     }
@@ -406,9 +406,9 @@ module _ (tells : Type 0) (old new : volume.State) (db : FullView) (n : Batches)
         → (tells → IsInChain x db → (ops list : List Operation) → IsHeldIn ops db (present old) → IsReadable (Admits db.journal.items.codec.max) ops (kept_item x.tree k) k → ops ≡ take (length ops) list → IsSealedBatchOf list x
         → AnswersAs shown (batch_answer meaning list x.bounds.inactivity_floor (kept_over x.tree.nodes.first db) k) r)
         → (IsInChain x db → location_refusal x.bounds.tip.size x.bounds.inactivity_floor k ≡ None → IfErr r (IsChainFault tells items db.state.size (kept_item x.tree k) k))
-        → Reads tells Volume old new r → IsRead tells (present old) db n (λ s. (step.batch_get s b l (batch_at s b)).0) Same (λ why. IsUnreadAt db n b l why) old new (batch_read (λ v. answer.Value (shown v)) r)
+        → Reads tells Volume old new r → IsRead tells (present old) db n (λ s. (step.batch_get s b l (batch_at s b)).0) Same (λ why. IsReadRefusedAt db n b l why) old new (batch_read (λ v. answer.Value (shown v)) r)
     sealed_value shown r k l same stale unfit answers fault reads =
-        subst (λ (m : ℕ). IsRead tells (present old) db n (λ s. (step.batch_get s b m (batch_at s b)).0) Same (λ why. IsUnreadAt db n b m why) old new (batch_read (λ v. answer.Value (shown v)) r)) same
+        subst (λ (m : ℕ). IsRead tells (present old) db n (λ s. (step.batch_get s b m (batch_at s b)).0) Same (λ why. IsReadRefusedAt db n b m why) old new (batch_read (λ v. answer.Value (shown v)) r)) same
         (read_by db n b (asked_at k) tells (present old) (λ s. (step.batch_get s b k (batch_at s b)).0) Same old new (batch_read (λ v. answer.Value (shown v)) r) (of_sealed x) (sealed_bounds db n b j x found item)
         (batch_is_read tells (present old) db n (λ s. (step.batch_get s b k (batch_at s b)).0) (λ v. answer.Value (shown v)) (λ v. never_value (shown v)) old new r (IsInChain x db) Same still
         (location_refusal x.bounds.tip.size x.bounds.inactivity_floor k)
@@ -421,9 +421,9 @@ module _ (tells : Type 0) (old new : volume.State) (db : FullView) (n : Batches)
         → (tells → IsInChain x db → (ops list : List Operation) → IsHeldIn ops db (present old) → AllByRecursion (λ k. IsReadable (Admits db.journal.items.codec.max) ops (kept_item x.tree k) k) ks → ops ≡ take (length ops) list
         → IsSealedBatchOf list x → AnswersAs shown (batch_many_answer meaning list x.bounds.inactivity_floor (kept_over x.tree.nodes.first db) ks) r)
         → (IsInChain x db → floored_refusal x.bounds.tip.size x.bounds.inactivity_floor ks ≡ None → IfErr r (λ e. (k : ℕ) × Contains ks k × IsChainFault tells items db.state.size (kept_item x.tree k) k e))
-        → Reads tells Volume old new r → IsRead tells (present old) db n (λ s. (step.batch_get_many s b ls (batch_at s b)).0) Same (λ why. AreUnreadAt db n b ls why) old new (batch_read (λ v. answer.Values (shown v)) r)
+        → Reads tells Volume old new r → IsRead tells (present old) db n (λ s. (step.batch_get_many s b ls (batch_at s b)).0) Same (λ why. AreReadsRefusedAt db n b ls why) old new (batch_read (λ v. answer.Values (shown v)) r)
     sealed_values shown r ks ls same stale unfit answers fault reads =
-        subst (λ (ms : List ℕ). IsRead tells (present old) db n (λ s. (step.batch_get_many s b ms (batch_at s b)).0) Same (λ why. AreUnreadAt db n b ms why) old new (batch_read (λ v. answer.Values (shown v)) r)) same
+        subst (λ (ms : List ℕ). IsRead tells (present old) db n (λ s. (step.batch_get_many s b ms (batch_at s b)).0) Same (λ why. AreReadsRefusedAt db n b ms why) old new (batch_read (λ v. answer.Values (shown v)) r)) same
         (read_by db n b (asked_for ks) tells (present old) (λ s. (step.batch_get_many s b ks (batch_at s b)).0) Same old new (batch_read (λ v. answer.Values (shown v)) r) (of_sealed x) (sealed_bounds db n b j x found item)
         (batch_is_read tells (present old) db n (λ s. (step.batch_get_many s b ks (batch_at s b)).0) (λ v. answer.Values (shown v)) (never_values shown) old new r (IsInChain x db) Same still
         (floored_refusal x.bounds.tip.size x.bounds.inactivity_floor ks)
@@ -449,9 +449,9 @@ module _ (tells : Type 0) (old new : volume.State) (db : FullView) (n : Batches)
         → (tells → HereOf → (ops list : List Operation) → IsHeldIn ops db (present old) → IsReadable (Admits db.journal.items.codec.max) ops (pending_item n.pool u k) k → ops ≡ take (length ops) list → IsUnsealedBatchOf list u
         → OfItsParent list → AnswersAs shown (batch_answer meaning (list ++ u.tree.items) FloorOf (kept_over (chain_start n.pool u) db) k) r)
         → (HereOf → location_refusal SizeOf FloorOf k ≡ None → IfErr r (IsChainFault tells items db.state.size (pending_item n.pool u k) k))
-        → Reads tells Volume old new r → IsRead tells (present old) db n (λ s. (step.batch_get s b l (batch_at s b)).0) Same (λ why. IsUnreadAt db n b l why) old new (batch_read (λ v. answer.Value (shown v)) r)
+        → Reads tells Volume old new r → IsRead tells (present old) db n (λ s. (step.batch_get s b l (batch_at s b)).0) Same (λ why. IsReadRefusedAt db n b l why) old new (batch_read (λ v. answer.Value (shown v)) r)
     unsealed_value shown r k l same stale unfit answers fault reads =
-        subst (λ (m : ℕ). IsRead tells (present old) db n (λ s. (step.batch_get s b m (batch_at s b)).0) Same (λ why. IsUnreadAt db n b m why) old new (batch_read (λ v. answer.Value (shown v)) r)) same
+        subst (λ (m : ℕ). IsRead tells (present old) db n (λ s. (step.batch_get s b m (batch_at s b)).0) Same (λ why. IsReadRefusedAt db n b m why) old new (batch_read (λ v. answer.Value (shown v)) r)) same
         (read_by db n b (asked_at k) tells (present old) (λ s. (step.batch_get s b k (batch_at s b)).0) Same old new (batch_read (λ v. answer.Value (shown v)) r) (of_unsealed db n.pool u) (unsealed_bounds db n b u entry)
         (batch_is_read tells (present old) db n (λ s. (step.batch_get s b k (batch_at s b)).0) (λ v. answer.Value (shown v)) (λ v. never_value (shown v)) old new r HereOf Same still (location_refusal SizeOf FloorOf k)
         (ends r HereOf Same (location_refusal SizeOf FloorOf k) (stands_or_not (read_states n.pool u) db.state) stale
@@ -463,9 +463,9 @@ module _ (tells : Type 0) (old new : volume.State) (db : FullView) (n : Batches)
         → (tells → HereOf → (ops list : List Operation) → IsHeldIn ops db (present old) → AllByRecursion (λ k. IsReadable (Admits db.journal.items.codec.max) ops (pending_item n.pool u k) k) ks → ops ≡ take (length ops) list
         → IsUnsealedBatchOf list u → OfItsParent list → AnswersAs shown (batch_many_answer meaning (list ++ u.tree.items) FloorOf (kept_over (chain_start n.pool u) db) ks) r)
         → (HereOf → floored_refusal SizeOf FloorOf ks ≡ None → IfErr r (λ e. (k : ℕ) × Contains ks k × IsChainFault tells items db.state.size (pending_item n.pool u k) k e))
-        → Reads tells Volume old new r → IsRead tells (present old) db n (λ s. (step.batch_get_many s b ls (batch_at s b)).0) Same (λ why. AreUnreadAt db n b ls why) old new (batch_read (λ v. answer.Values (shown v)) r)
+        → Reads tells Volume old new r → IsRead tells (present old) db n (λ s. (step.batch_get_many s b ls (batch_at s b)).0) Same (λ why. AreReadsRefusedAt db n b ls why) old new (batch_read (λ v. answer.Values (shown v)) r)
     unsealed_values shown r ks ls same stale unfit answers fault reads =
-        subst (λ (ms : List ℕ). IsRead tells (present old) db n (λ s. (step.batch_get_many s b ms (batch_at s b)).0) Same (λ why. AreUnreadAt db n b ms why) old new (batch_read (λ v. answer.Values (shown v)) r)) same
+        subst (λ (ms : List ℕ). IsRead tells (present old) db n (λ s. (step.batch_get_many s b ms (batch_at s b)).0) Same (λ why. AreReadsRefusedAt db n b ms why) old new (batch_read (λ v. answer.Values (shown v)) r)) same
         (read_by db n b (asked_for ks) tells (present old) (λ s. (step.batch_get_many s b ks (batch_at s b)).0) Same old new (batch_read (λ v. answer.Values (shown v)) r) (of_unsealed db n.pool u) (unsealed_bounds db n b u entry)
         (batch_is_read tells (present old) db n (λ s. (step.batch_get_many s b ks (batch_at s b)).0) (λ v. answer.Values (shown v)) (never_values shown) old new r HereOf Same still (floored_refusal SizeOf FloorOf ks)
         (ends r HereOf Same (floored_refusal SizeOf FloorOf ks) (stands_or_not (read_states n.pool u) db.state) stale

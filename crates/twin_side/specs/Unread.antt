@@ -48,18 +48,18 @@ abbrev pub read_bounds : FullView → Numbers SealedView UnsealedView → ℕ �
 read_bounds db n b = bounds_at db n.pool (slice_index_or n.batches.items b Gone)
 
 -- It isn't read here, or what is asked for is refused for this reason.
-abbrev pub IsUnreadBy : (Here : Type 0) → (asked : Option Refusal) → Refusal → Type 0
-IsUnreadBy Here asked why = ((Here → ⊥) × (why ≡ StaleRead)) ⊎ (Here × (asked ≡ Some why))
+abbrev pub IsReadRefusedBy : (Here : Type 0) → (asked : Option Refusal) → Refusal → Type 0
+IsReadRefusedBy Here asked why = ((Here → ⊥) × (why ≡ StaleRead)) ⊎ (Here × (asked ≡ Some why))
 
 -- A read of batch b is refused for this reason: there is no such batch, the log stands at no state at which it is read,
 -- or its bounds refuse what is asked for.
-abbrev pub IsUnread : FullView → ℕ → (ReadBounds → Option Refusal) → Option ReadBounds → Refusal → Type 0
-IsUnread db b asked None why = why ≡ NoBatch b
-IsUnread db b asked (Some r) why = IsUnreadBy (Contains r.states db.state) (asked r) why
+abbrev pub IsReadRefused : FullView → ℕ → (ReadBounds → Option Refusal) → Option ReadBounds → Refusal → Type 0
+IsReadRefused db b asked None why = why ≡ NoBatch b
+IsReadRefused db b asked (Some r) why = IsReadRefusedBy (Contains r.states db.state) (asked r) why
 
 -- So it is at one location, and at several.
-abbrev pub IsUnreadAt : FullView → Numbers SealedView UnsealedView → (b l : ℕ) → Refusal → Type 0
-IsUnreadAt db n b l why = IsUnread db b (λ r. location_refusal r.size r.floor l) (read_bounds db n b) why
+abbrev pub IsReadRefusedAt : FullView → Numbers SealedView UnsealedView → (b l : ℕ) → Refusal → Type 0
+IsReadRefusedAt db n b l why = IsReadRefused db b (λ r. location_refusal r.size r.floor l) (read_bounds db n b) why
 
-abbrev pub AreUnreadAt : FullView → Numbers SealedView UnsealedView → (b : ℕ) → (ls : List ℕ) → Refusal → Type 0
-AreUnreadAt db n b ls why = IsUnread db b (λ r. floored_refusal r.size r.floor ls) (read_bounds db n b) why
+abbrev pub AreReadsRefusedAt : FullView → Numbers SealedView UnsealedView → (b : ℕ) → (ls : List ℕ) → Refusal → Type 0
+AreReadsRefusedAt db n b ls why = IsReadRefused db b (λ r. floored_refusal r.size r.floor ls) (read_bounds db n b) why

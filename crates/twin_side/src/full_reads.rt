@@ -13,7 +13,7 @@ ghost use Rattle.list_machine.specs.Told.{IsTold};
 ghost use Rattle.twin_batches.specs.StateOf.{IsShaped, StandsGood};
 ghost use Rattle.twin_databases.specs.FullKind.{full_kind};
 ghost use Rattle.twin_side.specs.ReadRefusals.{batch_read, kept_refusal, kept_refusals};
-ghost use Rattle.twin_side.specs.Unread.{IsUnreadAt, AreUnreadAt};
+ghost use Rattle.twin_side.specs.Unread.{IsReadRefusedAt, AreReadsRefusedAt};
 
 use crate::read_refusals::{in_tree, location_refusal, locations_refusal, unread};
 use crate::side::Side;
@@ -123,7 +123,7 @@ impl Side<Full> {
             StandsGood full_kind c (present (V.state volume.old)) self.now.db self.now.numbers s → IsOutside e) }
         // Over any contents it refuses exactly what memory tells.
         ensures known { (why : Refusal) → (result ≡ Ok (answer.Refused why))
-            ↔ IsUnreadAt self.now.db self.now.numbers b location why }
+            ↔ IsReadRefusedAt self.now.db self.now.numbers b location why }
         ensures refused { IfOk result (λ a. (why : Refusal) → a ≡ answer.Refused why → volume.new ≡ volume.old) }
         ensures reads { Reads V.tells Error.Volume (V.state volume.old) (V.state volume.new) result }
     {
@@ -158,9 +158,9 @@ impl Side<Full> {
             StandsGood full_kind c (present (V.state volume.old)) self.now.db self.now.numbers s → IsOutside e) }
         // Over any contents it refuses exactly what memory tells; or it fails there for want of memory.
         ensures known { IfOk result (λ a. (why : Refusal) → (a ≡ answer.Refused why)
-            ↔ AreUnreadAt self.now.db self.now.numbers b locations.now why) }
+            ↔ AreReadsRefusedAt self.now.db self.now.numbers b locations.now why) }
         ensures lacking { IfErr result (λ e. (why : Refusal) →
-            AreUnreadAt self.now.db self.now.numbers b locations.now why → e ≡ Error.Memory) }
+            AreReadsRefusedAt self.now.db self.now.numbers b locations.now why → e ≡ Error.Memory) }
         ensures refused { IfOk result (λ a. (why : Refusal) → a ≡ answer.Refused why → volume.new ≡ volume.old) }
         ensures reads { Reads V.tells Error.Volume (V.state volume.old) (V.state volume.new) result }
     {

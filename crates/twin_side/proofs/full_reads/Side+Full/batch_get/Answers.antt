@@ -10,7 +10,7 @@ use Rattle.command_text.specs.declared.command.Answer.{Answer}
 use Rattle.list_machine.specs.Operation.{Operation, meaning}
 use Rattle.list_machine.specs.Step.{batch_get}
 use Rattle.twin_batches.proofs.Matching.{read_at}
-use Rattle.twin_side.specs.Unread.{IsUnreadAt}
+use Rattle.twin_side.specs.Unread.{IsReadRefusedAt}
 use Rattle.twin_side.proofs.FullReads.{Admits}
 use Rattle.twin_side.proofs.ReadAnswers.{IsRead, asked_at, held_lives, no_batch, other_bounds, other_one, parent_alive, past_bounds, past_one, reads_nothing, sealed_value, unsealed_value}
 use Rattle.twin_side.proofs.full_reads.Side+Full.batch_get.Goals as goal
@@ -30,7 +30,7 @@ returns-in-Some g c =
     sealed_value g.V.Volume.tells old new db n b (c.get.new.vol ≡ c.args.volume.now) (λ same. ap g.V.Volume.state same) (items_of meaning.encoding (λ (cfg : LengthCfg) (op : Operation). Admits cfg.max op) db.journal.items old)
     c.in-Some.held c.item-batch.result.now (sym c.in-Some.ensures.held) c.item-batch.ensures (λ v. v) c.get.result c.new-place.result c.args.location c.new-place.ensures said.stale said.unfit said.answer said.fault said.reads in
     let is =
-    subst (λ (q : Result Answer (Error Mmr)). IsRead g.V.Volume.tells (present old) db n (λ (s : State Operation). (batch_get s b c.args.location (batch_at s b)).0) (c.get.new.vol ≡ c.args.volume.now) (λ why. IsUnreadAt db n b c.args.location why) old new q)
+    subst (λ (q : Result Answer (Error Mmr)). IsRead g.V.Volume.tells (present old) db n (λ (s : State Operation). (batch_get s b c.args.location (batch_at s b)).0) (c.get.new.vol ≡ c.args.volume.now) (λ why. IsReadRefusedAt db n b c.args.location why) old new q)
     (sym c.value_answer.ensures) read in
     record { ok = is.ok; errors = is.errors; known = is.known; refused = is.refused; reads = is.reads }
 
@@ -77,6 +77,6 @@ returns g c =
     unsealed_value g.V.Volume.tells old new db n b (c.get-2.new.vol ≡ c.args.volume.now) (λ same. ap g.V.Volume.state same) (items_of meaning.encoding (λ (cfg : LengthCfg) (op : Operation). Admits cfg.max op) db.journal.items old)
     c.in-Unsealed.batch e (λ v. v) c.get-2.result c.new-place.result c.args.location c.new-place.ensures said.stale said.unfit said.answer said.fault said.reads in
     let is =
-    subst (λ (q : Result Answer (Error Mmr)). IsRead g.V.Volume.tells (present old) db n (λ (s : State Operation). (batch_get s b c.args.location (batch_at s b)).0) (c.get-2.new.vol ≡ c.args.volume.now) (λ why. IsUnreadAt db n b c.args.location why) old new q)
+    subst (λ (q : Result Answer (Error Mmr)). IsRead g.V.Volume.tells (present old) db n (λ (s : State Operation). (batch_get s b c.args.location (batch_at s b)).0) (c.get-2.new.vol ≡ c.args.volume.now) (λ why. IsReadRefusedAt db n b c.args.location why) old new q)
     (sym c.value_answer-2.ensures) read in
     record { ok = is.ok; errors = is.errors; known = is.known; refused = is.refused; reads = is.reads }

@@ -11,7 +11,7 @@ use Rattle.command_text.specs.declared.command.Answer.{Answer}
 use Rattle.list_machine.specs.Operation.{Operation, meaning}
 use Rattle.list_machine.specs.Step.{batch_get_many}
 use Rattle.twin_batches.proofs.Matching.{read_at}
-use Rattle.twin_side.specs.Unread.{AreUnreadAt}
+use Rattle.twin_side.specs.Unread.{AreReadsRefusedAt}
 use Rattle.twin_side.proofs.BatchReads.{RefusedFor, so_err, so_ok}
 use Rattle.twin_side.proofs.FullReads.{Admits}
 use Rattle.twin_side.proofs.ReadAnswers.{IsRead, asked_for, held_lives, no_batch, other_bounds, other_many, parent_alive, past_bounds, past_many, reads_nothing, sealed_values, unsealed_values}
@@ -32,13 +32,13 @@ returns-in-Some g c =
     sealed_values g.V.Volume.tells old new db n b (c.get_many.new.vol ≡ c.args.volume.now) (λ same. ap g.V.Volume.state same) (items_of meaning.encoding (λ (cfg : LengthCfg) (op : Operation). Admits cfg.max op) db.journal.items old)
     c.in-Some.held c.item-batch.result.now (sym c.in-Some.ensures.held) c.item-batch.ensures (λ v. v.items) c.get_many.result c.deref.result.now c.args.locations.now (c.deref.ensures.value ∙ c.in_ok-places.ensures.same ∙ c.as_slice.ensures) said.stale said.unfit said.answer said.fault said.reads in
     let is =
-    subst (λ (q : Result Answer (Error Mmr)). IsRead g.V.Volume.tells (present old) db n (λ (s : State Operation). (batch_get_many s b c.args.locations.now (batch_at s b)).0) (c.get_many.new.vol ≡ c.args.volume.now) (λ why. AreUnreadAt db n b c.args.locations.now why) old new q)
+    subst (λ (q : Result Answer (Error Mmr)). IsRead g.V.Volume.tells (present old) db n (λ (s : State Operation). (batch_get_many s b c.args.locations.now (batch_at s b)).0) (c.get_many.new.vol ≡ c.args.volume.now) (λ why. AreReadsRefusedAt db n b c.args.locations.now why) old new q)
     (sym c.values_answer.ensures) read in
     record {
       ok = is.ok;
       errors = is.errors;
-      known = so_ok (λ why. AreUnreadAt db n b c.args.locations.now why) c.values_answer.result is.known;
-      lacking = so_err (λ why. AreUnreadAt db n b c.args.locations.now why) c.values_answer.result is.known;
+      known = so_ok (λ why. AreReadsRefusedAt db n b c.args.locations.now why) c.values_answer.result is.known;
+      lacking = so_err (λ why. AreReadsRefusedAt db n b c.args.locations.now why) c.values_answer.result is.known;
       refused = is.refused;
       reads = is.reads;
     }
@@ -49,7 +49,7 @@ returns-then-b-len g c =
     record {
       ok = past_many g.V.Volume.tells (present (g.V.Volume.state c.args.volume.now)) c.args.self.now.db n c.args.b c.args.locations.now (omega arith);
       errors = tt;
-      known = so_ok (λ why. AreUnreadAt c.args.self.now.db n c.args.b c.args.locations.now why) (RefusedFor (NoBatch c.args.b))
+      known = so_ok (λ why. AreReadsRefusedAt c.args.self.now.db n c.args.b c.args.locations.now why) (RefusedFor (NoBatch c.args.b))
           (no_batch c.args.self.now.db n c.args.b (asked_for c.args.locations.now) (past_bounds c.args.self.now.db n c.args.b (omega arith)));
       lacking = tt;
       refused = λ why is. refl;
@@ -63,7 +63,7 @@ returns-in_default-index g c =
     record {
       ok = other_many g.V.Volume.tells (present (g.V.Volume.state c.args.volume.now)) c.args.self.now.db n c.args.b (sym c.in_default.ensures.held) (λ u at. c.in_default-index.not-Unsealed u (sym e ∙ at)) c.args.locations.now;
       errors = tt;
-      known = so_ok (λ why. AreUnreadAt c.args.self.now.db n c.args.b c.args.locations.now why) (RefusedFor (NoBatch c.args.b))
+      known = so_ok (λ why. AreReadsRefusedAt c.args.self.now.db n c.args.b c.args.locations.now why) (RefusedFor (NoBatch c.args.b))
           (no_batch c.args.self.now.db n c.args.b (asked_for c.args.locations.now)
           (other_bounds c.args.self.now.db n c.args.b (sym c.in_default.ensures.held) (λ u at. c.in_default-index.not-Unsealed u (sym e ∙ at))));
       lacking = tt;
@@ -90,13 +90,13 @@ returns g c =
     unsealed_values g.V.Volume.tells old new db n b (c.get_many-2.new.vol ≡ c.args.volume.now) (λ same. ap g.V.Volume.state same) (items_of meaning.encoding (λ (cfg : LengthCfg) (op : Operation). Admits cfg.max op) db.journal.items old)
     c.in-Unsealed.batch e (λ v. v.items) c.get_many-2.result c.deref-2.result.now c.args.locations.now (c.deref-2.ensures.value ∙ c.in_ok-places.ensures.same ∙ c.as_slice.ensures) said.stale said.unfit said.answer said.fault said.reads in
     let is =
-    subst (λ (q : Result Answer (Error Mmr)). IsRead g.V.Volume.tells (present old) db n (λ (s : State Operation). (batch_get_many s b c.args.locations.now (batch_at s b)).0) (c.get_many-2.new.vol ≡ c.args.volume.now) (λ why. AreUnreadAt db n b c.args.locations.now why) old new q)
+    subst (λ (q : Result Answer (Error Mmr)). IsRead g.V.Volume.tells (present old) db n (λ (s : State Operation). (batch_get_many s b c.args.locations.now (batch_at s b)).0) (c.get_many-2.new.vol ≡ c.args.volume.now) (λ why. AreReadsRefusedAt db n b c.args.locations.now why) old new q)
     (sym c.values_answer-2.ensures) read in
     record {
       ok = is.ok;
       errors = is.errors;
-      known = so_ok (λ why. AreUnreadAt db n b c.args.locations.now why) c.values_answer-2.result is.known;
-      lacking = so_err (λ why. AreUnreadAt db n b c.args.locations.now why) c.values_answer-2.result is.known;
+      known = so_ok (λ why. AreReadsRefusedAt db n b c.args.locations.now why) c.values_answer-2.result is.known;
+      lacking = so_err (λ why. AreReadsRefusedAt db n b c.args.locations.now why) c.values_answer-2.result is.known;
       refused = is.refused;
       reads = is.reads;
     }
