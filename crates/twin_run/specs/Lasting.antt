@@ -16,14 +16,14 @@ pub record IsAllLasting (config : Config) (v : volume.State) : Type 0 where
   pub logs : IsLasting config v
   pub nodes : OnlyLeft (v.log_left v.clock config.nodes) (v.log config.nodes)
 
--- What a command makes durable outlasts a crash now.
+-- What a commit or a sync makes durable outlasts a crash now. Of other commands nothing is said.
 abbrev pub LastsAfter : Config → volume.State → Command → Type 0
 LastsAfter config v command.Commit = IsLasting config v
 LastsAfter config v command.Sync = IsAllLasting config v
 LastsAfter config v command.StartSync = IsAllLasting config v
 LastsAfter config v _ = Unit {0}
 
--- What the last of these does; and of none, what the opening has made durable, which is all.
+-- So it is behind the last of these; and of none, behind the opening, which makes all durable.
 abbrev pub LastsBehind : Config → volume.State → List Command → Type 0
 LastsBehind config v [] = IsAllLasting config v
 LastsBehind config v (c ∷ []) = LastsAfter config v c
