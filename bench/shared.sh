@@ -56,3 +56,17 @@ beside() {
             'BEGIN { printf "%s: %.2f us each, %s %.2f us, ratio %.2f; to that of the fewest %.2f\n", c, o, h, b, o / b, o / f }'
     done
 }
+
+# The instructions of a run, as valgrind counts them.
+instructions() {
+    valgrind --tool=callgrind --callgrind-out-file=/dev/null "$@" 2>&1 >/dev/null | awk '/Collected/ { print $4 }'
+}
+
+# A line for this number behind the first five words of `beside`: the instructions of all, beside those of how it does alone, which
+# no other work on the machine changes. None where valgrind isn't there.
+counted_beside() {
+    command -v valgrind >/dev/null 2>&1 || { echo 'skipped: no valgrind, so no instructions are counted' >&2; return 0; }
+    one=$(($(instructions "$program" ${3:+"$3"} "$6") - $(instructions "$program" ${3:+"$3"} 0)))
+    bare=$(($(instructions "$program" "$5" "$6") - $(instructions "$program" "$5" 0)))
+    awk -v c="$6 $2" -v o="$one" -v h="$4" -v b="$bare" 'BEGIN { printf "%s: %.3f times the instructions of %s\n", c, o / b, h }'
+}

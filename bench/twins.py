@@ -5,9 +5,12 @@ Times are medians of several runs, each on a folder that isn't there. What the s
 blocks of SHA-256 by bench_keyless: for each operation a leaf, its nodes, and at each seal the folds and the root, in both databases.
 The peak memory of a child can't be told where it is below this program's own, from which the child is made; then that is shown as a
 bound. A seal that copied the operations of its ancestors would show in the memory of a chain that isn't applied: the same bytes in
-more batches would take more.
+more batches would take more. A plain program in Python beside, bench/plain.py, keeps the same log: once with hash calls, once its
+writes and syncs alone.
 """
+import filecmp
 import os
+import re
 import resource
 import shutil
 import statistics
@@ -23,6 +26,7 @@ from trees import Mmr  # noqa: E402
 
 RUNS, NUMBER, COUNTS = 3, 7, (100, 1000, 10000)
 TMPFS = "/dev/shm"
+PLAIN = os.path.join(os.path.dirname(os.path.abspath(__file__)), "plain.py")
 HEAD, PART = 8, 4               # bytes before the items of a log's file, and before each item
 PIN, BOUNDARY = 9 + 32 + 2 * PART, 9 + 8 + 2 * PART
 
@@ -69,6 +73,24 @@ def seconds_a_block(hashes):
     return (Measured([hashes, "hashes", str(batches)]).used - Measured([hashes, "hashes", "0"]).used) / blocks
 
 
+def instructions(command):
+    """How many a run takes, as valgrind counts them."""
+    counted = ["valgrind", "--tool=callgrind", "--callgrind-out-file=/dev/null", *command]
+    done = subprocess.run(counted, stdin=subprocess.DEVNULL, capture_output=True, text=True, check=True)
+    return int(re.search(r"Collected : (\d+)", done.stderr)[1])
+
+
+def count_instructions(program, hashes, scratch, count):
+    """The line on the instructions of generated rounds beside those of their hash calls, which no other work on the machine changes."""
+    def of(rounds):
+        return instructions([program, f"{scratch}/{rounds}", "--gen", str(NUMBER), str(rounds)])
+
+    sizes = [1 + 5 * (batch + 1) for batch in range(1000)]
+    block = (instructions([hashes, "hashes", "1000"]) - instructions([hashes, "hashes", "0"])) / blocks_of(sizes)
+    ratio = (of(count) - of(0)) / (2 * blocks_of(Rounds(count).sizes) * block)
+    print(f"{count} rounds: {ratio:.3f} times the instructions of the hash calls")
+
+
 # ---- what is generated, and the bytes that its files need
 
 class Rounds:
@@ -106,20 +128,42 @@ def bytes_in(folder):
     return sum(entry.stat().st_size for entry in os.scandir(folder))
 
 
+def beside(count, there, first):
+    """The seconds of a plain program in Python that keeps the same log, without those of its start, and those of its writes and syncs
+    alone. Its files must be the program's, which stand in the folder `there`."""
+    folder = there + "-plain"
+
+    def took(rounds):
+        return Measured([sys.executable, PLAIN, folder, str(NUMBER), str(rounds)], folder=folder).seconds
+
+    plain = took(count) - first
+    if filecmp.cmpfiles(there, folder, os.listdir(there), shallow=False)[0] != os.listdir(there):
+        sys.exit(f"the files of {count} rounds aren't those of the plain program")
+    writes = []
+    for _ in range(RUNS):
+        shutil.rmtree(folder)
+        done = subprocess.run([sys.executable, PLAIN, folder, str(NUMBER), str(count), "writes"], capture_output=True, check=True)
+        writes.append(float(done.stdout))
+    return plain, statistics.median(writes)
+
+
 def measure_rounds(program, place, block, start):
     """The lines on generated rounds in a folder in this place."""
     title, folder, first = ("tmpfs" if place == TMPFS else "disk"), tempfile.mkdtemp(dir=place) + "/folder", None
+    empty = Measured([sys.executable, PLAIN, folder, str(NUMBER), "0"], folder=folder).seconds
     for count in COUNTS:
         rounds = Rounds(count)
         ours = Measured([program, folder, "--gen", str(NUMBER), str(count)], folder=folder)
         there, hashed = bytes_in(folder), 2 * blocks_of(rounds.sizes) * block
+        plain, writes = beside(count, folder, empty)
         again = Measured([program, folder])
         each = (ours.seconds - start.seconds) / count
         first = first or each
         print(f"{count} rounds on {title}, size {rounds.sizes[-1]}: {ours.seconds * 1000:.0f} ms, {each * 1000000:.0f} us a round, "
               f"{each / first:.2f} times that of the fewest; "
               f"of the processor {(ours.used - start.used) / hashed:.2f} times the hash calls; {ours.memory()}; {there} bytes on disk, {there / rounds.floor():.3f} times the least that the format asks for; "
-              f"opened again in {again.seconds * 1000:.0f} ms")
+              f"opened again in {again.seconds * 1000:.0f} ms; {(ours.seconds - start.seconds) / plain:.3f} times a plain program in Python; "
+              f"{(ours.seconds - start.seconds) / writes:.2f} times the same writes and syncs alone")
     shutil.rmtree(os.path.dirname(folder))
 
 
@@ -168,6 +212,8 @@ def main(program, hashes, disk):
         for place in dict.fromkeys([memory, disk]):
             measure_rounds(program, place, block, start)
         measure_inputs(program, scratch, block, start)
+        if shutil.which("valgrind"):
+            count_instructions(program, hashes, scratch, 1000)
 
 
 if __name__ == "__main__":

@@ -1,0 +1,176 @@
+#!/usr/bin/env python3
+"""Keeps the log of generated rounds in a folder, plainly: the files that the program twins leaves, byte for byte, by hashlib's SHA-256.
+
+    plain.py FOLDER NUMBER COUNT            prints the four lines that the program does
+    plain.py FOLDER NUMBER COUNT writes     makes the same writes and syncs alone, which were computed before, and prints their seconds
+
+It proves nothing, verifies nothing, and keeps one tree where the program keeps those of two databases. The folder must not be there.
+"""
+import os
+import sys
+import time
+
+sys.path.insert(0, os.path.join(os.path.dirname(os.path.abspath(__file__)), "..", "tools"))
+from expected import generated  # noqa: E402
+from machine import append, bytes_of, commit, inactive_peaks, varint  # noqa: E402
+from trees import Grown, Mmr, number, peaks  # noqa: E402
+
+BLOBS = {"log": 64, "nodes": 128, "witness": 64}
+FLAGS = os.O_RDWR | os.O_CREAT | os.O_APPEND
+
+
+def part(text):
+    return len(text).to_bytes(4, "big") + text
+
+
+class Folder:
+    """A folder that is made here, and the open files in it."""
+
+    def __init__(self, path):
+        os.mkdir(path)
+        self.path, self.files = path, {"": os.open(path, os.O_RDONLY)}
+        above = os.open(os.path.dirname(os.path.abspath(path)), os.O_RDONLY)
+        os.fsync(above)
+        os.close(above)
+
+    def write(self, name, data):
+        if name not in self.files:
+            self.files[name] = os.open(f"{self.path}/{name}", FLAGS, 0o644)
+        os.write(self.files[name], data)
+
+    def sync(self, name):
+        os.fsync(self.files[name])
+
+    def replace(self, name, data):
+        """Puts a file with these bytes in the place of the one of this name, durably."""
+        path = f"{self.path}/{name}"
+        made = os.open(path + ".new", FLAGS, 0o644)
+        os.write(made, data)
+        os.fsync(made)
+        os.rename(path + ".new", path)
+        if name in self.files:
+            os.close(self.files[name])
+        self.files[name] = made
+        self.sync("")
+
+
+class Recorded:
+    """The calls that would be made of a folder."""
+
+    def __init__(self):
+        self.calls = []
+
+    def write(self, *given):
+        self.calls.append((Folder.write, given))
+
+    def sync(self, *given):
+        self.calls.append((Folder.sync, given))
+
+    def replace(self, *given):
+        self.calls.append((Folder.replace, given))
+
+    def seconds(self, path):
+        """How long they take."""
+        before = time.perf_counter()
+        folder = Folder(path)
+        for call, given in self.calls:
+            call(folder, *given)
+        return time.perf_counter() - before
+
+
+class Log:
+    """A log in a file: its start, and behind it its items, each behind its length."""
+
+    def __init__(self, folder, name):
+        self.folder, self.file, self.blob, self.start, self.items = folder, name + ".log", BLOBS[name], 0, []
+        folder.write(self.file, number(0))
+
+    def extend(self, items):
+        self.items += items
+        self.folder.write(self.file, b"".join(map(part, items)))
+
+    def sync(self):
+        self.folder.sync(self.file)
+
+    def prune(self, least):
+        """Drops the whole blobs below a position."""
+        start = least // self.blob * self.blob
+        if start > self.start:
+            del self.items[:start - self.start]
+            self.start = start
+            self.folder.replace(self.file, number(start) + b"".join(map(part, self.items)))
+
+
+class Plain:
+    """The log, its tree, and a witness of each applied size."""
+
+    def __init__(self, folder):
+        self.folder, self.tree, self.size, self.sizes, self.written, self.pairs = folder, Grown(), 0, [], 0, {}
+        self.log, self.nodes, self.witnesses = (Log(folder, name) for name in BLOBS)
+        self.root = self.applied([commit(None, 0)], 0)
+        self.sync()
+        folder.sync("")
+
+    def pins(self, leaves):
+        return [(Mmr.position(*peak), self.tree.nodes[Mmr.position(*peak)]) for peak in peaks(Mmr, leaves)]
+
+    def applied(self, operations, floor):
+        """Adds operations, the last of which is a commit; the root behind them."""
+        texts = [operation.text for operation in operations]
+        for text in texts:
+            self.tree.append(text)
+        self.size += len(texts)
+        self.sizes.append(self.size)
+        self.log.extend(texts)
+        pins = [one for _, one in self.pins(self.size - 1)]
+        self.witnesses.extend([varint(len(texts[-1])) + texts[-1] + varint(self.size) + varint(len(pins)) + b"".join(pins)])
+        return self.tree.root(self.size, inactive_peaks(self.size, floor))
+
+    def commit(self):
+        self.log.sync()
+        if self.written < len(self.tree.nodes):
+            self.nodes.extend(self.tree.nodes[self.written:])
+            self.written = len(self.tree.nodes)
+        self.witnesses.sync()
+
+    def sync(self):
+        self.commit()
+        self.nodes.sync()
+
+    def prune(self, location):
+        """Makes all durable, and drops what stands below this location, as far as whole blobs do."""
+        self.sync()
+        self.log.prune(location)
+        self.pairs.update((b"\0" + number(position), one) for position, one in self.pins(self.log.start))
+        self.pairs[b"\1" + bytes(8)] = number(self.log.start)
+        self.folder.replace("metadata.map", b"".join(part(key) + part(self.pairs[key]) for key in sorted(self.pairs)))
+        self.nodes.prune(Mmr.size(self.log.start))
+        self.witnesses.prune(next(i for i, size in enumerate(self.sizes) if size >= location))
+
+    def run(self, seed, count):
+        operations = []
+        for line in generated(seed, count):
+            name, *words = line.split(" ")
+            if name == "append":
+                operations.append(append(bytes_of(words[1])))
+            elif name == "seal":
+                self.root = self.applied(operations + [commit(None, int(words[2]))], int(words[2]))
+                operations = []
+            elif name == "commit":
+                self.commit()
+            elif name == "prune":
+                self.prune(int(words[0]))
+
+
+def main(path, seed, count, *alone):
+    folder = Recorded() if alone else Folder(path)
+    plain = Plain(folder)
+    plain.run(int(seed), int(count))
+    if alone:
+        print(folder.seconds(path))
+    else:
+        print(f"rounds {count}\nsize {plain.size}\nrefused 0\nroot {plain.root.hex()}")
+
+
+if __name__ == "__main__":
+    main(*sys.argv[1:])
