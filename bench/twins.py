@@ -137,6 +137,8 @@ def beside(count, there, first):
         return Measured([sys.executable, PLAIN, folder, str(NUMBER), str(rounds)], folder=folder).seconds
 
     plain = took(count) - first
+    if plain <= 0:
+        plain = None            # the start takes longer at times than all the rest
     if filecmp.cmpfiles(there, folder, os.listdir(there), shallow=False)[0] != os.listdir(there):
         sys.exit(f"the files of {count} rounds aren't those of the plain program")
     writes = []
@@ -159,11 +161,11 @@ def measure_rounds(program, place, block, start):
         again = Measured([program, folder])
         each = (ours.seconds - start.seconds) / count
         first = first or each
+        python = f"{(ours.seconds - start.seconds) / plain:.3f} times a plain program in Python; " if plain else ""
         print(f"{count} rounds on {title}, size {rounds.sizes[-1]}: {ours.seconds * 1000:.0f} ms, {each * 1000000:.0f} us a round, "
               f"{each / first:.2f} times that of the fewest; "
               f"of the processor {(ours.used - start.used) / hashed:.2f} times the hash calls; {ours.memory()}; {there} bytes on disk, {there / rounds.floor():.3f} times the least that the format asks for; "
-              f"opened again in {again.seconds * 1000:.0f} ms; {(ours.seconds - start.seconds) / plain:.3f} times a plain program in Python; "
-              f"{(ours.seconds - start.seconds) / writes:.2f} times the same writes and syncs alone")
+              f"opened again in {again.seconds * 1000:.0f} ms; {python}{(ours.seconds - start.seconds) / writes:.2f} times the same writes and syncs alone")
     shutil.rmtree(os.path.dirname(folder))
 
 
