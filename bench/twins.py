@@ -66,11 +66,15 @@ def blocks_of(sizes):
     return sizes[-1] + 2 * nodes + 2 * folds + len(sizes)
 
 
-def seconds_a_block(hashes):
-    """The processor's time of a block by the program of hash calls: those of batches of four values on the first commit."""
-    batches = 20000
+def a_block(hashes, batches, measured):
+    """What a block takes by the program of hash calls: those of so many batches of four values on the first commit."""
     blocks = blocks_of([1 + 5 * (batch + 1) for batch in range(batches)])
-    return (Measured([hashes, "hashes", str(batches)]).used - Measured([hashes, "hashes", "0"]).used) / blocks
+    return (measured([hashes, "hashes", str(batches)]) - measured([hashes, "hashes", "0"])) / blocks
+
+
+def seconds_a_block(hashes):
+    """The processor's time of a block."""
+    return a_block(hashes, 20000, lambda command: Measured(command).used)
 
 
 def instructions(command):
@@ -85,9 +89,7 @@ def count_instructions(program, hashes, scratch, count):
     def of(rounds):
         return instructions([program, f"{scratch}/{rounds}", "--gen", str(NUMBER), str(rounds)])
 
-    sizes = [1 + 5 * (batch + 1) for batch in range(1000)]
-    block = (instructions([hashes, "hashes", "1000"]) - instructions([hashes, "hashes", "0"])) / blocks_of(sizes)
-    ratio = (of(count) - of(0)) / (2 * blocks_of(Rounds(count).sizes) * block)
+    ratio = (of(count) - of(0)) / (2 * blocks_of(Rounds(count).sizes) * a_block(hashes, 1000, instructions))
     print(f"{count} rounds: {ratio:.3f} times the instructions of the hash calls")
 
 
@@ -128,7 +130,7 @@ def bytes_in(folder):
     return sum(entry.stat().st_size for entry in os.scandir(folder))
 
 
-def beside(count, there, first):
+def beside(count, there, start):
     """The seconds of a plain program in Python that keeps the same log, without those of its start, and those of its writes and syncs
     alone. Its files must be the program's, which stand in the folder `there`."""
     folder = there + "-plain"
@@ -136,7 +138,7 @@ def beside(count, there, first):
     def took(rounds):
         return Measured([sys.executable, PLAIN, folder, str(NUMBER), str(rounds)], folder=folder).seconds
 
-    plain = took(count) - first
+    plain = took(count) - start
     if plain <= 0:
         plain = None            # the start takes longer at times than all the rest
     if filecmp.cmpfiles(there, folder, os.listdir(there), shallow=False)[0] != os.listdir(there):
