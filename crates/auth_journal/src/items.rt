@@ -14,7 +14,7 @@ pub(crate) fn share_all<T: Drop>(
 ) -> Result<Vec<Rc<ListOf<T>>>, AllocError>
     ensures { IfOk result (λ v. map {B = List T} (λ l. l.value) v.items ≡ map (λ l. l.value) lists.now) }
 {
-    let mut shared = Vec::new(alloc);
+    let mut shared = Vec::with_capacity(alloc, lists.len().saturating_add(1))?;
     for i in 0..lists.len() {
         shared.push(lists[i].clone()?)?;
     }

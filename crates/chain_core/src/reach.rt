@@ -39,7 +39,7 @@ fn collected<F: Drop, D: Digest, T: Chained<F, D>>(
     ensures oldest { IfOk result (λ r. r.oldest ≡ oldest_in T.bounds_of (items_at pool.now ids.now)) }
     ensures memory { IsOkUnless result CodecError.Memory }
 {
-    let mut tips = Vec::new(pool.allocator());
+    let mut tips = Vec::with_capacity(pool.allocator(), ids.len())?;
     let mut oldest = None;
     for id in ids {
         let bounds = pool.item(*id).bounds();

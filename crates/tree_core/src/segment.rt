@@ -192,7 +192,7 @@ pub(crate) fn share_all<F: Family, D: Digest>(
 ) -> Result<Vec<Rc<Segment<F, D>>>, AllocError>
     ensures { IfOk result (λ v. map {B = ChainSegment D} (λ g. g.value) v.items ≡ map (λ g. g.value) segments.now) }
 {
-    let mut shared = Vec::new(alloc);
+    let mut shared = Vec::with_capacity(alloc, segments.len().saturating_add(1))?;
     for i in 0..segments.len() {
         shared.push(segments[i].clone()?)?;
     }
