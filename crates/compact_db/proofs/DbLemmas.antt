@@ -22,7 +22,7 @@ use Rattle.compact_db.specs.StateOf.{IsStateOf}
 use Rattle.compact_db.specs.Verified.{root_under}
 use Rattle.compact_db.specs.declared.verified.VerifiedWitness.{VerifiedWitness}
 
-state_by : {F D : Type 0} (c : Commitment F D) (n : ℕ) (r : D) → c.size ≡ n → c.root ≡ r → c ≡ record { size = n; root = r }
+pub state_by : {F D : Type 0} (c : Commitment F D) (n : ℕ) (r : D) → c.size ≡ n → c.root ≡ r → c ≡ record { size = n; root = r }
 state_by c n r p q i = record { size = p i; root = q i }
 
 -- the floor of a list is that of its last operation

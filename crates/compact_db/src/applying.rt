@@ -40,6 +40,7 @@ pub(crate) fn applied<F: Family, O: CompactOperation, H: Hasher>(
     requires longer { merkle.leaves < batch.now.leaves }
     ensures leaves { IfOk result (λ r. r.1.leaves ≡ batch.now.leaves) }
     ensures size { IfOk result (λ r. r.0.witness.size ≡ batch.now.leaves) }
+    ensures root { IfOk result (λ r. r.0.root ≡ root) }
     ensures frontier { IfOk result (λ r. IsFrontier F.shape r.1) }
     ensures short { IfOk result (λ r. length r.0.witness.op_bytes < 2 ^ 64) }
     ensures list { IfOk result (λ r. (all more : List H.Digest) → IsOf F.shape H.hash all merkle →

@@ -38,7 +38,7 @@ impl<F: Family, O: CompactOperation, H: Hasher> CompactDb<F, O, H> {
         commit: O,
     ) -> Result<Self, Error<F>>
         requires longer { self.tree.leaves < batch.now.leaves }
-        ensures size { IfOk result (λ made. made.tip.witness.size ≡ batch.now.leaves) }
+        ensures state { IfOk result (λ made. commitment_in made ≡ record { size = batch.now.leaves; root = root }) }
         ensures commit { IfOk result (λ made. made.commit ≡ commit) }
         ensures codec { IfOk result (λ made. made.codec ≡ self.codec) }
         ensures opened { IfOk result (λ made. waits made.log ≡ false) }
@@ -221,9 +221,9 @@ impl<F: Family, O: CompactOperation, H: Hasher> CompactDb<F, O, H> {
             IsMerkleizedOf F.shape H.hash O.meaning (ops ++ more) b → (sizes : List ℕ)
             × IsHeldFor F.shape H.hash O.meaning H.Digest.spelling (H.Digest.admits tt) (ops ++ more) sizes made
             (V.state vol.new)) }
-        // Of whichever batch that is longer, its size is the batch's, and its commit the batch's last operation.
+        // Of whichever batch that is longer, its state is the batch's tip, and its commit the batch's last operation.
         ensures grows { IfOk result (λ made. (b : MerkleizedView F H.Digest O) → item_at pool.now id ≡ Some b →
-            self.tip.witness.size < b.bounds.tip.size → (made.tip.witness.size ≡ b.bounds.tip.size)
+            self.tip.witness.size < b.bounds.tip.size → (commitment_in made ≡ b.bounds.tip)
             × (slice_get b.operations (length b.operations - 1) ≡ Some made.commit)) }
         // Where the batch has no more operations, the state stays, and what is held. Nothing is written but for an
         // import, and without one it is done.

@@ -62,6 +62,7 @@ pub(crate) fn witness_under<F: Family, H: Hasher>(
         IsDerivedOf F.shape H.hash merkle.now op_bytes floor v) }
     ensures size { IfOk result (λ v. v.witness.size ≡ merkle.now.leaves) }
     ensures bytes { IfOk result (λ v. v.witness.op_bytes ≡ op_bytes) }
+    ensures root { IfOk result (λ v. v.root ≡ root) }
     ensures memory { IsOkUnless result Error.Memory }
 {
     let size = merkle.leaves().as_u64();

@@ -19,7 +19,7 @@ use Rattle.compact_db.proofs.ApplyLemmas.{none_more, always, for_each, both, one
 use Rattle.compact_db.proofs.HeldLemmas.{list_same, last_witness, still_held}
 use Rattle.compact_db.proofs.ImageLemmas.{images_none, call_none, call_settled, restarts_none}
 use Rattle.compact_db.proofs.MarkLemmas.{marked_fits}
-use Rattle.compact_db.proofs.DbLemmas.{root_of_batch, size_of_list}
+use Rattle.compact_db.proofs.DbLemmas.{root_of_batch, size_of_list, state_by}
 use Rattle.compact_db.proofs.database.CompactDb.apply_batch.Goals as goal
 
 pub returns-then-as_u64-clause-stands : goal.returns-then-as_u64-clause-stands
@@ -438,10 +438,11 @@ returns-then-as_u64-clause-grows g c = for_each c.settled.result _ (λ made b at
     absurd (omega (arith, more, test, left, right, here, tip, own, old)))
 
 pub returns-clause-grows : goal.returns-clause-grows
-returns-clause-grows g c = both c.grown.result _ _ _ c.grown.ensures.size c.grown.ensures.commit (λ made size commit b at more.
+returns-clause-grows g c = both c.grown.result _ _ _ c.grown.ensures.state c.grown.ensures.commit (λ made state commit b at more.
     let same = c.batch.view_is ∙ one_item (item_at c.args.pool.now c.args.id) c.item-batch.result.now b c.item-batch.ensures at in
-    let tip : c.batch.inside.bounds.tip.size ≡ b.bounds.tip.size = ap (λ (x : MerkleizedView g.row.F.Denot g.row.H-Digest.Denot g.row.O.Denot). x.bounds.tip.size) same in
-    let here : c.batch.inside.tree.leaves ≡ c.batch.inside.bounds.tip.size = c.batch.invariant.tip in
+    let here = c.batch.inside.bounds.tip in
+    let tip = ap (λ (x : MerkleizedView g.row.F.Denot g.row.H-Digest.Denot g.row.O.Denot). x.bounds.tip) same in
+    let parts = sym (state_by here c.batch.inside.tree.leaves here.root (sym c.batch.invariant.tip) refl) in
     let own : c.as_slice.result.now ≡ b.operations = c.as_slice.ensures ∙ ap (λ (x : MerkleizedView g.row.F.Denot g.row.H-Digest.Denot g.row.O.Denot). x.operations) same in
     let read = last_read c.as_slice.result.now b.operations 0 c.commit-item.result _ own c.in-len1-up.len_at_least c.commit-item.is in
-    (size ∙ here ∙ tip, read ∙ ap Some (sym c.in-Ok-duplicate.ensures.same ∙ sym commit)))
+    (state ∙ parts ∙ tip, read ∙ ap Some (sym c.in-Ok-duplicate.ensures.same ∙ sym commit)))
