@@ -84,7 +84,7 @@ pub fn open_full_under<V: Volume>(
     ensures operations { IfOk result (λ db. V.tells → KeepsOperations config.now.value_limit cap db.state.size
         ((V.state volume.old).log config.now.log) ((V.state volume.new).log config.now.log)) }
     // It has the configuration's blobs and limit, keeps no failed sync, has an operation, its memory is at rest, and
-    // what is there is durable.
+    // both logs are durable.
     ensures under { IfOk result (λ db. full_kind.is_under config.now db) }
     ensures sound { IfOk result (λ db. full_kind.is_sound db) }
     ensures some { IfOk result (λ db. 0 < db.state.size) }

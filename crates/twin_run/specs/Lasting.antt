@@ -16,15 +16,21 @@ pub record IsAllLasting (config : Config) (v : volume.State) : Type 0 where
   pub logs : IsLasting config v
   pub nodes : OnlyLeft (v.log_left v.clock config.nodes) (v.log config.nodes)
 
--- What a commit or a sync makes durable outlasts a crash now. Of other commands nothing is said.
-abbrev pub LastsAfter : Config → volume.State → Command → Type 0
-LastsAfter config v command.Commit = IsLasting config v
-LastsAfter config v command.Sync = IsAllLasting config v
-LastsAfter config v command.StartSync = IsAllLasting config v
-LastsAfter config v _ = Unit {0}
+-- What outlasts a crash behind a command, where this did before it. What a commit or a sync makes durable does now. An
+-- apply may write what doesn't, and of a prune nothing is said. Every other command leaves the volume.
+abbrev pub LastsAfter : Config → volume.State → Type 0 → Command → Type 0
+LastsAfter config v before command.Commit = IsLasting config v
+LastsAfter config v before command.Sync = IsAllLasting config v
+LastsAfter config v before command.StartSync = IsAllLasting config v
+LastsAfter config v before (command.Apply b) = Unit {0}
+LastsAfter config v before (command.Prune l) = Unit {0}
+LastsAfter config v before _ = before
 
--- So it is behind the last of these; and of none, behind the opening, which makes all durable.
+-- So it goes from command to command.
+abbrev pub LastsFrom : Config → volume.State → Type 0 → List Command → Type 0
+LastsFrom config v before [] = before
+LastsFrom config v before (c ∷ rest) = LastsFrom config v (LastsAfter config v before c) rest
+
+-- Behind the opening, which makes all durable, and these commands.
 abbrev pub LastsBehind : Config → volume.State → List Command → Type 0
-LastsBehind config v [] = IsAllLasting config v
-LastsBehind config v (c ∷ []) = LastsAfter config v c
-LastsBehind config v (_ ∷ c ∷ rest) = LastsBehind config v (c ∷ rest)
+LastsBehind config v commands = LastsFrom config v (IsAllLasting config v) commands

@@ -69,7 +69,9 @@ fn lowered<V: Volume>(
 }
 
 /// Opens the full database without a cap, then the compact one under the full one's size, and the full one again, where
-/// the compact one is at a lesser size. Both are then at one size, and have one root.
+/// the compact one is at a lesser size. Both are then at one size, and have one root. It fails with `Corrupt` where one
+/// isn't opened for what the volume holds, or sizes or roots differ, with `Volume` where a call of the volume failed, and
+/// with `Memory`.
 pub fn realign<V: Volume>(
     alloc: Global,
     config: &TwinConfig,
@@ -100,7 +102,7 @@ pub fn realign<V: Volume>(
         (log config.now.witness) ((V.state volume.new).log config.now.witness)) }
     ensures under { IfOk result (λ r. AreUnder config.now r.0 r.1) }
     ensures sound { IfOk result (λ r. AreSound r.0 r.1) }
-    // What is there is durable.
+    // Their logs are durable.
     ensures durable { IfOk result (λ r. V.tells →
         full_kind.is_synced r.0 (V.state volume.new) × compact_kind.is_synced r.1 (V.state volume.new)) }
     ensures names { V.tells → NamesCall (twin_names config.now) (V.state volume.old) (V.state volume.new) }

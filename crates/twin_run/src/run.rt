@@ -64,7 +64,8 @@ fn answer_all<V: Volume>(
     Ok(())
 }
 
-/// Opens both databases of a volume and runs commands over them.
+/// Opens both databases of a volume and runs commands over them. Where the opening or a step fails it stops with that
+/// fault and the replies before.
 pub fn run_twins<V: Volume>(
     alloc: Global,
     config: &TwinConfig,
@@ -90,8 +91,9 @@ pub fn run_twins<V: Volume>(
     // state without its batches, so the next run may begin there.
     ensures left { V.tells → OfEachStart config.now (present (V.state volume.old)) commands.now (λ now. OnOk result
         (IsLeft config.now (present (V.state volume.new)) (state_after config.now now commands.now))) }
-    // Whatever the volume holds, behind a whole run what its last command makes durable outlasts a crash: of a commit the
-    // operation log and the witness log, of a sync, and where there is no command, the node log too.
+    // Whatever the volume holds, behind a whole run the operation log and the witness log outlast a crash where behind
+    // its last commit or sync, or behind the opening, there is no apply and no prune; and where that is no commit, the
+    // node log too.
     ensures durable { OnOk result (V.tells → LastsBehind config.now (V.state volume.new) commands.now) }
 
     // When each fault comes. A database's error that is told of the contents is none of the volume and no want of

@@ -1,4 +1,4 @@
-use Rattle.std.proofs.Common.{◌≡◌, ◌+◌, [], List, Err, drop, length, refl, sym, ◌∙◌, ap, subst, arith}
+use Rattle.std.proofs.Common.{◌≡◌, ◌+◌, [], List, Err, drop, take, length, refl, sym, ◌∙◌, ap, subst, arith}
 use Rattle.command_text.specs.declared.command.Reply.{Reply}
 use Rattle.volume_base.specs.Moments.{present}
 use Rattle.volume_base.proofs.CallLemmas.{names_call_joins}
@@ -97,7 +97,8 @@ loop-command-preserved g c =
       names = λ told. names_call_joins (twin_names config) _ _ _ (inv.names told) (done.names told config inv.of);
       within = omega (arith, lt);
       durable = λ told. lasts_next config _ commands i command is lt
-          (lasting_after config c.in-Ok-step.step.0 _ (done.of config inv.of) command (done.durable told));
+          (lasting_after config g.V.Volume.tells told c.in-Ok-step.step.0 _ _ (done.of config inv.of)
+          command (take i commands) (inv.durable told) done.quiet (done.durable told));
     }
 
 pub returns-in-Err-step-clause-err : goal.returns-in-Err-step-clause-err
