@@ -1,8 +1,6 @@
 -- What a crash leaves while a log gets its first commit.
-use Rattle.std.proofs.Common.{◌≡◌, ◌≢◌, ℕ, List, [], ◌∷◌, length, map, Ok, Err, refl, sym, ◌∙◌, ap, subst, arith}
+use Rattle.std.proofs.Common.{◌≡◌, ℕ, List, [], ◌∷◌, map, Ok, sym, subst}
 use Rattle.std.specs.Prelude.{Result, OnOk}
-use Rattle.volume_base.specs.Bounds.{IsPartOf}
-use Rattle.volume_base.specs.Log.{Log}
 use Rattle.volume_base.specs.Moments.{Image, Keeps, NamesLeft, Now, Steps}
 use Rattle.volume_base.specs.Names.{two_logs_and_map}
 use Rattle.volume_base.specs.Volume.{State}

@@ -5,7 +5,6 @@ use Rattle.std.specs.Prelude.{slice_get, unwrap_or, nat_le, IsSome, if◌then◌
 use Rattle.std.specs.FinMap as finmap
 use Rattle.std.specs.Int.{w64, from_be_bytes}
 use Rattle.std.proofs.lemmas.Bool.{le-leb}
-use Rattle.std.proofs.lemmas.List.{length-map}
 use Rattle.std.proofs.lemmas.Nat.{from_be_bytes-to_be_bytes_8}
 use Rattle.std.proofs.lemmas.Option.{slice_get-map, slice_get_within}
 use Rattle.codec_base.specs.Laws.{eight_bytes}

@@ -1,4 +1,4 @@
-use Rattle.std.proofs.Common.{◌≡◌, ◌≤◌, ◌^◌, ◌++◌, inl, inr, ℕ, List, Option, Ok, Some, length, max, take, refl, sym, ◌∙◌, ap, subst, arith}
+use Rattle.std.proofs.Common.{◌≡◌, ◌≤◌, ◌++◌, inl, inr, ℕ, List, Option, Ok, Some, max, take, refl, sym, ◌∙◌, ap, subst, arith}
 use Rattle.std.specs.Fn.{FnReturnsAt}
 use Rattle.std.specs.Prelude.{string_bytes, unwrap_or}
 use Rattle.volume_base.specs.Log.{Log, cut_to, Shrinks}

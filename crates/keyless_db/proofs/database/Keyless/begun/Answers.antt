@@ -7,8 +7,6 @@ use Rattle.journal_base.specs.View.{View, IsDurable, IsHeld}
 use Rattle.auth_journal.specs.Standing.{logs_of, names_of}
 use Rattle.auth_journal.specs.declared.error.Error.TheVariants as joined
 use Rattle.chain_core.specs.declared.error.Error.TheVariants.{Volume}
-use Rattle.auth_journal.proofs.LeafLemmas.{length-leaves_of}
-use Rattle.auth_journal.proofs.ReadingLemmas.{run_end}
 use Rattle.keyless_db.proofs.LiftLemmas.{ok_never, outside_above, volume_below}
 use Rattle.keyless_db.proofs.BeginningLemmas.{begins_not, begins_synced}
 use Rattle.keyless_db.proofs.OpenLemmas.{append_lifted, append_outside, durable_same, flush_wraps, logs_call}
