@@ -81,7 +81,8 @@ impl<F: Family, O: KeylessOperation, C: Backing<Item = O>, H: Hasher> Keyless<F,
     }
 
     /// The value of the operation at a location; of a commit, its metadata. It refuses, in this order, with
-    /// `LocationOutOfBounds` at or past the size, and with `Journal(ItemPruned)` below the start.
+    /// `LocationOutOfBounds` at or past the size, with `Journal(ItemPruned)` below the start, and with
+    /// `Journal(Corruption)` where no operation is spelled there.
     pub fn get<V: Volume>(
         &self,
         vol: &mut V,

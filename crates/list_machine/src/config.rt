@@ -76,7 +76,8 @@ impl TwinConfig {
     ghost use Rattle.std.specs.NonZero.{non_zero_u64_get};
     ghost use Rattle.list_machine.specs.Config.{config_of, config_refusal, standard_config, AreNamesApart};
 
-    /// A configuration of these names and numbers. What is refused is refused before memory is taken.
+    /// A configuration of these names and numbers. It refuses, in this order and before memory is taken, with
+    /// `ZeroBlob`, `ZeroBatch`, `SameName` and `ValueLimit`.
     pub fn new(
         alloc: Global,
         log: &str,
