@@ -1,8 +1,9 @@
 #!/usr/bin/env python3
 """Measures the program twins, whose path it is given, and that of bench_keyless, which makes hash calls alone, and a folder on a disk.
 
-Times are medians of several runs, each on a folder that isn't there. What the same hash calls would take is the time of as many
-blocks of SHA-256 by bench_keyless: for each operation a leaf, its nodes, and at each seal the folds and the root, in both databases.
+Times are medians of several runs, each on a folder that isn't there but for the one that is opened again. What the same hash calls
+would take is the time of as many blocks of SHA-256 by bench_keyless: for each operation a leaf, its nodes, and at each seal the
+folds and the root, in both databases.
 The peak memory of a child can't be told where it is below this program's own, from which the child is made; then that is shown as a
 bound. A seal that copied the operations of its ancestors would show in the memory of a chain that isn't applied: the same bytes in
 more batches would take more. A plain program in Python beside, bench/plain.py, keeps the same log: once with hash calls, once its

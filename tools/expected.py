@@ -336,7 +336,7 @@ def script(text):
 
 
 def runs():
-    """The names and commands of the single runs on fresh volumes of which no call is set to fail."""
+    """The names and commands of the single runs on fresh volumes, those among them whose calls are to fail in turn."""
     name = ""
     for kind, settings, lines in cases(SCRIPT.read_text(encoding="utf-8")):
         is_single = not settings.keys() & {"log", "map", "call"} and not any(line.startswith("/") for line in lines)

@@ -1,6 +1,6 @@
 #!/usr/bin/env python3
-"""Lets each allocation of the program fail in turn, on each run of crates/run_calls/stdin at the program's own configuration;
-of a run that makes many, some all over it. Each run has a folder of its own.
+"""Lets each allocation of the program fail in turn, on each single run over a fresh volume of crates/run_calls/stdin, at the
+program's own configuration; of a run that makes many, some all over it. Each run has a folder of its own.
 
 usage: tools/fail_alloc.py PROGRAM
 

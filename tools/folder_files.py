@@ -102,8 +102,7 @@ class Folder:
     def contents(self):
         if not os.path.isdir(self.path):
             return None
-        names = [n for n in os.listdir(self.path)]
-        return {n: open(os.path.join(self.path, n), "rb").read() for n in names}
+        return {n: open(os.path.join(self.path, n), "rb").read() for n in os.listdir(self.path)}
 
 
 def shown(data):
