@@ -141,7 +141,8 @@ impl<F: Family, C: Backing, H: Hasher> Journal<F, C, H> {
     }
 
     /// Puts an item behind the others, and its leaf, and answers its position. It refuses with `LocationOverflow` a journal of
-    /// `MAX_LEAVES` items, before anything is written.
+    /// `MAX_LEAVES` items, and with `Journal(SizeOverflow)` where the log would end past 2^64 - 1, before anything is
+    /// written.
     pub fn append<V: Volume>(
         self,
         vol: &mut V,
@@ -189,7 +190,8 @@ impl<F: Family, C: Backing, H: Hasher> Journal<F, C, H> {
     }
 
     /// Puts items behind the others, each with its leaf, by one append, and answers the position of the last. It refuses no items
-    /// with `EmptyAppend`, and then with `LocationOverflow` more than `MAX_LEAVES` in all, before anything is written.
+    /// with `EmptyAppend`, then with `LocationOverflow` more than `MAX_LEAVES` in all, and with `Journal(SizeOverflow)` where the
+    /// log would end past 2^64 - 1, before anything is written.
     pub fn append_many<V: Volume>(
         self,
         vol: &mut V,
@@ -240,7 +242,8 @@ impl<F: Family, C: Backing, H: Hasher> Journal<F, C, H> {
     }
 
     /// Puts the items that the batch has behind this journal's, and their leaves, by one append; where it has none nothing is
-    /// written. It refuses a batch that doesn't go on from the tree as `Mem::apply_batch`, before anything is written.
+    /// written. It refuses a batch that doesn't go on from the tree as `Mem::apply_batch`, and with `Journal(SizeOverflow)` where
+    /// the log would end past 2^64 - 1, before anything is written.
     pub fn apply_batch<V: Volume>(
         self,
         vol: &mut V,

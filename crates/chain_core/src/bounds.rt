@@ -40,7 +40,7 @@ impl<F: Drop, D: Digest> Bounds<F, D> {
         })
     }
 
-    /// The database, where its state `current` is one of the chain.
+    /// The database, where its state `current` is one of the chain; otherwise it refuses with `StaleRead`.
     pub fn compatible<'a, T>(
         &self,
         db: &'a T,
@@ -58,7 +58,7 @@ impl<F: Drop, D: Digest> Bounds<F, D> {
         }
     }
 
-    /// Whether the batch may be applied at the state `current`.
+    /// Whether the batch may be applied at the state `current`. It refuses with `StaleBatch` where it may not.
     pub fn validate_apply_to(&self, current: Commitment<F, D>) -> Result<(), Error<F>>
         ensures at_boundary_or_ancestor { IsOk result ↔ Contains (self.now.db ∷ self.now.ancestors) current }
         ensures stale { IsOkUnless result Error.StaleBatch }
@@ -97,7 +97,8 @@ fn is_in_chain<F, D: Digest>(
     *current == *tip || stands_at(current, db, ancestors)
 }
 
-/// Whether a batch whose chain began at `db`, with these tips of ancestors, may be applied at the state `current`.
+/// Whether a batch whose chain began at `db`, with these tips of ancestors, may be applied at the state `current`. It
+/// refuses with `StaleBatch` where it may not.
 pub fn validate_batch_applicable<F, D: Digest>(
     current: Commitment<F, D>,
     db: Commitment<F, D>,
@@ -127,7 +128,7 @@ pub fn effective_boundary<F, D: Digest>(
     }
 }
 
-/// The database, where a batch may be sealed at its state `current`.
+/// The database, where a batch may be sealed at its state `current`; otherwise it refuses with `StaleBatch`.
 pub fn merkleizable<'a, T, F, D: Digest>(
     db: &'a T,
     current: Commitment<F, D>,

@@ -36,7 +36,7 @@ impl<F, D: Digest> Commitment<F, D> {
         Commitment { size, root }
     }
 
-    /// The database, where its state `current` is this one.
+    /// The database, where its state `current` is this one; otherwise it refuses with `StaleRead`.
     pub fn compatible<'a, T>(
         &self,
         db: &'a T,

@@ -140,7 +140,7 @@ impl<T: Drop> Pool<T> {
         self.find(id).is_some()
     }
 
-    /// The item of a batch that is alive.
+    /// The item of a batch that is alive. It refuses with `NoBatch` where none is under the number.
     pub fn get(&self, id: BatchId) -> Result<&T, PoolError>
         ensures alive { IsOk result ↔ IsAlive self.now id }
         ensures item { IfOk result (λ item. option_map (λ b. b.item) (slot_at self.now id) ≡ Some item.now) }
@@ -201,7 +201,7 @@ impl<T: Drop> Pool<T> {
         Ok(reached)
     }
 
-    /// Draws a number for a batch, which is held once. Where memory runs out the batch is dropped.
+    /// Draws a number for a batch, which is held once. It refuses with `Memory` alone, and then the batch is dropped.
     pub fn insert(&mut self, item: T, parent: Option<BatchId>) -> Result<BatchId, PoolError>
         requires room { length self.old < 2 ^ 64 - 1 }
         requires after { ForSome parent (λ p. p < length self.old) }
@@ -223,7 +223,7 @@ impl<T: Drop> Pool<T> {
         Ok(BatchId { number })
     }
 
-    /// Holds a batch once more.
+    /// Holds a batch once more. It refuses with `NoBatch` where none is alive under the number.
     pub fn hold(&mut self, id: BatchId) -> Result<(), PoolError>
         requires room { holds_of self.old id < 2 ^ 64 - 1 }
         ensures alive { IsOk result ↔ IsAlive self.old id }
@@ -235,7 +235,8 @@ impl<T: Drop> Pool<T> {
         hold_at(&mut self.batches, id.number)
     }
 
-    /// Holds a batch once less. Where this was its last hold its item is dropped, and the number stays dead.
+    /// Holds a batch once less. Where this was its last hold its item is dropped, and the number stays dead. It refuses
+    /// with `NoBatch` where none is alive under the number.
     pub fn release(&mut self, id: BatchId) -> Result<(), PoolError>
         ensures alive { IsOk result ↔ IsAlive self.old id }
         ensures ok { OnOk result

@@ -40,7 +40,7 @@ impl<'a> Cursor<'a> {
         self.bytes.len() as u64
     }
 
-    /// Takes a byte.
+    /// Takes a byte. None left is `EndOfBuffer`, and the cursor stays.
     pub fn byte(&mut self) -> Result<u8, CodecError>
         ensures taken { Takes result self.new (byte_at self.old) }
         ensures no_memory { IsErrOf result CodecError.Memory → ⊥ }
@@ -55,7 +55,7 @@ impl<'a> Cursor<'a> {
         }
     }
 
-    /// Takes this many bytes.
+    /// Takes this many bytes. Fewer left is `EndOfBuffer`, and the cursor stays.
     pub fn slice(&mut self, count: usize) -> Result<&'a [u8], CodecError>
         ensures taken { TakesAs (λ s. s.now) result self.new (slice_at count self.old) }
         ensures no_memory { IsErrOf result CodecError.Memory → ⊥ }
@@ -70,7 +70,7 @@ impl<'a> Cursor<'a> {
         Ok(front)
     }
 
-    /// Takes eight bytes, the high one first.
+    /// Takes eight bytes, the high one first. Fewer left is `EndOfBuffer`, and the cursor stays.
     pub fn number(&mut self) -> Result<u64, CodecError>
         ensures taken { Takes result self.new (u64_at self.old) }
         ensures no_memory { IsErrOf result CodecError.Memory → ⊥ }

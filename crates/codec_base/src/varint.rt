@@ -73,7 +73,8 @@ fn count_groups(value: u64, more: u8) -> u64
     1 + count_groups(value / 128, more - 1)
 }
 
-/// Takes a number.
+/// Takes a number, its low group first. An end inside it is `EndOfBuffer`; a last group of zero behind others, or a
+/// number past 64 bits, is `Invalid` at the varint. On an error the cursor stays.
 #[tactic(auto, unfolding(crate::specs::Varint::varint_at))]
 pub fn read_varint(buf: &mut Cursor<'_>) -> Result<u64, CodecError>
     ensures taken { Takes result buf.new (varint_at buf.old) }
@@ -86,7 +87,8 @@ pub fn read_varint(buf: &mut Cursor<'_>) -> Result<u64, CodecError>
     Ok(value)
 }
 
-/// Adds a number.
+/// Adds a number in its shortest spelling, the low group first: one byte to ten. It fails for want of memory alone,
+/// and then adds nothing.
 #[tactic(auto, unfolding(crate::specs::Varint::varint))]
 pub fn write_varint(value: u64, out: &mut Bytes) -> Result<(), CodecError>
     ensures ok { OnOk result (out.new ≡ out.old ++ varint value) }
@@ -96,7 +98,7 @@ pub fn write_varint(value: u64, out: &mut Bytes) -> Result<(), CodecError>
     put_groups(value, 9, out)
 }
 
-/// The length of a number's spelling.
+/// The length of a number's spelling, in bytes: one to ten.
 #[tactic(auto, unfolding(crate::specs::Varint::varint))]
 pub fn varint_size(value: u64) -> u64
     ensures size { result ≡ length (varint value) }

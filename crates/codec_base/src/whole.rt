@@ -10,7 +10,7 @@ use std::alloc::Global;
 /// The room that a spelling begins with, in bytes: that of a digest.
 const ROOM: usize = 32;
 
-/// The spelling of a value.
+/// The spelling of a value. It fails for want of memory alone.
 pub fn encode<T: Write>(alloc: Global, value: &T) -> Result<Bytes, CodecError>
     ensures spelled { IfOk result (λ bytes. bytes ≡ T.spelling value.now) }
     ensures memory { IsOkUnless result CodecError.Memory }
@@ -20,7 +20,8 @@ pub fn encode<T: Write>(alloc: Global, value: &T) -> Result<Bytes, CodecError>
     Ok(out)
 }
 
-/// The value that a byte string spells.
+/// The value that a byte string spells, whole: the first fault of reading it, or `Invalid` as extra data where bytes
+/// are left behind it.
 pub fn decode<T: Read + Drop>(alloc: Global, bytes: &[u8], cfg: &T::Cfg) -> Result<T, CodecError>
     // What is read is spelled so, and allowed.
     ensures found { IfOk result (λ x. (bytes.now ≡ T.spelling x) × T.admits cfg.now x) }

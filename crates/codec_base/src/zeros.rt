@@ -6,7 +6,8 @@ ghost use Rattle.codec_base.specs.Combine.{zeros, zeros_at};
 use crate::error::InvalidAt;
 use crate::{Bytes, CodecError, Cursor, undo_on_err};
 
-/// Takes this many zeros.
+/// Takes this many zeros. An end before the last is `EndOfBuffer`, another byte is `Invalid` at the padding,
+/// whichever comes first; on an error the cursor stays.
 pub fn read_zeros(buf: &mut Cursor<'_>, count: u64) -> Result<(), CodecError>
     ensures taken { TakesAs (λ _. tt) result buf.new (zeros_at count buf.old) }
     ensures no_memory { IsErrOf result CodecError.Memory → ⊥ }
@@ -22,7 +23,7 @@ pub fn read_zeros(buf: &mut Cursor<'_>, count: u64) -> Result<(), CodecError>
     Ok(())
 }
 
-/// Adds this many zeros.
+/// Adds this many zeros. It fails for want of memory alone, and then adds nothing.
 pub fn write_zeros(count: u64, out: &mut Bytes) -> Result<(), CodecError>
     ensures ok { OnOk result (out.new ≡ out.old ++ zeros count) }
     ensures err { OnErr result (out.new ≡ out.old) }

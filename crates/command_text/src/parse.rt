@@ -57,7 +57,8 @@ fn push_command(commands: &mut Vec<Command>, number: u64, line: &[u8]) -> Result
     }
 }
 
-/// Reads an input as commands, one a line; empty lines and comments are skipped.
+/// Reads an input as commands, one a line; empty lines and comments are skipped. It refuses with `Bad` the first line
+/// that is no command, by its number from 1 on, and for want of memory with `Memory`.
 pub fn parse_commands(alloc: Global, input: &[u8]) -> Result<Vec<Command>, LineError>
     ensures read { IfOk result (λ commands. InputSays input.now commands.items) }
     ensures bad { IfErr result (IsCause (lines_of input.now)) }

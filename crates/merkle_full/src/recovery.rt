@@ -79,7 +79,11 @@ impl<F: Family, D: Digest> Merkle<F, D> {
     ghost use Rattle.merkle_full.specs.Preparing.{cap_of, log_kept, NotPrepared, Opens, Recalls, IsPreparedIn, IsNamed};
 
     /// Reads the map and the node log, and makes memory of the most leaves that the boundary, the nodes and the cap
-    /// allow.
+    /// allow. It refuses, in this order: with `DataCorrupted` a stored boundary that isn't eight bytes long, with
+    /// `LocationOverflow` one above `MAX_LEAVES`, with `ElementPruned` a cap below it, with `Journal(ItemPruned)` a cap
+    /// below the node log's start, and with `MissingNode` a boundary past the complete leaves. Then the peaks are read,
+    /// and refused with `MissingNode` where neither map nor log has one, and with `DataCorrupted` where its bytes are no
+    /// digest.
     pub fn prepare<H: Hasher<Digest = D>, V: Volume>(
         alloc: Global,
         vol: &mut V,

@@ -34,7 +34,8 @@ pub fn commit_variable_size<F, V: EncodeSize>(metadata: &Option<V>, floor: &Loca
         .saturating_add(varint_size(floor.as_u64()))
 }
 
-/// Takes the metadata, and the floor as a varint.
+/// Takes the metadata, and the floor as a varint. It refuses at the first fault of the option byte, of the value and of
+/// the varint, and with `Invalid` at the location where the floor is above `MAX_LEAVES`.
 pub fn read_commit_variable<F, V: Read + Drop>(
     alloc: Global,
     buf: &mut Cursor<'_>,
@@ -117,7 +118,9 @@ fn filled_size<V: EncodeSize + FixedSize>(metadata: &Option<V>) -> u64
     }
 }
 
-/// Takes the metadata or zeros in its place, and the floor in eight bytes.
+/// Takes the metadata or zeros in its place, and the floor in eight bytes. It refuses at the first fault of the option
+/// byte, of the value or of the padding, and of the number, and with `Invalid` at the location where the floor is above
+/// `MAX_LEAVES`.
 pub fn read_commit_fixed<F, V: FixedSize + Drop>(
     alloc: Global,
     buf: &mut Cursor<'_>,

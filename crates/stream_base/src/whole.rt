@@ -29,7 +29,8 @@ impl From<ReadFailed> for ReadAllError {
     }
 }
 
-/// Reads a source to its end, up to a limit. It ends at the first read that fails.
+/// Reads a source to its end, up to a limit of bytes. It refuses with `TooLong` where more stand there, with `Failed`
+/// at the first read that fails, and for want of memory with `Memory`.
 #[tactic(auto, using(crate::proofs::Known::front_read))]
 pub fn read_all<S: Source>(alloc: Global, source: &mut S, limit: u64) -> Result<Bytes, ReadAllError>
     // It was read to its end, and these are its bytes.
@@ -59,7 +60,7 @@ pub fn read_all<S: Source>(alloc: Global, source: &mut S, limit: u64) -> Result<
     }
 }
 
-/// Writes all of these bytes. It ends at the first write that fails.
+/// Writes all of these bytes. It ends at the first write that fails, and a front of them is then written.
 pub fn write_all<K: Sink>(sink: &mut K, bytes: &[u8]) -> Result<(), WriteFailed>
     ensures text { Writes (K.written sink.old) (K.written sink.new) result bytes.now }
     ensures cause { HasCause (K.faults sink.old) (K.faults sink.new) result }

@@ -101,7 +101,8 @@ impl<F: Family, D: Digest> UnmerkleizedBatch<F, D> {
         self.segments.len() as u64
     }
 
-    /// Adds a leaf by its digest.
+    /// Adds a leaf by its digest. It refuses with `LocationOverflow` where there are `MAX_LEAVES`, and else only with
+    /// `Memory`; the batch is then as before.
     pub fn add_leaf_digest(&mut self, digest: D) -> Result<(), Error<F>>
         ensures ok { OnOk result (self.new ≡ with_digests self.old (digest ∷ [])) }
         ensures err { OnErr result (self.new ≡ self.old) }
@@ -115,7 +116,8 @@ impl<F: Family, D: Digest> UnmerkleizedBatch<F, D> {
         Ok(())
     }
 
-    /// Adds leaves by their digests, all or none.
+    /// Adds leaves by their digests, all or none. It refuses with `LocationOverflow` where there would be more than
+    /// `MAX_LEAVES`, and else only with `Memory`.
     pub fn add_leaf_digests(&mut self, digests: &[D]) -> Result<(), Error<F>>
         ensures ok { OnOk result (self.new ≡ with_digests self.old digests.now) }
         ensures err { OnErr result (self.new ≡ self.old) }
@@ -168,7 +170,7 @@ impl<F: Family, D: Digest> UnmerkleizedBatch<F, D> {
         Ok(MerkleizedBatch::seal(alloc, boundary, segments, first, leaves))
     }
 
-    /// Adds a leaf.
+    /// Adds the leaf of an element. It refuses as `add_leaf_digest`.
     pub fn add<H: Hasher<Digest = D>>(
         &mut self,
         hasher: &Standard<H>,

@@ -37,7 +37,8 @@ pub trait Readable {
         ensures { result ≡ told self.now pos };
 }
 
-/// The nodes that memory has at these positions, in their order. The first without one is named.
+/// The nodes that memory has at these positions, in their order. It refuses with `ElementPruned` at the first without
+/// one.
 pub fn nodes_from_memory<R: Readable>(
     alloc: Global,
     memory: &R,
@@ -97,7 +98,8 @@ pub trait Storage<F: Family> {
             held self.now (present (V.state vol.old)) → IfErr result IsOutside }
         ensures reads { Reads V.tells Error.Volume (V.state vol.old) (V.state vol.new) result };
 
-    /// The nodes at these positions, in their order, each read once. The first without one is named.
+    /// The nodes at these positions, in their order, each read once. It refuses with `ElementPruned` at the first
+    /// without one, and with what a read refuses with.
     fn get_nodes<V: Volume>(
         &self,
         vol: &mut V,
