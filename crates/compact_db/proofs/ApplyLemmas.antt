@@ -15,6 +15,10 @@ pub both : {A E : Type 0} (r : Result A E) (P Q R : A → Type 0) → IfOk r P �
 both (Ok a) P Q R p q give = give a p q
 both (Err e) P Q R p q give = tt
 
+pub all_three : {A E : Type 0} (r : Result A E) (P Q R S : A → Type 0) → IfOk r P → IfOk r Q → IfOk r R → ((a : A) → P a → Q a → R a → S a) → IfOk r S
+all_three (Ok a) P Q R S p q s give = give a p q s
+all_three (Err e) P Q R S p q s give = tt
+
 -- one thing stands in one place
 pub one_item : {X : Type 0} (o : Option X) (x y : X) → o ≡ Some x → o ≡ Some y → x ≡ y
 one_item o x y p q = let e : Some x ≡ Some y = sym p ∙ q in cc

@@ -43,6 +43,7 @@ pub(crate) fn applied<F: Family, O: CompactOperation, H: Hasher>(
     ensures root { IfOk result (λ r. r.0.root ≡ root) }
     ensures frontier { IfOk result (λ r. IsFrontier F.shape r.1) }
     ensures short { IfOk result (λ r. length r.0.witness.op_bytes < 2 ^ 64) }
+    ensures bytes { IfOk result (λ r. r.0.witness.op_bytes ≡ O.spelling commit.now) }
     ensures list { IfOk result (λ r. (all more : List H.Digest) → IsOf F.shape H.hash all merkle →
         IsSealedOf F.shape H.hash (all ++ more) batch.now →
         root ≡ root_under F.shape H.hash (all ++ more) (floor_of O.meaning (commit.now ∷ [])) →

@@ -40,6 +40,7 @@ impl<F: Family, O: CompactOperation, H: Hasher> CompactDb<F, O, H> {
         requires longer { self.tree.leaves < batch.now.leaves }
         ensures state { IfOk result (λ made. commitment_in made ≡ record { size = batch.now.leaves; root = root }) }
         ensures commit { IfOk result (λ made. made.commit ≡ commit) }
+        ensures bytes { IfOk result (λ made. made.tip.witness.op_bytes ≡ O.spelling made.commit) }
         ensures codec { IfOk result (λ made. made.codec ≡ self.codec) }
         ensures opened { IfOk result (λ made. waits made.log ≡ false) }
         ensures list { IfOk result (λ made. (ops more : List O) → IsOfList F.shape H.hash O.meaning ops self →
@@ -221,10 +222,12 @@ impl<F: Family, O: CompactOperation, H: Hasher> CompactDb<F, O, H> {
             IsMerkleizedOf F.shape H.hash O.meaning (ops ++ more) b → (sizes : List ℕ)
             × IsHeldFor F.shape H.hash O.meaning H.Digest.spelling (H.Digest.admits tt) (ops ++ more) sizes made
             (V.state vol.new)) }
-        // Of whichever batch that is longer, its state is the batch's tip, and its commit the batch's last operation.
+        // Of whichever batch that is longer, its state is the batch's tip, its commit the batch's last operation, and
+        // its witness has that commit's bytes.
         ensures grows { IfOk result (λ made. (b : MerkleizedView F H.Digest O) → item_at pool.now id ≡ Some b →
             self.tip.witness.size < b.bounds.tip.size → (commitment_in made ≡ b.bounds.tip)
-            × (slice_get b.operations (length b.operations - 1) ≡ Some made.commit)) }
+            × (slice_get b.operations (length b.operations - 1) ≡ Some made.commit)
+            × (made.tip.witness.op_bytes ≡ O.spelling made.commit)) }
         // Where the batch has no more operations, the state stays, and what is held. Nothing is written but for an
         // import, and without one it is done.
         ensures stays { IfOk result (λ made. (b : MerkleizedView F H.Digest O) → item_at pool.now id ≡ Some b →

@@ -85,7 +85,7 @@ impl<F: Family, O: CompactOperation, H: Hasher> CompactDb<F, O, H> {
     /// verified, and then newer ones are cut off, and what is left is made durable. An empty log at 0 gets the witness
     /// of the first commit. Refuses, in this order: `InvalidInitializationBound` of a cap of 0, before the volume is
     /// called; `DataCorrupted(NoTip)` where the log is empty past 0; `HistoricalFloorPruned` where the first witness is
-    /// above the cap; or as `rebuild`.
+    /// above the cap; or as `rebuild`. Where the bytes of a witness on its way are none it is `Journal(Corruption)`.
     pub fn init<V: Volume>(
         alloc: Global,
         vol: &mut V,

@@ -25,7 +25,7 @@ use volume_base::Volume;
 impl<F: Family, O: CompactOperation, H: Hasher> CompactDb<F, O, H> {
     /// Drops whole blobs of witnesses of fewer operations, and never the last witness. All are durable before, and the
     /// new start behind it. It refuses with `DataCorrupted(ImportNotApplied)` where an import waits, and with `Volume`
-    /// where a failed sync is kept.
+    /// where a failed sync is kept. Where the bytes of a witness on its way are none it is `Journal(Corruption)`.
     pub fn prune<V: Volume>(self, vol: &mut V, boundary: Location<F>) -> Result<Self, Error<F>>
         ensures kept { (seen_log self.log).failed ≡ true → IsErrOf result Error.Volume × (vol.new ≡ vol.old) }
         ensures waiting { waits self.log ≡ true →

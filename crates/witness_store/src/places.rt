@@ -13,7 +13,8 @@ use tree_shape::{Digest, Family, Location};
 use volume_base::{JournalError, Volume};
 
 impl<F: Family, D: Digest> Store<F, D> {
-    /// The kept witness of exactly so many operations, and its position; nothing where none is. It searches by halving.
+    /// The kept witness of exactly so many operations, and its position; nothing where none is. It searches by halving,
+    /// and refuses bytes on its way that are no witness with `Corruption`.
     pub fn place_at<V: Volume>(
         &self,
         vol: &mut V,

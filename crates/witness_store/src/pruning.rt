@@ -107,7 +107,8 @@ fn drop_below<F: Family, D: Digest, V: Volume>(
 
 impl<F: Family, D: Digest> Store<F, D> {
     /// Drops whole blobs of witnesses of fewer operations, and never the last witness. All are durable before, and the new
-    /// start behind it. Where a failed sync is kept it refuses with `Volume`.
+    /// start behind it. Where a failed sync is kept it refuses with `Volume`, and bytes on its way to the first witness that
+    /// stays that are no witness with `Corruption`.
     pub fn prune<V: Volume>(self, vol: &mut V, boundary: Location<F>) -> Result<Self, JournalError>
         ensures kept { self.log.failed ≡ true → IsErrOf result Volume × (vol.new ≡ vol.old) }
         ensures made { IfOk result (λ made. SameButBounds self.log made.log × (made.uncommitted ≡ false)) }

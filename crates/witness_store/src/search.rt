@@ -26,7 +26,7 @@ pub struct Found<F, D> {
 
 /// A position before which a witness of fewer operations stands, or the start, and at which one of at least so many stands, or
 /// the end, with these two witnesses. Where sizes rise it is the first of at least so many operations. It halves what is left,
-/// and makes one read for each half.
+/// and makes one read for each half. It refuses bytes on its way that are no witness with `Corruption`.
 pub fn first_at_or_above<F: Family, D: Digest, R: Witnesses<F, D>, V: Volume>(
     reader: &R,
     vol: &mut V,

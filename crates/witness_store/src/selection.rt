@@ -14,7 +14,8 @@ use tree_shape::{Digest, Family, Location, MAX_LEAVES};
 use volume_base::{JournalError, Volume};
 
 /// A witness of at most so many operations, behind which one of more stands, or the end; without a cap the last of all; and the
-/// end behind it. Where sizes rise it is the last within the cap. Nothing only where the first witness is of more.
+/// end behind it. Where sizes rise it is the last within the cap. Nothing only where the first witness is of more. It refuses
+/// bytes on its way that are no witness with `Corruption`.
 pub fn select<F: Family, D: Digest, R: Witnesses<F, D>, V: Volume>(
     reader: &R,
     vol: &mut V,

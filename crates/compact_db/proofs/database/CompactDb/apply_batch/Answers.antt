@@ -15,7 +15,7 @@ use Rattle.compact_db.specs.DbView.{DbView, IsOfList, commitment_in, seen_log, w
 use Rattle.compact_db.specs.Held.{IsHeldFor, SameState}
 use Rattle.compact_db.specs.WitnessOf.{witness_of}
 use Rattle.compact_db.specs.Writing.{written_log, Settles}
-use Rattle.compact_db.proofs.ApplyLemmas.{none_more, always, for_each, both, one_item, last_read, later_ok, later_on, on_later, on_more, err_more, err_ok, only_there, outside_not_stale}
+use Rattle.compact_db.proofs.ApplyLemmas.{none_more, always, for_each, both, all_three, one_item, last_read, later_ok, later_on, on_later, on_more, err_more, err_ok, only_there, outside_not_stale}
 use Rattle.compact_db.proofs.HeldLemmas.{list_same, last_witness, still_held}
 use Rattle.compact_db.proofs.ImageLemmas.{images_none, call_none, call_settled, restarts_none}
 use Rattle.compact_db.proofs.MarkLemmas.{marked_fits}
@@ -438,11 +438,11 @@ returns-then-as_u64-clause-grows g c = for_each c.settled.result _ (λ made b at
     absurd (omega (arith, more, test, left, right, here, tip, own, old)))
 
 pub returns-clause-grows : goal.returns-clause-grows
-returns-clause-grows g c = both c.grown.result _ _ _ c.grown.ensures.state c.grown.ensures.commit (λ made state commit b at more.
+returns-clause-grows g c = all_three c.grown.result _ _ _ _ c.grown.ensures.state c.grown.ensures.commit c.grown.ensures.bytes (λ made state commit bytes b at more.
     let same = c.batch.view_is ∙ one_item (item_at c.args.pool.now c.args.id) c.item-batch.result.now b c.item-batch.ensures at in
     let here = c.batch.inside.bounds.tip in
     let tip = ap (λ (x : MerkleizedView g.row.F.Denot g.row.H-Digest.Denot g.row.O.Denot). x.bounds.tip) same in
     let parts = sym (state_by here c.batch.inside.tree.leaves here.root (sym c.batch.invariant.tip) refl) in
     let own : c.as_slice.result.now ≡ b.operations = c.as_slice.ensures ∙ ap (λ (x : MerkleizedView g.row.F.Denot g.row.H-Digest.Denot g.row.O.Denot). x.operations) same in
     let read = last_read c.as_slice.result.now b.operations 0 c.commit-item.result _ own c.in-len1-up.len_at_least c.commit-item.is in
-    (state ∙ parts ∙ tip, read ∙ ap Some (sym c.in-Ok-duplicate.ensures.same ∙ sym commit)))
+    (state ∙ parts ∙ tip, read ∙ ap Some (sym c.in-Ok-duplicate.ensures.same ∙ sym commit), bytes))
