@@ -16,8 +16,9 @@ pub record IsAllLasting (config : Config) (v : volume.State) : Type 0 where
   pub logs : IsLasting config v
   pub nodes : OnlyLeft (v.log_left v.clock config.nodes) (v.log config.nodes)
 
--- What outlasts a crash behind a command, where this did before it. What a commit or a sync makes durable does now. An
--- apply may write what doesn't, and of a prune nothing is said. Every other command leaves the volume.
+-- What outlasts a crash behind a command, where this did before it. What a commit or a sync makes durable does now;
+-- behind a commit nothing is said of the node log, and behind an apply or a prune, refused or not, of none. Every other
+-- command leaves the volume.
 abbrev pub LastsAfter : Config → volume.State → Type 0 → Command → Type 0
 LastsAfter config v before command.Commit = IsLasting config v
 LastsAfter config v before command.Sync = IsAllLasting config v
@@ -31,6 +32,6 @@ abbrev pub LastsFrom : Config → volume.State → Type 0 → List Command → T
 LastsFrom config v before [] = before
 LastsFrom config v before (c ∷ rest) = LastsFrom config v (LastsAfter config v before c) rest
 
--- Behind the opening, which makes all durable, and these commands.
+-- Behind the opening, which makes the three logs durable, and these commands.
 abbrev pub LastsBehind : Config → volume.State → List Command → Type 0
 LastsBehind config v commands = LastsFrom config v (IsAllLasting config v) commands

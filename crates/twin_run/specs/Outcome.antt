@@ -132,7 +132,7 @@ module _ (image : Image) (words : List (List ℕ)) (left left' : Option (List �
     pub left_so : OfEachStart standard_config image commands
         (λ now. IsLeft standard_config image' (state_after standard_config now commands))
 
--- What the commands of the words' run make durable, and their opening, outlasts a crash now.
+-- What is said to last behind the commands of the words' run outlasts a crash now.
 pub record Outlasts (words : List (List ℕ)) (left left' : Option (List ℕ)) (now : disk.State) : Type 0 where
   pub task : Task
   pub commands : List Command

@@ -182,7 +182,7 @@ pub fn twins_main<I: Source, O: Sink, V: Volume>(
     ensures left { ((result ≡ Status.Done) ⊎ (result ≡ Status.WriteFault)) → V.tells →
         HasLeft (present (V.state volume.old)) (texts_of words.now) (I.left input.old) (I.left input.new)
         (present (V.state volume.new)) }
-    // And what its last commit or sync makes durable, or its opening, outlasts a crash where no apply and no prune
+    // And what the last of its opening, commits and syncs makes durable outlasts a crash where no apply and no prune
     // comes behind.
     ensures lasting { ((result ≡ Status.Done) ⊎ (result ≡ Status.WriteFault)) → V.tells →
         Outlasts (texts_of words.now) (I.left input.old) (I.left input.new) (V.state volume.new) }

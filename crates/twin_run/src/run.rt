@@ -92,8 +92,8 @@ pub fn run_twins<V: Volume>(
     ensures left { V.tells → OfEachStart config.now (present (V.state volume.old)) commands.now (λ now. OnOk result
         (IsLeft config.now (present (V.state volume.new)) (state_after config.now now commands.now))) }
     // Whatever the volume holds, behind a whole run the operation log and the witness log outlast a crash where behind
-    // its last commit or sync, or behind the opening, there is no apply and no prune; and where that is no commit, the
-    // node log too.
+    // the last of its opening, commits and syncs there is no apply and no prune; and where that last one is no commit,
+    // the node log too.
     ensures durable { OnOk result (V.tells → LastsBehind config.now (V.state volume.new) commands.now) }
 
     // When each fault comes. A database's error that is told of the contents is none of the volume and no want of

@@ -36,7 +36,7 @@ pub struct Twins {
 }
 
 impl Twins {
-    /// Opens both databases of a volume, as `realign`, and fails as it.
+    /// Opens both databases of a volume, as `realign`, and fails as that does.
     pub fn open<V: Volume>(
         alloc: Global,
         config: &TwinConfig,
