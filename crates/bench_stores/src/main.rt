@@ -64,12 +64,18 @@ fn store_of(alloc: Global, kept: u64) -> Result<Witnesses, BenchError> {
     Ok(witnesses)
 }
 
-/// Makes so many stores, and in one more so many look-ups, of one witness after another. It gives the calls of the volume that the
-/// look-up of the first makes.
-fn work(alloc: Global, kept: u64, stores: u64, finds: u64) -> Result<u64, BenchError> {
+/// Makes so many stores.
+fn make_stores(alloc: Global, kept: u64, stores: u64) -> Result<(), BenchError> {
     for _ in 0..stores {
         store_of(alloc, kept)?;
     }
+    Ok(())
+}
+
+/// Makes so many stores, and in one more so many look-ups, of one witness after another. It gives the calls of the volume that the
+/// look-up of the first makes.
+fn work(alloc: Global, kept: u64, stores: u64, finds: u64) -> Result<u64, BenchError> {
+    make_stores(alloc, kept, stores)?;
     let mut witnesses = store_of(alloc, kept)?;
     for count in 0..finds {
         witnesses.find(count % kept.max(1) + 1)?;

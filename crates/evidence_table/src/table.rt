@@ -94,6 +94,22 @@ fn add_shorter<F: Family>(
     answers.add(rt, alloc, title, &answer)
 }
 
+/// Adds what is answered where one value of so many leaves is changed, or the leaves are fewer.
+fn add_count<F: Family>(
+    rt: &impl Print,
+    alloc: Global,
+    title: &str,
+    answers: &mut Answers,
+    count: u64,
+    bagging: Bagging,
+) -> Result<(), TableError> {
+    for value in 0..VALUES {
+        add_changed::<F>(rt, alloc, title, answers, count, value, bagging)?;
+        add_shorter::<F>(rt, alloc, title, answers, count, value, bagging)?;
+    }
+    Ok(())
+}
+
 /// Prints what was answered with one way to fold.
 fn print_bagging<F: Family>(
     rt: &impl Print,
@@ -103,10 +119,7 @@ fn print_bagging<F: Family>(
 ) -> Result<(), TableError> {
     let mut answers = Answers::new();
     for count in 0..LEAVES + 1 {
-        for value in 0..VALUES {
-            add_changed::<F>(rt, alloc, title, &mut answers, count, value, bagging)?;
-            add_shorter::<F>(rt, alloc, title, &mut answers, count, value, bagging)?;
-        }
+        add_count::<F>(rt, alloc, title, &mut answers, count, bagging)?;
     }
     answers.print(rt, alloc, title)
 }

@@ -156,12 +156,18 @@ fn make_call(
     Ok(())
 }
 
-fn main(rt: HostRuntime) -> Result<(), ScriptError> {
-    let alloc = rt.alloc();
-    let mut folder = String::from_str(alloc, "folder")?;
-    for argument in env::args(&rt)?.skip(1) {
+/// The folder that the last argument names, or `folder`.
+fn folder_name(rt: &HostRuntime) -> Result<String, ScriptError> {
+    let mut folder = String::from_str(rt.alloc(), "folder")?;
+    for argument in env::args(rt)?.skip(1) {
         folder = argument;
     }
+    Ok(folder)
+}
+
+fn main(rt: HostRuntime) -> Result<(), ScriptError> {
+    let alloc = rt.alloc();
+    let folder = folder_name(&rt)?;
     let mut vol = FolderVolume::new(rt.clone()?, alloc, folder.as_str())?;
     for line in rt.lines(alloc) {
         make_call(&rt, &mut vol, line?.as_str())?;

@@ -100,8 +100,29 @@ fn image(
     Ok(None)
 }
 
-/// Of the images of the two newest versions with a start, how many are opened as reckoned with at least so many leaves; and how many
-/// there are.
+/// Of the images of the two newest versions with a start and an end, how many are opened as reckoned with at least so many leaves;
+/// and how many there are.
+fn count_at<F: Family>(
+    alloc: Global,
+    vol: &MemoryVolume,
+    roots: &[Sha256Digest],
+    durable: u64,
+    start: u64,
+    end: u64,
+) -> Result<(u64, u64), TableError> {
+    let (mut same, mut all) = (0u64, 0u64);
+    for version in 0..2 {
+        if let Some(left) = image(alloc, vol, version, start, end)? {
+            all = all.saturating_add(1);
+            if is_as_reckoned::<F>(alloc, left, roots, durable)? {
+                same = same.saturating_add(1);
+            }
+        }
+    }
+    Ok((same, all))
+}
+
+/// The same of those with a start.
 fn count_from<F: Family>(
     alloc: Global,
     vol: &MemoryVolume,
@@ -111,14 +132,9 @@ fn count_from<F: Family>(
 ) -> Result<(u64, u64), TableError> {
     let (mut same, mut all) = (0u64, 0u64);
     for end in start..MOST_NODES {
-        for version in 0..2 {
-            if let Some(left) = image(alloc, vol, version, start, end)? {
-                all = all.saturating_add(1);
-                if is_as_reckoned::<F>(alloc, left, roots, durable)? {
-                    same = same.saturating_add(1);
-                }
-            }
-        }
+        let (some, more) = count_at::<F>(alloc, vol, roots, durable, start, end)?;
+        same = same.saturating_add(some);
+        all = all.saturating_add(more);
     }
     Ok((same, all))
 }

@@ -83,6 +83,24 @@ fn count_to<F: Family>(
     Ok((same, all))
 }
 
+/// The same of all ranges from a leaf on, in the tree of so many first leaves.
+fn count_in<F: Family>(
+    alloc: Global,
+    vol: &mut MemoryVolume,
+    tree: &Tree<F>,
+    first: u8,
+    leaves: u8,
+) -> Result<(u64, u64), TableError> {
+    let (mut same, mut all) = (0u64, 0u64);
+    let mem = memory::<F>(alloc, leaves)?;
+    for end in first..leaves.saturating_add(1) {
+        let (some, more) = count_to(vol, tree, &mem, first, end)?;
+        same = same.saturating_add(some);
+        all = all.saturating_add(more);
+    }
+    Ok((same, all))
+}
+
 /// As many of the ranges from a leaf on, in the tree of each number of first leaves.
 fn count_proofs<F: Family>(
     alloc: Global,
@@ -92,12 +110,9 @@ fn count_proofs<F: Family>(
 ) -> Result<(u64, u64), TableError> {
     let (mut same, mut all) = (0u64, 0u64);
     for leaves in first..LEAVES + 1 {
-        let mem = memory::<F>(alloc, leaves)?;
-        for end in first..leaves + 1 {
-            let (some, more) = count_to(vol, tree, &mem, first, end)?;
-            same = same.saturating_add(some);
-            all = all.saturating_add(more);
-        }
+        let (some, more) = count_in(alloc, vol, tree, first, leaves)?;
+        same = same.saturating_add(some);
+        all = all.saturating_add(more);
     }
     Ok((same, all))
 }

@@ -2,7 +2,7 @@
 use crate::error::TableError;
 use crate::stores::{Store, at_last_match, items};
 use auth_journal::{Journal, init_sync};
-use codec_base::encode;
+use codec_base::{Write, encode};
 use journal_base::{Contiguous, Mutable};
 use memory_volume::MemoryVolume;
 use std::alloc::Global;
@@ -41,6 +41,14 @@ fn driven<M: Mutable>(
     Ok(log)
 }
 
+/// Prints items by their bytes.
+fn print_items<T: Write>(rt: &impl Print, alloc: Global, items: &[T]) -> Result<(), TableError> {
+    for item in items {
+        print!(rt; " {}", hex::encode(alloc, encode(alloc, item)?.as_slice())?)?;
+    }
+    Ok(())
+}
+
 /// Prints a proof of items, and these.
 fn print_items_proof<F: Family, C: Store>(
     rt: &impl Print,
@@ -52,9 +60,7 @@ fn print_items_proof<F: Family, C: Store>(
     let two = NonZeroU64::new(2).ok_or(TableError::Journal)?;
     let (proof, items) = journal.proof(vol, Location::new(start), two, 0)?;
     print!(rt; "  items from {start}:")?;
-    for item in &items {
-        print!(rt; " {}", hex::encode(alloc, encode(alloc, item)?.as_slice())?)?;
-    }
+    print_items(rt, alloc, &items)?;
     print!(rt; " in {} leaves:", proof.leaves.as_u64())?;
     for digest in proof.digests.as_slice() {
         print!(rt; " {}", hex::encode(alloc, digest.as_slice())?)?;

@@ -61,6 +61,24 @@ fn picked(
     Ok(left.log_bounds(log)?)
 }
 
+/// Adds the images of a version of a log that begin at a place and end between two.
+fn add_parts(
+    alloc: Global,
+    vol: &MemoryVolume,
+    log: &str,
+    least: Part,
+    most: u64,
+    parts: &mut Vec<Part>,
+) -> Result<(), TableError> {
+    for end in least.end..most.saturating_add(1) {
+        let part = Part { end, ..least };
+        if picked(alloc, vol, log, part)? == (part.start, end) {
+            parts.push(part)?;
+        }
+    }
+    Ok(())
+}
+
 /// The images of a version of a log: those between the least that a choice picks and the greatest.
 fn parts_of(
     alloc: Global,
@@ -82,16 +100,12 @@ fn parts_of(
     let (first, fewest) = picked(alloc, vol, log, least)?;
     let (last, most) = picked(alloc, vol, log, greatest)?;
     for start in first..last.saturating_add(1) {
-        for end in start.max(fewest)..most.saturating_add(1) {
-            let part = Part {
-                version,
-                start,
-                end,
-            };
-            if picked(alloc, vol, log, part)? == (start, end) {
-                parts.push(part)?;
-            }
-        }
+        let part = Part {
+            version,
+            start,
+            end: start.max(fewest),
+        };
+        add_parts(alloc, vol, log, part, most, parts)?;
     }
     Ok(())
 }
@@ -129,6 +143,28 @@ fn is_as_reckoned<F: Family, C: Store>(
     Ok(same && least <= end)
 }
 
+/// Opens an image of the log of items beside each of these of the node log.
+fn count_beside<F: Family, C: Store>(
+    alloc: Global,
+    vol: &MemoryVolume,
+    roots: &[Sha256Digest],
+    least: u64,
+    items: Part,
+    nodes: &[Part],
+) -> Result<Counted, TableError> {
+    let mut counted = Counted { same: 0, all: 0 };
+    for part in nodes {
+        let one = choice(alloc, "items", items)?;
+        let two = choice(alloc, "nodes", *part)?;
+        let left = vol.crash(&[one, two])?;
+        counted.all = counted.all.saturating_add(1);
+        if is_as_reckoned::<F, C>(alloc, left, roots, least)? {
+            counted.same = counted.same.saturating_add(1);
+        }
+    }
+    Ok(counted)
+}
+
 /// Opens each image of the log of items beside each of the node log.
 pub(crate) fn count_images<F: Family, C: Store>(
     alloc: Global,
@@ -139,15 +175,9 @@ pub(crate) fn count_images<F: Family, C: Store>(
     let mut counted = Counted { same: 0, all: 0 };
     let nodes = parts(alloc, vol, "nodes")?;
     for items in parts(alloc, vol, "items")? {
-        for part in &nodes {
-            let one = choice(alloc, "items", items)?;
-            let two = choice(alloc, "nodes", *part)?;
-            let left = vol.crash(&[one, two])?;
-            counted.all = counted.all.saturating_add(1);
-            if is_as_reckoned::<F, C>(alloc, left, roots, least)? {
-                counted.same = counted.same.saturating_add(1);
-            }
-        }
+        let more = count_beside::<F, C>(alloc, vol, roots, least, items, &nodes)?;
+        counted.same = counted.same.saturating_add(more.same);
+        counted.all = counted.all.saturating_add(more.all);
     }
     Ok(counted)
 }

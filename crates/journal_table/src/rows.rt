@@ -89,6 +89,20 @@ fn print_none<F: Family, C: Store>(
     print_opened::<F, C>(rt, alloc, at_last_match(alloc, &mut vol)?)
 }
 
+/// Opens a log at the last match under each cap.
+fn print_capped<F: Family, C: Store>(
+    rt: &impl Print,
+    alloc: Global,
+    vol: &MemoryVolume,
+) -> Result<(), TableError> {
+    for cap in 0..ITEMS + 2 {
+        let mut copy = vol.crash(&[])?;
+        print!(rt; "  at most {cap}: ")?;
+        print_opened::<F, C>(rt, alloc, at_most(alloc, &mut copy, u64::from(cap))?)?;
+    }
+    Ok(())
+}
+
 /// Opens at the last match under each cap, of each pruned log of five items with these matches.
 fn print_matches<F: Family, C: Store>(
     rt: &impl Print,
@@ -105,11 +119,7 @@ fn print_matches<F: Family, C: Store>(
         )?;
         let mut copy = vol.crash(&[])?;
         print_opened::<F, C>(rt, alloc, at_last_match(alloc, &mut copy)?)?;
-        for cap in 0..ITEMS + 2 {
-            let mut copy = vol.crash(&[])?;
-            print!(rt; "  at most {cap}: ")?;
-            print_opened::<F, C>(rt, alloc, at_most(alloc, &mut copy, u64::from(cap))?)?;
-        }
+        print_capped::<F, C>(rt, alloc, &vol)?;
     }
     Ok(())
 }
@@ -128,16 +138,26 @@ fn joined<F: Family, C: Store>(
     Ok(Journal::from_components(alloc, &mut vol, tree, log, hasher(), piece))
 }
 
+fn print_joined_to<F: Family, C: Store>(
+    rt: &impl Print,
+    alloc: Global,
+    name: &str,
+    leaves: u8,
+) -> Result<(), TableError> {
+    for count in 0..5 {
+        print!(rt; "{name} of {leaves} leaves and {count} items: ")?;
+        print_opened::<F, C>(rt, alloc, joined(alloc, leaves, count)?)?;
+    }
+    Ok(())
+}
+
 fn print_joined<F: Family, C: Store>(
     rt: &impl Print,
     alloc: Global,
     name: &str,
 ) -> Result<(), TableError> {
     for leaves in 0..5 {
-        for count in 0..5 {
-            print!(rt; "{name} of {leaves} leaves and {count} items: ")?;
-            print_opened::<F, C>(rt, alloc, joined(alloc, leaves, count)?)?;
-        }
+        print_joined_to::<F, C>(rt, alloc, name, leaves)?;
     }
     Ok(())
 }

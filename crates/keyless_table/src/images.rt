@@ -127,6 +127,21 @@ fn find_ends<F: Family, O: Kind, C: Store<Item = O>>(
     Ok(())
 }
 
+/// Finds how images of the two newest versions of the log of operations open, beside an image of the node log.
+fn find_versions<F: Family, O: Kind, C: Store<Item = O>>(
+    alloc: Global,
+    vol: &MemoryVolume,
+    whole: &[Stop],
+    ends: (u64, u64),
+    nodes: (u64, u64),
+    found: &mut Found,
+) -> Result<(), TableError> {
+    for version in [0, 1] {
+        find_ends::<F, O, C>(alloc, vol, whole, ends, version, nodes, found)?;
+    }
+    Ok(())
+}
+
 /// Finds how images of the two newest versions of the log of operations open, beside the whole node log and a part of
 /// it that may be older, where the history stopped in a step.
 pub(crate) fn find_images<F: Family, O: Kind, C: Store<Item = O>>(
@@ -139,10 +154,7 @@ pub(crate) fn find_images<F: Family, O: Kind, C: Store<Item = O>>(
 ) -> Result<(), TableError> {
     let most = whole.get(step).map_or(least, |stop| stop.size);
     for nodes in [(0, NODES), (1, 0)] {
-        for version in [0, 1] {
-            let ends = (least, most);
-            find_ends::<F, O, C>(alloc, vol, whole, ends, version, nodes, found)?;
-        }
+        find_versions::<F, O, C>(alloc, vol, whole, (least, most), nodes, found)?;
     }
     Ok(())
 }

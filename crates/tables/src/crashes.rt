@@ -35,6 +35,14 @@ fn history<V: Volume>(alloc: Global, vol: &mut V) -> Result<(), TableError> {
     Ok(())
 }
 
+/// Prints the bytes of an item.
+fn print_item(rt: &impl Print, item: &[u8]) -> Result<(), TableError> {
+    for byte in item {
+        print!(rt; " {byte}")?;
+    }
+    Ok(())
+}
+
 /// Prints a choice, and the start and the items of the image that it picks.
 fn print_image(
     rt: &impl Print,
@@ -56,11 +64,36 @@ fn print_image(
     print!(rt; "{version} {start} {end} {from}")?;
     for position in from..to {
         let item = left.log_read("a", position)?;
-        for byte in item.as_slice() {
-            print!(rt; " {byte}")?;
-        }
+        print_item(rt, item.as_slice())?;
     }
     println!(rt)?;
+    Ok(())
+}
+
+/// Prints a line for each choice of a version with a start.
+fn print_ends(
+    rt: &impl Print,
+    alloc: Global,
+    vol: &MemoryVolume,
+    version: u64,
+    start: u64,
+) -> Result<(), TableError> {
+    for end in 2..7 {
+        print_image(rt, alloc, vol, version, start, end)?;
+    }
+    Ok(())
+}
+
+/// Prints a line for each choice of a version.
+fn print_version(
+    rt: &impl Print,
+    alloc: Global,
+    vol: &MemoryVolume,
+    version: u64,
+) -> Result<(), TableError> {
+    for start in 0..4 {
+        print_ends(rt, alloc, vol, version, start)?;
+    }
     Ok(())
 }
 
@@ -69,11 +102,7 @@ pub(crate) fn print_crashes(rt: &impl Print, alloc: Global) -> Result<(), TableE
     let mut vol = MemoryVolume::new(alloc);
     history(alloc, &mut vol)?;
     for version in 0..7 {
-        for start in 0..4 {
-            for end in 2..7 {
-                print_image(rt, alloc, &vol, version, start, end)?;
-            }
-        }
+        print_version(rt, alloc, &vol, version)?;
     }
     Ok(())
 }

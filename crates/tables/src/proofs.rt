@@ -172,6 +172,18 @@ fn add_histories<F: Family>(
     Ok(())
 }
 
+/// Adds what is found of the histories of a tree.
+fn add_all_histories<F: Family>(
+    alloc: Global,
+    tree: &Mem<F, Sha256Digest>,
+    totals: &mut Totals,
+) -> Result<(), TableError> {
+    for fewer in 0..LEAVES {
+        add_histories(alloc, tree, totals, fewer + 1)?;
+    }
+    Ok(())
+}
+
 /// Prints the lines of the small trees, and what was found.
 pub(crate) fn print_proofs<F: Family>(
     rt: &impl Print,
@@ -184,8 +196,6 @@ pub(crate) fn print_proofs<F: Family>(
         append(&mut tree, element)?;
         print_tree(rt, alloc, name, &tree, &mut totals)?;
     }
-    for fewer in 0..LEAVES {
-        add_histories(alloc, &tree, &mut totals, fewer + 1)?;
-    }
+    add_all_histories(alloc, &tree, &mut totals)?;
     totals.print(rt, alloc, name)
 }

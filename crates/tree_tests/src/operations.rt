@@ -195,6 +195,10 @@ fn fixed_encodings_are_refused_by_their_first_fault(rt: HostRuntime) {
     ] {
         assert!(rt; refusal::<KeyedNumbers>(rt.alloc(), bytes, &((), ())) == Some(want));
     }
+}
+
+#[test]
+fn fixed_commits_are_refused_by_their_first_fault(rt: HostRuntime) {
     for (option, zero, floor, want) in COMMITS {
         let mut bytes = [0u8; 18];
         bytes[1] = option;

@@ -114,12 +114,17 @@ const REFUSED: [Row; 15] = [
 ];
 
 #[test]
-fn proofs_from_outside_are_accepted_and_others_refused(rt: HostRuntime) -> Result<(), Fail> {
-    for row in ACCEPTED {
-        assert!(rt; shown::<Mmr>(rt.alloc(), row)?);
-    }
+fn other_proofs_are_refused(rt: HostRuntime) -> Result<(), Fail> {
     for row in REFUSED {
         assert!(rt; !shown::<Mmr>(rt.alloc(), row)?);
+    }
+    Ok(())
+}
+
+#[test]
+fn proofs_from_outside_are_accepted(rt: HostRuntime) -> Result<(), Fail> {
+    for row in ACCEPTED {
+        assert!(rt; shown::<Mmr>(rt.alloc(), row)?);
     }
     let belt: Row = (false, (5, 1, FIVE), 3, b"de", &[PAIR, THIRD]);
     assert!(rt; shown::<Mmb>(rt.alloc(), belt)?);

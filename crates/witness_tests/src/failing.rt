@@ -123,6 +123,16 @@ fn each_is_run(alloc: Global, call: Call, n: u64) -> Result<bool, Fail> {
     Ok(true)
 }
 
+/// Whether it is so with each call of the volume failed in turn.
+fn each_is_run_wherever_it_fails(alloc: Global, call: Call) -> Result<bool, Fail> {
+    for n in 0..7 {
+        if !each_is_run(alloc, call, n)? {
+            return Ok(false);
+        }
+    }
+    Ok(true)
+}
+
 #[test]
 fn each_image_has_what_is_durable(rt: HostRuntime) -> Result<(), Fail> {
     for call in [
@@ -132,9 +142,7 @@ fn each_image_has_what_is_durable(rt: HostRuntime) -> Result<(), Fail> {
         Call::StartSync,
         Call::Prune,
     ] {
-        for n in 0..7 {
-            assert!(rt; each_is_run(rt.alloc(), call, n)?);
-        }
+        assert!(rt; each_is_run_wherever_it_fails(rt.alloc(), call)?);
     }
     Ok(())
 }
