@@ -1,15 +1,15 @@
 -- What a crash leaves while a log gets its first commit.
-use Rattle.std.proofs.Common.{◌≡◌, ℕ, List, [], ◌∷◌, map, Ok, sym, subst}
+use Rattle.std.proofs.Common.{◌≡◌, ◌≤◌, ℕ, List, [], ◌∷◌, map, take, Ok, sym, subst, arith}
 use Rattle.std.specs.Prelude.{Result, OnOk}
 use Rattle.volume_base.specs.Moments.{Image, Keeps, NamesLeft, Now, Steps}
 use Rattle.volume_base.specs.Names.{two_logs_and_map}
 use Rattle.volume_base.specs.Volume.{State}
-use Rattle.volume_base.proofs.BoundLemmas.{part_of_longer}
-use Rattle.volume_base.proofs.TurnLemmas.{keeps_weaker, names_back, now_after, steps_after, steps_of_keeps, steps_of_turns}
+use Rattle.volume_base.proofs.BoundLemmas.{part_of_longer, part_wider}
+use Rattle.volume_base.proofs.TurnLemmas.{names_back, now_after, steps_after, steps_of_keeps, steps_of_turns}
 use Rattle.tree_shape.specs.Hashing.{Hashing}
 use Rattle.tree_shape.specs.Shape.{Shape, IsLawful}
 use Rattle.tree_store.specs.Stored.{TreeStands}
-use Rattle.tree_store.proofs.StoredLemmas.{stands_longer}
+use Rattle.tree_store.proofs.StoredLemmas.{stands_longer, stands_wider}
 use Rattle.auth_journal.specs.Batched.{leaves_from}
 use Rattle.auth_journal.specs.Joined.{Joined, leaves_of}
 use Rattle.auth_journal.specs.Standing.{Marks, NamesStand, StepsStanding, KeepsStanding, all_synced}
@@ -72,20 +72,30 @@ module _ {D Op : Type 0} (s : Shape) (h : Hashing D) (digest : D → List ℕ) (
       → BeginsStanding s h digest spelling first marks x y z a b result
   begins_like x y z a b below result like did has = steps_like (NamesLeft (two_logs_and_map x y z)) (One x y z) (Settled x y z) a b below result like (did has)
 
-  -- behind a call over which it stands for no operation
-  pub begins_behind : {T E : Type 0} (w : IsLawful s) (x y z x' y' z' : List ℕ) (a b c : State) (result : Result T E) → x' ≡ x → y' ≡ y → z' ≡ z
-      → Keeps (NamesLeft (two_logs_and_map x y z)) (Empty x y z) a b → BeginsStanding s h digest spelling first marks x' y' z' b c result
+  -- what stands for no operation, of which nothing is durable, does so whatever the marks
+  pub emptied : (n : ℕ) (x y z : List ℕ) (b : State) → n ≡ 0 → marks.durable ≤ n → marks.node_durable ≤ n
+      → Now (NamesLeft (two_logs_and_map x y z)) (NamesStand s h digest spelling (take n (first ∷ [])) (all_synced n marks) x y z) b
+      → Now (NamesLeft (two_logs_and_map x y z)) (Empty x y z) b
+  emptied n x y z b none durable nodes has image at =
+      let is = subst (λ (k : ℕ). NamesStand s h digest spelling (take k (first ∷ [])) (all_synced k marks) x y z image) none (has image at) in
+      record {
+        items = part_wider [] marks.prune marks.prune 0 marks.durable (image.log x) (omega arith) (omega (arith, durable, none)) is.items;
+        tree = stands_wider s h digest (leaves_of s h spelling (let nil : List Op = [] in nil)) 0 marks.node_durable (image.log x).start (image.log x).start (image.log y) (image.map z) (omega (arith, nodes, none)) (omega arith) is.tree;
+      }
+
+  -- behind a call over which it stands for the commit, and which leaves what stands for no operation
+  pub begins_behind : {T E : Type 0} (x y z x' y' z' : List ℕ) (a b c : State) (result : Result T E) → x' ≡ x → y' ≡ y → z' ≡ z
+      → Keeps (NamesLeft (two_logs_and_map x y z)) (One x y z) a b → Now (NamesLeft (two_logs_and_map x y z)) (Empty x y z) b
+      → BeginsStanding s h digest spelling first marks x' y' z' b c result
       → Steps (NamesLeft (two_logs_and_map x y z)) (One x y z) (Settled x y z) a c result
-  begins_behind {T = T} {E = E} w x y z x' y' z' a b c result one two three ab did =
+  begins_behind {T = T} {E = E} x y z x' y' z' a b c result one two three ab has did =
       let S : List ℕ → List ℕ → List ℕ → Type 0 = λ m n p. BeginsStanding s h digest spelling first marks m n p b c result in
       let here = subst (λ (m : List ℕ). S m y z) one (subst (λ (n : List ℕ). S x' n z) two (subst (λ (p : List ℕ). S x' y' p) three did)) in
       let names = two_logs_and_map x y z in
-      steps_after (NamesLeft names) (names_back names) (One x y z) (Settled x y z) a b c result
-      (keeps_weaker (NamesLeft names) (Empty x y z) (One x y z) a b (one_stands w x y z) ab) (here (now_after (NamesLeft names) (Empty x y z) a b ab))
+      steps_after (NamesLeft names) (names_back names) (One x y z) (Settled x y z) a b c result ab (here has)
 
   -- nothing is called
-  pub begins_none : {T E : Type 0} (w : IsLawful s) (x y z : List ℕ) (a b : State) (result : Result T E) → OnOk result ⊥ → Keeps (NamesLeft (two_logs_and_map x y z)) (Empty x y z) a b
+  pub begins_none : {T E : Type 0} (x y z : List ℕ) (a b : State) (result : Result T E) → OnOk result ⊥ → Keeps (NamesLeft (two_logs_and_map x y z)) (One x y z) a b
       → Steps (NamesLeft (two_logs_and_map x y z)) (One x y z) (Settled x y z) a b result
-  begins_none w x y z a b result failed ab =
-      let names = two_logs_and_map x y z in
-      steps_of_keeps (NamesLeft names) (One x y z) (Settled x y z) a b result failed (keeps_weaker (NamesLeft names) (Empty x y z) (One x y z) a b (one_stands w x y z) ab)
+  begins_none x y z a b result failed ab =
+      steps_of_keeps (NamesLeft (two_logs_and_map x y z)) (One x y z) (Settled x y z) a b result failed ab

@@ -111,3 +111,10 @@ BeginsStanding s h digest spelling first marks items nodes metadata old new resu
     Now (NamesLeft (two_logs_and_map items nodes metadata)) (NamesStand s h digest spelling [] marks items nodes metadata) old →
     Steps (NamesLeft (two_logs_and_map items nodes metadata)) (NamesStand s h digest spelling (first ∷ []) marks items nodes metadata)
     (NamesStand s h digest spelling (first ∷ []) (all_synced 1 marks) items nodes metadata) old new result
+
+-- The same where what a crash leaves may have this commit already, though the log has it not.
+abbrev pub BecomesStanding : {T E D Op : Type 0} → Shape → Hashing D → (D → List ℕ) → (Op → List ℕ) → Op → Marks → List ℕ → List ℕ → List ℕ → State → State → Result T E → Type 0
+BecomesStanding s h digest spelling first marks items nodes metadata old new result =
+    Now (NamesLeft (two_logs_and_map items nodes metadata)) (NamesStand s h digest spelling (first ∷ []) marks items nodes metadata) old →
+    Steps (NamesLeft (two_logs_and_map items nodes metadata)) (NamesStand s h digest spelling (first ∷ []) marks items nodes metadata)
+    (NamesStand s h digest spelling (first ∷ []) (all_synced 1 marks) items nodes metadata) old new result

@@ -58,7 +58,7 @@ impl<F: Family, O: KeylessOperation, C: Backing<Item = O>, H: Hasher> Keyless<F,
     ghost use Rattle.chain_core.specs.declared.error.DataFault.TheVariants.{NotACommit};
     ghost use Rattle.keyless_db.specs.DbView.{IsHeldFor};
     ghost use Rattle.keyless_db.specs.Errors.{IsFromJoined};
-    ghost use Rattle.keyless_db.specs.Opening.{BeginsStanding, EndsHere, EndsPast, GoesOn, HasOpening, IsBuiltAt, KeepsDurable, IsHeldFrom, IsInitOf, IsOfOpening, IsOpenedOf, IsSaidCommit, NotBuilt, NotListed};
+    ghost use Rattle.keyless_db.specs.Opening.{BecomesStanding, BeginsStanding, EndsHere, EndsPast, GoesOn, HasOpening, IsBuiltAt, KeepsDurable, IsHeldFrom, IsInitOf, IsOfOpening, IsOpenedOf, IsSaidCommit, NotBuilt, NotListed};
 
     /// The log and the tree up to the last commit at or below a size, or up to the last of all.
     fn open_journal<V: Volume>(
@@ -369,12 +369,12 @@ impl<F: Family, O: KeylessOperation, C: Backing<Item = O>, H: Hasher> Keyless<F,
         // An empty log past 0 isn't opened.
         ensures past { let log = log_of (C.config cfg.log) (V.state vol.old) in
             IfOk result (λ d. V.tells → log.start ≡ end_of log → log.start ≡ 0) }
-        // Where the log has no operation, and begins at 0, each image goes on standing for the first commit alone, and
-        // from a turn on that is durable.
+        // Where the log has no operation, and begins at 0, each image that stands for the first commit alone, or for no
+        // operation, goes on standing for that commit, and from a turn on that is durable.
         ensures begins { let old = V.state vol.old in let view = C.config cfg.log in
             let items = items_of O.spelling O.admits view old in V.tells → (marks : Marks) → max_size ≢ Some 0 →
             KeepsDurable O.meaning items max_size marks → Spells O.spelling [] (log_of view old) →
-            BeginsStanding F.shape H.hash H.Digest.spelling O.spelling (O.committed None 0) marks view.name
+            BecomesStanding F.shape H.hash H.Digest.spelling O.spelling (O.committed None 0) marks view.name
             (string_bytes cfg.merkle.nodes) (string_bytes cfg.merkle.metadata) old (V.state vol.new) result }
         // Where it is opened past 0, and keeps all that is durable, each image of both logs and the map goes on
         // standing for the list that the log stood for, or for that with more operations behind it, which an image may

@@ -1,4 +1,4 @@
-use Rattle.std.proofs.Common.{◌≡◌, ◌<◌, ◌++◌, ◌∙◌, ℕ, List, [], length, map, take, get_or, None, Err, inl, inr, sym, ap, subst, arith}
+use Rattle.std.proofs.Common.{◌≡◌, ◌<◌, ◌++◌, ◌∙◌, ℕ, List, [], ◌∷◌, length, map, take, get_or, None, Err, inl, inr, sym, ap, subst, arith}
 use Rattle.std.specs.Prelude.{Result}
 use Rattle.std.specs.Prelude.{string_bytes}
 use Rattle.std.specs.List.{AllByRecursion}
@@ -18,7 +18,7 @@ use Rattle.chain_core.specs.declared.error.Error.TheVariants.{InvalidInitializat
 use Rattle.keyless_db.specs.Opening.{EndsHere, GoesOn, IsSaidCommit}
 use Rattle.auth_journal.specs.Joined.{IsJoinedOf}
 use Rattle.auth_journal.proofs.ReadingLemmas.{run_end}
-use Rattle.keyless_db.proofs.BeginningLemmas.{begins_behind, begins_none}
+use Rattle.keyless_db.proofs.BeginningLemmas.{begins_behind, begins_none, emptied}
 use Rattle.keyless_db.proofs.LocationLemmas.{nothing_taken}
 use Rattle.keyless_db.proofs.ListedLemmas.{ends_within, listed_outside}
 use Rattle.keyless_db.proofs.ReadLemmas.{all_at}
@@ -225,7 +225,8 @@ returns-in-Err-open_journal-clause-begins g c tells marks some within run has =
     let metadata = string_bytes c.args.cfg.merkle.metadata in
     let old = g.V.Volume.state c.args.vol.now in
     let mid = g.V.Volume.state c.open_journal.new.vol in
-    begins_none g.F.Family.shape g.H.Hasher.hash g.H.Digest.Spelled.spelling g.O.Spelled.spelling (g.O.KeylessOperation.committed None 0) marks g.met.F.Family.lawful view.name nodes metadata old mid _ tt (c.in-Err-open_journal.ensures.images tells [] [] marks within run (omega arith) has)
+    begins_none g.F.Family.shape g.H.Hasher.hash g.H.Digest.Spelled.spelling g.O.Spelled.spelling (g.O.KeylessOperation.committed None 0) marks view.name nodes metadata old mid _ tt
+    (c.in-Err-open_journal.ensures.images tells [] (g.O.KeylessOperation.committed None 0 ∷ []) marks within run (omega arith) has)
 
 pub returns-in-Ok-open_journal-clause-begins : goal.returns-in-Ok-open_journal-clause-begins
 returns-in-Ok-open_journal-clause-begins g c tells marks some within run has =
@@ -243,9 +244,13 @@ returns-in-Ok-open_journal-clause-begins g c tells marks some within run has =
     let ends = run_end g.O.Spelled.spelling [] (old.log view.name) run in
     let reach = ends_within g.O.Logged.meaning items c.args.max_size j.items.end (opened.found tells) in
     let zero : j.items.end ≡ 0 = omega (arith, ends, reach) in
-    let listed = opened.listed tells [] [] marks.node_durable run (omega arith) here.tree in
+    let first = g.O.KeylessOperation.committed None 0 in
+    let kept = within j.items.end (opened.found tells) in
+    let listed = opened.listed tells [] (first ∷ []) marks.node_durable run (omega arith) here.tree in
+    let gone = emptied g.F.Family.shape g.H.Hasher.hash g.H.Digest.Spelled.spelling g.O.Spelled.spelling first marks j.items.end view.name nodes metadata mid zero kept.0 kept.1
+    (opened.settled tells [] (first ∷ []) marks within run (omega arith) has) in
     let none : take j.items.end (let nil : List g.row.O.Denot = [] in nil) ≡ [] = ap (λ n. take n (let nil : List g.row.O.Denot = [] in nil)) zero ∙ nothing_taken [] in
     let empty = subst (λ (xs : List g.row.O.Denot). IsJoinedOf g.F.Family.shape g.H.Hasher.hash g.H.Digest.Spelled.spelling (g.H.Digest.Read.admits tt) g.O.Spelled.spelling xs j (present mid)) none listed.joined in
-    begins_behind g.F.Family.shape g.H.Hasher.hash g.H.Digest.Spelled.spelling g.O.Spelled.spelling (g.O.KeylessOperation.committed None 0) marks g.met.F.Family.lawful view.name nodes metadata j.items.name j.tree.log.name j.tree.metadata old mid new c.opened_from.result
+    begins_behind g.F.Family.shape g.H.Hasher.hash g.H.Digest.Spelled.spelling g.O.Spelled.spelling (g.O.KeylessOperation.committed None 0) marks view.name nodes metadata j.items.name j.tree.log.name j.tree.metadata old mid new c.opened_from.result
     (ap (λ (n : Names). get_or n.logs 0 []) opened.joined) (ap (λ (n : Names). get_or n.logs 1 []) opened.joined) (ap (λ (n : Names). get_or n.maps 0 []) opened.joined)
-    (opened.images tells [] [] marks within run (omega arith) has) (c.opened_from.ensures.begins tells marks zero empty)
+    (opened.images tells [] (first ∷ []) marks within run (omega arith) has) gone (c.opened_from.ensures.begins tells marks zero empty)
