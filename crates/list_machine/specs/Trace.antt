@@ -21,6 +21,11 @@ abbrev pub state_after : Config → State Operation → List Command → State O
 state_after config s [] = s
 state_after config s (c ∷ cs) = state_after config (step config s c).1 cs
 
+-- The states that these commands pass, from the one before the first to the one behind the last.
+abbrev pub states_from : Config → State Operation → List Command → List (State Operation)
+states_from config s [] = s ∷ []
+states_from config s (c ∷ cs) = s ∷ states_from config (step config s c).1 cs
+
 -- The lists of the log and of the sealed batches, in each state that these commands pass.
 abbrev pub lists_passed : Config → State Operation → List Command → List (List Operation)
 lists_passed config s [] = lists_here s

@@ -71,6 +71,8 @@ pub record Kind (Db Sealed Unsealed : Type 0) : Type 1 where
   pub is_synced : Db → volume.State → Type 0
   -- the logs and maps that it keeps on a volume
   pub names : Db → Names
+  -- what an image has of these stands for what a crash may leave of a state
+  pub stands : State Operation → Db → Image → Type 0
   -- the states and the floor are the lists'
   pub state_is : (kept : Kept) (image : Image) (db : Db) → is_of kept image db → state db ≡ commitment_of kept.ops
   pub floor_is : (kept : Kept) (image : Image) (db : Db) → is_of kept image db → floor db ≡ floor_of meaning kept.ops

@@ -3,3 +3,4 @@ pub mod About
 pub mod StateOf
 pub mod Leaving
 pub mod Durability
+pub mod Standing

@@ -144,7 +144,7 @@ module _ (tells : Type 0) (db : CompactView) (old new : State) where
 -- ---- the first size that is at least another
 
 -- it is found again behind those that are dropped before it
-first_behind : (l w : ℕ) (ns : List ℕ) → w ≤ first_at_least l ns
+pub first_behind : (l w : ℕ) (ns : List ℕ) → w ≤ first_at_least l ns
     → w + first_at_least l (drop w ns) ≡ first_at_least l ns
 first_behind l zero ns low = omega arith
 first_behind l (suc w) [] low = absurd (omega (arith, low))
@@ -181,14 +181,14 @@ first_within l low high (n ∷ ns) rise lt le =
     either (λ (i : ℕ). i < length (n ∷ ns)) (nat_le l n) _ _ (λ e. omega arith)
     (λ e. (let rest = first_within l n high ns rise.1 (not_le l n e) le in omega (arith, rest)))
 
-first_size : (l total : ℕ) (sizes : List ℕ) → AreSizes total sizes → l ≤ total → first_at_least l sizes < length sizes
+pub first_size : (l total : ℕ) (sizes : List ℕ) → AreSizes total sizes → l ≤ total → first_at_least l sizes < length sizes
 first_size l total [] are le = absurd are
 first_size l total (n ∷ ns) are le =
     either (λ (i : ℕ). i < length (n ∷ ns)) (nat_le l n) _ _ (λ e. omega arith)
     (λ e. (let one = are.0 in let past = not_le l n e in
     let rest = first_within l 1 total ns are.1 (omega (arith, one, past)) le in omega (arith, rest)))
 
-first_gone : (l w total : ℕ) (sizes : List ℕ) → AreSizes total sizes → first_at_least l sizes ≤ w
+pub first_gone : (l w total : ℕ) (sizes : List ℕ) → AreSizes total sizes → first_at_least l sizes ≤ w
     → first_at_least l (drop w sizes) ≡ 0
 first_gone l w total [] are within = absurd are
 first_gone l w total (n ∷ ns) are within =
@@ -223,7 +223,7 @@ kept_start blob w l total sizes are le some = by (nat_le w (first_at_least l siz
 
 -- ---- what is pruned
 
-sizes_are : (ops : List Operation) (sizes : List ℕ)
+pub sizes_are : (ops : List Operation) (sizes : List ℕ)
     → sizes_of (map (witness_of {F = Mmr} mmr sha meaning ops) sizes) ≡ sizes
 sizes_are ops [] = refl
 sizes_are ops (n ∷ sizes) = ap (λ (ns : List ℕ). n ∷ ns) (sizes_are ops sizes)

@@ -5,7 +5,7 @@ use Rattle.codec_base.specs.Parts.{admits_bytes}
 use Rattle.codec_base.specs.declared.parts.LengthCfg.{LengthCfg}
 use Rattle.op_codec.specs.Keyless.{parts, variable_admits}
 use Rattle.volume_base.specs.Log.{Log}
-use Rattle.volume_base.specs.Moments.{present}
+use Rattle.volume_base.specs.Moments.{LogHas, LogKeeps, present}
 use Rattle.volume_base.specs.Names.{Names, log_alone}
 use Rattle.volume_base.specs.Volume as volume
 use Rattle.volume_base.specs.Volume.{Changes, OnlyLeft}
@@ -77,6 +77,18 @@ module _ (tells : Type 0) (config : Config) (small : config.value_limit ≤ 1677
   under_standing (Err e) refused = λ told s most is one high good stands.
       refused told s most (cap_is ∙ is) one high (open_here s good) good.ops.floors
       (subst (Stands s) (sym same_log) stands)
+
+  -- what a crash leaves of the log goes on standing for the state
+  pub under_images : (new : volume.State)
+      → (tells → (s : State Operation) (most : ℕ) → cap ≡ Some most → 1 ≤ most → s.durable ≤ most
+      → IsOpenable (Allowed codec) s → Stands s (old.log name) → LogHas old name (Stands s)
+      → LogKeeps name (Stands s) old new)
+      → tells → (s : State Operation) (most : ℕ) → given ≡ Some most → 1 ≤ most → s.durable ≤ most → Good s
+      → Stands s (old.log config.witness) → LogHas old config.witness (Stands s)
+      → LogKeeps config.witness (Stands s) old new
+  under_images new images told s most is one high good =
+      subst (λ (n : List ℕ). Stands s (old.log n) → LogHas old n (Stands s) → LogKeeps n (Stands s) old new) name_is
+      (images told s most (cap_is ∙ is) one high (open_here s good))
 
 -- ---- whatever the volume holds
 

@@ -9,6 +9,7 @@ pub mod FullOpening
 pub mod CompactRefusing
 pub mod CompactImages
 pub mod FullDurable
+pub mod FullMoments
 pub mod CompactDurable
 pub mod TreeStanding
 pub mod FullStanding
@@ -16,3 +17,5 @@ pub mod GoodStart
 pub mod KeptFronts
 pub mod WentLemmas
 pub mod CompactUnder
+pub mod CompactMoments
+pub mod OpeningMoments

@@ -14,6 +14,7 @@ use Rattle.tree_shape.specs.declared.sha256.Sha256Digest.{Sha256Digest}
 use Rattle.codec_base.specs.declared.parts.LengthCfg.{LengthCfg}
 use Rattle.log_model.specs.Good.{IsGoodLog}
 use Rattle.log_model.specs.Machine as run
+use Rattle.log_model.specs.Stored.{CompactStands}
 use Rattle.log_model.specs.Witness.{last_bytes}
 use Rattle.witness_store.specs.Witness.{text_of, IsAllowed}
 use Rattle.witness_store.specs.Witnesses.{Keeps}
@@ -123,6 +124,8 @@ compact_kind = record {
   is_durable = λ db state. IsDurable (seen_log db.log) state;
   is_synced = λ db state. IsDurable (seen_log db.log) state;
   names = λ db. log_alone (seen_log db.log).name;
+  stands = λ s db image. CompactStands mmr sha bytes_of meaning s.ops s.sizes s.prune s.durable
+      (image.log (seen_log db.log).name);
   state_is = λ kept image db is.
       state_of_list mmr sha meaning kept.ops db.tip db.tree db.commit is.held.list (commitment_in db) refl refl;
   floor_is = λ kept image db is.

@@ -15,6 +15,7 @@ use Rattle.codec_base.specs.declared.parts.LengthCfg.{LengthCfg}
 use Rattle.tree_store.specs.Stored.{TreeStands, size}
 use Rattle.op_codec.specs.Keyless.{parts, variable_admits}
 use Rattle.log_model.specs.Opening.{last_commit}
+use Rattle.log_model.specs.Stored.{FullStands}
 use Rattle.merkle_full.proofs.FullLemmas.{full_later}
 use Rattle.auth_journal.specs.Joined.{leaves_of}
 use Rattle.auth_journal.specs.Standing.{names_of}
@@ -141,6 +142,8 @@ full_kind = record {
   is_durable = λ db state. IsDurable db.journal.items state;
   is_synced = λ db state. IsDurable db.journal.items state × IsDurable db.journal.tree.log state;
   names = λ db. names_of db.journal;
+  stands = λ s db image. FullStands mmr sha bytes_of meaning s.ops s.prune s.durable s.node_durable
+      (image.log db.journal.items.name) (image.log db.journal.tree.log.name) (image.map db.journal.tree.metadata);
   state_is = λ kept image db is. is.held.db_of.state_is;
   floor_is = λ kept image db is. floor_of_list mmr sha meaning meaning.encoding kept.ops db is.held.db_of;
   bounded = λ list x is. is.0.batch.bounds;

@@ -2,3 +2,4 @@ pub mod OpeningErrors
 pub mod CompactKind
 pub mod FullKind
 pub mod Reopening
+pub mod Standing

@@ -10,7 +10,7 @@ ghost use Rattle.log_model.specs.Stored.{CompactStands};
 ghost use Rattle.tree_shape.specs.Mmr.{mmr};
 ghost use Rattle.tree_shape.specs.Sha256Codec.{bytes_of};
 ghost use Rattle.tree_shape.specs.declared.sha256.Sha256Digest.{Sha256Digest};
-ghost use Rattle.volume_base.specs.Moments.{present};
+ghost use Rattle.volume_base.specs.Moments.{present, LogHas, LogKeeps};
 ghost use Rattle.volume_base.specs.Names.{NamesCall};
 ghost use Rattle.volume_base.specs.Volume.{Changes};
 ghost use Rattle.list_machine.specs.Operation.{Operation, meaning, sha};
@@ -82,6 +82,13 @@ pub fn open_compact_under<V: Volume>(
         IsGood meaning AnyList (λ (v : List ℕ). length v ≤ config.now.value_limit) plain_commit s →
         CompactStands mmr sha bytes_of meaning s.ops s.sizes s.prune s.durable
         ((V.state volume.old).log config.now.witness) → IsOutside e) }
+    // Under such a cap, where each log that a crash leaves stands for the state, so it does at each moment of the call.
+    ensures images { V.tells → let name = config.now.witness in (s : State Operation) (most : ℕ) →
+        cap ≡ Some most → 1 ≤ most → s.durable ≤ most →
+        IsGood meaning AnyList (λ (v : List ℕ). length v ≤ config.now.value_limit) plain_commit s →
+        let stands = CompactStands mmr sha bytes_of meaning s.ops s.sizes s.prune s.durable in
+        stands ((V.state volume.old).log name) → LogHas (V.state volume.old) name stands →
+        LogKeeps name stands (V.state volume.old) (V.state volume.new) }
     // Whatever the volume holds, it fails by one of these alone; its log keeps a front that ends with a witness, or was
     // empty from 0 on and gets the first commit's.
     ensures errors { cap ≢ Some 0 → IfErr result

@@ -1,6 +1,8 @@
 //! A database of the run: what a side asks of it.
 ghost use Rattle.std.specs.Prelude.{◌≡◌, ℕ, ◌↔◌, ◌<◌, ◌+◌, ◌-◌, ◌^◌, ◌++◌, ◌∷◌, [], List, length, Some, None, IsOk, IfOk, IfErr, OnOk, OnErr, IsOkUnless, Contains};
 ghost use Rattle.std.specs.Option.{ForSome};
+ghost use Rattle.log_model.specs.Good.{IsGoodLog};
+ghost use Rattle.log_model.specs.Machine.{State};
 ghost use Rattle.log_model.specs.Operations.{last_value};
 ghost use Rattle.chain_core.specs.Answers.{IsOutside};
 ghost use Rattle.chain_core.specs.Chains.{IsPoolOf, IsSealedAt, WhyUnsealed};
@@ -15,7 +17,8 @@ ghost use Rattle.volume_base.specs.Names.{NamesCall};
 ghost use Rattle.volume_base.specs.Volume.{Writes};
 ghost use Rattle.list_machine.specs.Config.{Config};
 ghost use Rattle.list_machine.specs.Operation.{Operation, meaning, sha};
-ghost use Rattle.twin_batches.specs.Kind.{Kind, Kept, with_list, size_of, sealing_of, snapshot_of};
+ghost use Rattle.twin_batches.specs.Kind.{Kind, Kept, kept_of, with_list, size_of, sealing_of, snapshot_of};
+ghost use Rattle.twin_batches.specs.Standing.{KeepsTo, with_ops};
 
 use chain_core::{BatchId, Bounds, Commitment, Error, Pool};
 use codec_base::Bytes;
@@ -159,6 +162,11 @@ pub trait Database: Drop + Sized {
             (kept : Kept) (more : List Operation) → kind.is_of kept (present (V.state volume.old)) self →
             kind.is_sealed (kept.ops ++ more) x →
             Contains ((kind.bounds x).db ∷ (kind.bounds x).ancestors) (kind.state self) → IsOutside e) }
+        // Whatever a crash leaves at a moment then stands for the longer list, of which no more is durable than before.
+        ensures images { V.tells → (x : Self.Sealed) → item_at pool.now id ≡ Some x →
+            (s : State Operation) (more : List Operation) → IsGoodLog meaning s →
+            kind.is_of (kept_of s) (present (V.state volume.old)) self → kind.is_sealed (s.ops ++ more) x →
+            KeepsTo kind s (with_ops s (s.ops ++ more)) self (V.state volume.old) (V.state volume.new) }
         // Whatever it answers, it touches its own logs and maps alone.
         ensures names { V.tells → NamesCall (kind.names self) (V.state volume.old) (V.state volume.new) }
         ensures same_names { IfOk result (λ made. kind.names made ≡ kind.names self) }

@@ -1,15 +1,18 @@
 //! A database of the run that is made durable and gives up old operations.
 ghost use Rattle.std.specs.Prelude.{◌≤◌, length, IfOk, IfErr};
 ghost use Rattle.log_model.specs.AppliedSizes.{AreSizes};
+ghost use Rattle.log_model.specs.Good.{IsGoodLog};
+ghost use Rattle.log_model.specs.Machine.{State, committed, synced, pruned};
 ghost use Rattle.log_model.specs.Operations.{floor_of};
 ghost use Rattle.chain_core.specs.Answers.{IsOutside};
 ghost use Rattle.volume_base.specs.Moments.{present};
 ghost use Rattle.volume_base.specs.Names.{NamesCall};
 ghost use Rattle.volume_base.specs.Volume.{Writes, Changes};
 ghost use Rattle.list_machine.specs.Config.{Config};
-ghost use Rattle.list_machine.specs.Operation.{meaning};
+ghost use Rattle.list_machine.specs.Operation.{Operation, meaning};
 ghost use Rattle.twin_batches.specs.Durability.{IsSettled};
-ghost use Rattle.twin_batches.specs.Kind.{Kept, kept_pruned, kept_synced};
+ghost use Rattle.twin_batches.specs.Kind.{Kept, kept_of, kept_pruned, kept_synced};
+ghost use Rattle.twin_batches.specs.Standing.{StepsTo};
 
 use crate::database::Database;
 use chain_core::Error;
@@ -29,6 +32,10 @@ pub trait Durable: Database {
         ensures durable { IfOk result (λ made. V.tells → Self.kind.is_durable made (V.state volume.new)) }
         ensures errors { IfErr result (λ e. V.tells → (kept : Kept) →
             Self.kind.is_of kept (present (V.state volume.old)) self → IsOutside e) }
+        // Whatever a crash leaves at a moment stands for the state before, or for that which the list machine leaves.
+        ensures images { V.tells → (s : State Operation) → IsGoodLog meaning s →
+            Self.kind.is_of (kept_of s) (present (V.state volume.old)) self →
+            StepsTo Self.kind s (committed s) self (V.state volume.old) (V.state volume.new) result }
         ensures names { V.tells → NamesCall (Self.kind.names self) (V.state volume.old) (V.state volume.new) }
         ensures writes { Writes V.tells Error.Volume (V.state volume.old) (V.state volume.new) result };
 
@@ -42,6 +49,10 @@ pub trait Durable: Database {
         ensures durable { IfOk result (λ made. V.tells → Self.kind.is_synced made (V.state volume.new)) }
         ensures errors { IfErr result (λ e. V.tells → (kept : Kept) →
             Self.kind.is_of kept (present (V.state volume.old)) self → IsOutside e) }
+        // Whatever a crash leaves at a moment stands for the state before, or for that which the list machine leaves.
+        ensures images { V.tells → (s : State Operation) → IsGoodLog meaning s →
+            Self.kind.is_of (kept_of s) (present (V.state volume.old)) self →
+            StepsTo Self.kind s (synced s) self (V.state volume.old) (V.state volume.new) result }
         ensures names { V.tells → NamesCall (Self.kind.names self) (V.state volume.old) (V.state volume.new) }
         ensures writes { Writes V.tells Error.Volume (V.state volume.old) (V.state volume.new) result };
 
@@ -56,6 +67,10 @@ pub trait Durable: Database {
         ensures durable { IfOk result (λ made. V.tells → Self.kind.is_synced made (V.state volume.new)) }
         ensures errors { IfErr result (λ e. V.tells → (kept : Kept) →
             Self.kind.is_of kept (present (V.state volume.old)) self → IsOutside e) }
+        // Whatever a crash leaves at a moment stands for the state before, or for that which the list machine leaves.
+        ensures images { V.tells → (s : State Operation) → IsGoodLog meaning s →
+            Self.kind.is_of (kept_of s) (present (V.state volume.old)) self →
+            StepsTo Self.kind s (synced s) self (V.state volume.old) (V.state volume.new) result }
         ensures names { V.tells → NamesCall (Self.kind.names self) (V.state volume.old) (V.state volume.new) }
         ensures writes { Writes V.tells Error.Volume (V.state volume.old) (V.state volume.new) result };
 
@@ -74,6 +89,12 @@ pub trait Durable: Database {
             Self.kind.is_durable made (V.state volume.new)) }
         ensures errors { IfErr result (λ e. V.tells → (kept : Kept) →
             Self.kind.is_of kept (present (V.state volume.old)) self → IsOutside e) }
+        // Where all was durable whatever a crash leaves at a moment stands for the state before, or for that which the
+        // list machine leaves.
+        ensures images { V.tells → Self.kind.is_durable self (V.state volume.old) →
+            (config : Config) (s : State Operation) → IsGoodLog meaning s →
+            Self.kind.is_of (kept_of s) (present (V.state volume.old)) self →
+            StepsTo Self.kind s (pruned config.log_blob config.witness_blob s location) self (V.state volume.old) (V.state volume.new) result }
         ensures names { V.tells → NamesCall (Self.kind.names self) (V.state volume.old) (V.state volume.new) }
         ensures changes { Changes V.tells Error.Volume (V.state volume.old) (V.state volume.new) result };
 }

@@ -7,11 +7,13 @@ ghost use Rattle.volume_base.specs.Names.{NamesCall};
 ghost use Rattle.volume_base.specs.Volume.{Changes};
 ghost use Rattle.tree_shape.specs.Mmr.{mmr};
 ghost use Rattle.merkle_full.specs.Full.{Rests};
+ghost use Rattle.log_model.specs.Machine.{State};
 ghost use Rattle.list_machine.specs.Operation.{Operation};
 ghost use Rattle.list_machine.specs.Starts.{full_names};
 ghost use Rattle.twin_databases.specs.OpeningErrors.{IsOfFullOpening};
 ghost use Rattle.twin_databases.specs.FullKind.{IsFullDbOf, IsFullStart, full_end, full_kind, kept_full, opened_list};
 ghost use Rattle.twin_databases.specs.Reopening.{KeepsOperations};
+ghost use Rattle.twin_databases.specs.Standing.{KeepStanding, OpensGood, StandNow, settled_at};
 
 use crate::compact_opening::cap_of;
 use crate::full_side::{Full, open_full};
@@ -83,6 +85,14 @@ pub fn open_full_under<V: Volume>(
     ensures errors { IfErr result (IsOfFullOpening cap) }
     ensures operations { IfOk result (λ db. V.tells → KeepsOperations config.now.value_limit cap db.state.size
         ((V.state volume.old).log config.now.log) ((V.state volume.new).log config.now.log)) }
+    // Where whatever a crash leaves of its names stands for a good state of which no more is durable than the cap
+    // allows, it does so at each moment, whatever is answered. What is then left stands for the state up to the commit,
+    // and all of that is durable.
+    ensures images { let now = config.now in V.tells → (s : State Operation) → OpensGood now.value_limit cap s →
+        KeepStanding now.log now.nodes now.metadata s (V.state volume.old) (V.state volume.new) }
+    ensures settled { let now = config.now in IfOk result (λ db. V.tells → (s : State Operation) →
+        OpensGood now.value_limit cap s → StandNow now.log now.nodes now.metadata s (V.state volume.old) →
+        StandNow now.log now.nodes now.metadata (settled_at s db.state.size) (V.state volume.new)) }
     // It has the configuration's blobs and limit, keeps no failed sync, has an operation, its memory is at rest, and
     // both logs are durable.
     ensures under { IfOk result (λ db. full_kind.is_under config.now db) }

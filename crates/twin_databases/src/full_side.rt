@@ -7,10 +7,12 @@ ghost use Rattle.volume_base.specs.Volume.{Changes};
 ghost use Rattle.tree_shape.specs.Mmr.{mmr};
 ghost use Rattle.merkle_full.specs.Full.{Rests};
 ghost use Rattle.chain_core.specs.Answers.{IsOutside};
+ghost use Rattle.log_model.specs.Machine.{State};
 ghost use Rattle.list_machine.specs.Operation.{Operation};
 ghost use Rattle.twin_databases.specs.OpeningErrors.{IsOfFullOpening};
 ghost use Rattle.twin_databases.specs.FullKind.{HasFullStart, IsFullDbOf, full_end, full_kind, kept_full, opened_list};
 ghost use Rattle.twin_databases.specs.Reopening.{KeepsOperations};
+ghost use Rattle.twin_databases.specs.Standing.{KeepStanding, OpensGood, StandNow, settled_at};
 
 use crate::database::Database;
 use chain_core::{BatchId, Bounds, Commitment, Error, Pool};
@@ -147,6 +149,17 @@ pub fn open_full<V: Volume>(
     ensures operations { let name = string_bytes cfg.log.name in IfOk result (λ db. V.tells →
         KeepsOperations cfg.log.codec.max cap db.state.size ((V.state volume.old).log name)
         ((V.state volume.new).log name)) }
+    // Where whatever a crash leaves of its names stands for a good state of which no more is durable than the cap
+    // allows, it does so at each moment, whatever is answered. What is then left stands for the state up to the commit,
+    // and all of that is durable.
+    ensures images { V.tells → (s : State Operation) → OpensGood cfg.log.codec.max cap s →
+        KeepStanding (string_bytes cfg.log.name) (string_bytes cfg.merkle.nodes) (string_bytes cfg.merkle.metadata) s
+        (V.state volume.old) (V.state volume.new) }
+    ensures settled { let log = string_bytes cfg.log.name in let nodes = string_bytes cfg.merkle.nodes in
+        let metadata = string_bytes cfg.merkle.metadata in
+        IfOk result (λ db. V.tells → (s : State Operation) → OpensGood cfg.log.codec.max cap s →
+        StandNow log nodes metadata s (V.state volume.old) →
+        StandNow log nodes metadata (settled_at s db.state.size) (V.state volume.new)) }
     // Its logs have the configuration's blobs and codec, it keeps no failed sync, and what is there is durable.
     ensures under { IfOk result (λ db. (db.journal.items.blob ≡ non_zero_u64_get cfg.log.items_per_blob)
         × (db.journal.tree.log.blob ≡ non_zero_u64_get cfg.merkle.items_per_blob)

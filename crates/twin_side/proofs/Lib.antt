@@ -4,3 +4,4 @@ pub mod KeptReads
 pub mod ReadAnswers
 pub mod ProvingLemmas
 pub mod CompactProving
+pub mod SideImages

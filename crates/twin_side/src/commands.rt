@@ -1,6 +1,7 @@
 //! What commands make of one side.
 ghost use Rattle.std.specs.Prelude.{◌≡◌, IfOk, IfErr, IsOkUnless};
 ghost use Rattle.chain_core.specs.Answers.{IsOutside};
+ghost use Rattle.log_model.specs.Good.{IsGoodLog};
 ghost use Rattle.log_model.specs.Machine.{State};
 ghost use Rattle.log_model.specs.declared.refusal.Refusal.{Refusal};
 ghost use Rattle.command_text.specs.declared.command.Answer.TheVariants as answer;
@@ -8,11 +9,12 @@ ghost use Rattle.volume_base.specs.Moments.{Image, present};
 ghost use Rattle.volume_base.specs.Names.{NamesCall};
 ghost use Rattle.volume_base.specs.Volume.{Reads, Writes};
 ghost use Rattle.list_machine.specs.Config.{Config};
-ghost use Rattle.list_machine.specs.Operation.{Operation};
+ghost use Rattle.list_machine.specs.Operation.{Operation, meaning};
 ghost use Rattle.list_machine.specs.Step.{step};
 ghost use Rattle.list_machine.specs.Told.{IsTold};
 ghost use Rattle.twin_batches.specs.Durability.{IsSettled};
 ghost use Rattle.twin_batches.specs.Leaving.{LeavesBatches};
+ghost use Rattle.twin_batches.specs.Standing.{StepsTo};
 ghost use Rattle.twin_batches.specs.StateOf.{IsShaped, HasRoom, IsStateOf, StandsGood, Answers};
 ghost use Rattle.twin_batches.specs.About.{NeedsNoItem, IsDurableFor, about_of};
 ghost use Rattle.twin_batches.specs.declared.about.Topic.TheVariants as topic;
@@ -68,6 +70,10 @@ impl<D: Durable> Side<D> {
             IsDurableFor D.kind command.now made.db (V.state volume.new)) }
         ensures errors { IfErr result (λ e. V.tells → (s : State Operation) →
             IsStateOf D.kind (present (V.state volume.old)) self.db self.numbers s → IsOutside e) }
+        // Whatever a crash leaves at a moment stands for the state before, or for that which the list machine leaves.
+        ensures images { V.tells → (c : Config) (s : State Operation) → IsGoodLog meaning s →
+            IsStateOf D.kind (present (V.state volume.old)) self.db self.numbers s →
+            StepsTo D.kind s (step c s command.now).1 self.db (V.state volume.old) (V.state volume.new) result }
         ensures names { V.tells → NamesCall (D.kind.names self.db) (V.state volume.old) (V.state volume.new) }
         ensures writes { Writes V.tells Error.Volume (V.state volume.old) (V.state volume.new) result }
     {

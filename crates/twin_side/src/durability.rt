@@ -1,6 +1,6 @@
 //! How a side is made durable, and gives up old operations.
 ghost use Rattle.std.specs.Prelude.{◌≡◌, ◌<◌, ◌≤◌, Some, None, IfOk, IfErr};
-ghost use Rattle.log_model.specs.Good.{AnyList};
+ghost use Rattle.log_model.specs.Good.{AnyList, IsGoodLog};
 ghost use Rattle.log_model.specs.Machine.{State, committed, synced, pruned};
 ghost use Rattle.log_model.specs.Refusals as log;
 ghost use Rattle.log_model.specs.declared.refusal.Refusal.TheVariants.{PruneBeyondMinRequired};
@@ -12,6 +12,7 @@ ghost use Rattle.list_machine.specs.Config.{Config};
 ghost use Rattle.list_machine.specs.GoodRuns.{IsGoodState};
 ghost use Rattle.list_machine.specs.Operation.{Operation, meaning};
 ghost use Rattle.twin_batches.specs.Durability.{IsSettled};
+ghost use Rattle.twin_batches.specs.Standing.{StepsTo};
 ghost use Rattle.twin_batches.specs.StateOf.{IsStateOf};
 
 use crate::side::Side;
@@ -55,6 +56,10 @@ impl<D: Durable> Side<D> {
         ensures durable { IfOk result (λ made. V.tells → D.kind.is_durable made.db (V.state volume.new)) }
         ensures errors { IfErr result (λ e. V.tells → (s : State Operation) →
             IsStateOf D.kind (present (V.state volume.old)) self.db self.numbers s → IsOutside e) }
+        // Whatever a crash leaves at a moment stands for the state before, or for that which the list machine leaves.
+        ensures images { V.tells → (s : State Operation) → IsGoodLog meaning s →
+            IsStateOf D.kind (present (V.state volume.old)) self.db self.numbers s →
+            StepsTo D.kind s (committed s) self.db (V.state volume.old) (V.state volume.new) result }
         ensures names { V.tells → NamesCall (D.kind.names self.db) (V.state volume.old) (V.state volume.new) }
         ensures writes { Writes V.tells Error.Volume (V.state volume.old) (V.state volume.new) result }
     {
@@ -78,6 +83,10 @@ impl<D: Durable> Side<D> {
         ensures durable { IfOk result (λ made. V.tells → D.kind.is_synced made.db (V.state volume.new)) }
         ensures errors { IfErr result (λ e. V.tells → (s : State Operation) →
             IsStateOf D.kind (present (V.state volume.old)) self.db self.numbers s → IsOutside e) }
+        // Whatever a crash leaves at a moment stands for the state before, or for that which the list machine leaves.
+        ensures images { V.tells → (s : State Operation) → IsGoodLog meaning s →
+            IsStateOf D.kind (present (V.state volume.old)) self.db self.numbers s →
+            StepsTo D.kind s (synced s) self.db (V.state volume.old) (V.state volume.new) result }
         ensures names { V.tells → NamesCall (D.kind.names self.db) (V.state volume.old) (V.state volume.new) }
         ensures writes { Writes V.tells Error.Volume (V.state volume.old) (V.state volume.new) result }
     {
@@ -101,6 +110,10 @@ impl<D: Durable> Side<D> {
         ensures durable { IfOk result (λ made. V.tells → D.kind.is_synced made.db (V.state volume.new)) }
         ensures errors { IfErr result (λ e. V.tells → (s : State Operation) →
             IsStateOf D.kind (present (V.state volume.old)) self.db self.numbers s → IsOutside e) }
+        // Whatever a crash leaves at a moment stands for the state before, or for that which the list machine leaves.
+        ensures images { V.tells → (s : State Operation) → IsGoodLog meaning s →
+            IsStateOf D.kind (present (V.state volume.old)) self.db self.numbers s →
+            StepsTo D.kind s (synced s) self.db (V.state volume.old) (V.state volume.new) result }
         ensures names { V.tells → NamesCall (D.kind.names self.db) (V.state volume.old) (V.state volume.new) }
         ensures writes { Writes V.tells Error.Volume (V.state volume.old) (V.state volume.new) result }
     {
@@ -129,6 +142,12 @@ impl<D: Durable> Side<D> {
             D.kind.is_durable made.db (V.state volume.new)) }
         ensures errors { IfErr result (λ e. V.tells → (s : State Operation) →
             IsStateOf D.kind (present (V.state volume.old)) self.db self.numbers s → IsOutside e) }
+        // Where all was durable whatever a crash leaves at a moment stands for the state before, or for that which the
+        // list machine leaves.
+        ensures images { V.tells → D.kind.is_durable self.db (V.state volume.old) →
+            (config : Config) (s : State Operation) → IsGoodLog meaning s →
+            IsStateOf D.kind (present (V.state volume.old)) self.db self.numbers s →
+            StepsTo D.kind s (pruned config.log_blob config.witness_blob s location) self.db (V.state volume.old) (V.state volume.new) result }
         ensures names { V.tells → NamesCall (D.kind.names self.db) (V.state volume.old) (V.state volume.new) }
         ensures changes { Changes V.tells Error.Volume (V.state volume.old) (V.state volume.new) result }
     {

@@ -1,6 +1,7 @@
 //! One side of the run: a database, and the batches of the run's numbers.
 ghost use Rattle.std.specs.Prelude.{◌≡◌, ◌⊎◌, ◌<◌, ◌≤◌, [], length, slice_index_or, None, IfOk, IfErr, IsOkUnless};
 ghost use Rattle.log_model.specs.StateBatches as batches;
+ghost use Rattle.log_model.specs.Good.{IsGoodLog};
 ghost use Rattle.log_model.specs.Machine.{State, batch_at, with_batch};
 ghost use Rattle.log_model.specs.declared.refusal.Refusal.{Refusal};
 ghost use Rattle.command_text.specs.declared.command.Answer.TheVariants as answer;
@@ -9,11 +10,12 @@ ghost use Rattle.volume_base.specs.Moments.{Image, present};
 ghost use Rattle.volume_base.specs.Names.{NamesCall};
 ghost use Rattle.volume_base.specs.Volume.{Writes};
 ghost use Rattle.list_machine.specs.Config.{Config};
-ghost use Rattle.list_machine.specs.Operation.{Operation};
+ghost use Rattle.list_machine.specs.Operation.{Operation, meaning};
 ghost use Rattle.list_machine.specs.Step.{refusal_in, begin, append_to, metadata_length, seal, apply, hold, release, snapshot, size, metadata};
 ghost use Rattle.list_machine.specs.Told.{IsTold};
 ghost use Rattle.twin_batches.specs.Kind.{kept_of};
 ghost use Rattle.twin_batches.specs.Leaving.{KeepsBatches, LosesBatch};
+ghost use Rattle.twin_batches.specs.Standing.{KeepsTo};
 ghost use Rattle.twin_batches.specs.StateOf.{IsShaped, HasRoom, IsStateOf, AnyState, Answers, Takes};
 ghost use Rattle.twin_batches.specs.declared.numbers.Batch.TheVariants.{Unsealed, Gone};
 
@@ -228,6 +230,10 @@ impl<D: Database> Side<D> {
         // Of a state for which it stands it fails by the volume or for want of memory alone.
         ensures errors { IfErr result (λ e. V.tells → (s : State Operation) → IsTold s →
             IsStateOf D.kind (present (V.state volume.old)) self.db self.numbers s → IsOutside e) }
+        // Whatever a crash leaves at a moment then stands for the state that the list machine leaves.
+        ensures images { V.tells → (s : State Operation) → IsTold s → IsGoodLog meaning s →
+            IsStateOf D.kind (present (V.state volume.old)) self.db self.numbers s →
+            KeepsTo D.kind s (apply s b (batch_at s b)).1 self.db (V.state volume.old) (V.state volume.new) }
         ensures names { V.tells → NamesCall (D.kind.names self.db) (V.state volume.old) (V.state volume.new) }
         ensures same_names { IfOk result (λ made. D.kind.names made.db ≡ D.kind.names self.db) }
         ensures sound { IfOk result (λ made. D.kind.is_sound self.db → D.kind.is_sound made.db) }

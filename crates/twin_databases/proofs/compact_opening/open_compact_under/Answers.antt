@@ -4,18 +4,22 @@ use Rattle.codec_base.specs.declared.parts.LengthCfg.{LengthCfg}
 use Rattle.chain_core.specs.declared.error.Error.TheVariants as error
 use Rattle.volume_base.specs.Names.{log_alone, NamesCall}
 use Rattle.volume_base.specs.Volume.{Changes}
+use Rattle.volume_base.specs.Moments.{LogLeft}
 use Rattle.volume_base.proofs.CallLemmas.{names_call_none}
 use Rattle.volume_base.proofs.JoinLemmas.{went_none}
+use Rattle.volume_base.proofs.TurnLemmas.{keeps_none}
 use Rattle.tree_shape.specs.Mmr.{mmr}
+use Rattle.tree_shape.specs.Sha256Codec.{bytes_of}
 use Rattle.tree_shape.specs.declared.sha256.Sha256Digest.{Sha256Digest}
+use Rattle.log_model.specs.Stored.{CompactStands}
 use Rattle.compact_db.specs.Opening.{IsOpeningFault}
-use Rattle.list_machine.specs.Operation.{meaning}
+use Rattle.list_machine.specs.Operation.{meaning, sha}
 use Rattle.list_machine.specs.Starts.{compact_names}
 use Rattle.twin_databases.specs.CompactKind.{compact_kind}
 use Rattle.twin_databases.specs.OpeningErrors.{decoded_under}
 use Rattle.twin_databases.specs.Reopening.{KeepsWitnesses}
 use Rattle.twin_databases.proofs.CompactOpening.{either_cap}
-use Rattle.twin_databases.proofs.CompactUnder.{capped_ok, unchanged, under_durable, under_names, under_opened, under_standing, under_under}
+use Rattle.twin_databases.proofs.CompactUnder.{capped_ok, unchanged, under_durable, under_images, under_names, under_opened, under_standing, under_under}
 use Rattle.twin_databases.proofs.WentLemmas.{changes_err}
 use Rattle.twin_databases.proofs.compact_opening.open_compact_under.Goals as goal
 
@@ -112,3 +116,17 @@ returns-clause-witnesses g c =
     (subst (λ (name : List ℕ). c.cap_of.result ≢ Some 0 → IfOk c.open_compact.result (λ db. g.V.Volume.tells
     → KeepsWitnesses c.cap_of.result db.tip.witness.size (old.log name) (new.log name))) c.in-Ok.ensures.witness
     c.open_compact.ensures.witnesses)
+
+-- ---- what a crash leaves
+
+pub returns-in_default-clause-images : goal.returns-in_default-clause-images
+returns-in_default-clause-images g c told s most is one high good stands has =
+    keeps_none (LogLeft c.args.config.now.witness)
+    (CompactStands mmr sha bytes_of meaning s.ops s.sizes s.prune s.durable) (g.V.Volume.state c.args.volume.now) has
+
+pub returns-clause-images : goal.returns-clause-images
+returns-clause-images g c =
+    under_images g.V.Volume.tells c.args.config.now c.in-Ok.ensures.within c.in-Ok.cfg.commit_codec
+    c.in-Ok.ensures.codec (string_bytes c.in-Ok.cfg.witness) c.in-Ok.ensures.witness c.cap_of.result c.args.cap
+    c.cap_of.ensures (g.V.Volume.state c.args.volume.now) (g.V.Volume.state c.open_compact.new.volume)
+    c.open_compact.ensures.images

@@ -3,6 +3,7 @@ use Rattle.journal_base.specs.View.{config_of}
 use Rattle.twin_databases.proofs.FullOpening.{opened_full}
 use Rattle.twin_databases.proofs.FullStanding.{outside_alone}
 use Rattle.twin_databases.proofs.KeptFronts.{full_errors, opened_keeps}
+use Rattle.twin_databases.proofs.OpeningMoments.{keeps_left, settles_left}
 use Rattle.twin_databases.proofs.full_side.open_full.Goals as goal
 
 pub returns-clause-held : goal.returns-clause-held
@@ -28,3 +29,19 @@ pub returns-clause-operations : goal.returns-clause-operations
 returns-clause-operations g c =
     opened_keeps g.V.Volume.tells (config_of c.args.cfg.log) (g.V.Volume.state c.args.volume.now)
     (g.V.Volume.state c.init.new.vol) c.args.cap c.init.result c.init.ensures.past c.init.ensures.opens
+
+-- ---- what a crash leaves
+
+pub returns-clause-images : goal.returns-clause-images
+returns-clause-images g c told s opens has =
+    keeps_left g.V.Volume.tells (config_of c.args.cfg.log) (string_bytes c.args.cfg.merkle.nodes)
+    (string_bytes c.args.cfg.merkle.metadata) (g.V.Volume.state c.args.volume.now) (g.V.Volume.state c.init.new.vol)
+    c.args.cap c.init.result (g.met.V.Volume.contents_left c.args.volume.now) c.init.ensures.images
+    c.init.ensures.begins told s opens has
+
+pub returns-clause-settled : goal.returns-clause-settled
+returns-clause-settled g c =
+    settles_left g.V.Volume.tells (config_of c.args.cfg.log) (string_bytes c.args.cfg.merkle.nodes)
+    (string_bytes c.args.cfg.merkle.metadata) (g.V.Volume.state c.args.volume.now) (g.V.Volume.state c.init.new.vol)
+    c.args.cap c.init.result (g.met.V.Volume.contents_left c.args.volume.now) c.init.ensures.settled
+    c.init.ensures.begins c.init.ensures.opens

@@ -1,4 +1,5 @@
 use Rattle.twin_databases.proofs.CompactDurable.{call_synced, call_settled, call_durable, call_errors, log_names}
+use Rattle.twin_databases.proofs.CompactMoments.{synced_steps}
 use Rattle.twin_databases.proofs.compact_durable.CompactDurable.sync.Goals as goal
 
 pub returns-clause-list : goal.returns-clause-list
@@ -24,6 +25,12 @@ returns-clause-errors g c =
     let made = c.sync.ensures.syncs c.requires in
     call_errors g.V.Volume.tells c.args.self (g.V.Volume.state c.args.volume.now) (g.V.Volume.state c.sync.new.vol)
     c.sync.result made.errors made.waiting
+
+pub returns-clause-images : goal.returns-clause-images
+returns-clause-images g c = λ told s good is.
+    let made = c.sync.ensures in
+    synced_steps c.args.self (g.V.Volume.state c.args.volume.now) s good is g.V.Volume.tells
+    (g.V.Volume.state c.sync.new.vol) c.sync.result c.sync.result (made.syncs c.requires) made.durable told
 
 pub returns-clause-names : goal.returns-clause-names
 returns-clause-names g c = λ told.

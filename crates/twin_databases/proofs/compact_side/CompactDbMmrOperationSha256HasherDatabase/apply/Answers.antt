@@ -1,4 +1,4 @@
-use Rattle.std.proofs.Common.{◌≡◌, Some, ap, ◌∙◌}
+use Rattle.std.proofs.Common.{◌≡◌, Some, sym, ap, subst, ◌∙◌}
 use Rattle.std.proofs.lemmas.Result.{IfOk-weaker}
 use Rattle.chain_core.specs.Reached.{item_at}
 use Rattle.journal_base.specs.View.{log_of}
@@ -6,6 +6,7 @@ use Rattle.compact_db.specs.DbView.{seen_log}
 use Rattle.compact_db.proofs.ServingLemmas.{and_ok}
 use Rattle.twin_databases.specs.CompactKind.{SealedView}
 use Rattle.twin_databases.proofs.CompactLemmas.{applied_list, applied_errors, same_failed, same_blob}
+use Rattle.twin_databases.proofs.CompactMoments.{applied_keeps}
 use Rattle.twin_databases.proofs.compact_side.CompactDbMmrOperationSha256HasherDatabase.apply.Goals as goal
 
 pub returns-clause-list : goal.returns-clause-list
@@ -21,6 +22,13 @@ returns-clause-errors g c =
     let made = c.apply_batch.ensures in
     applied_errors c.args.self (λ (x : SealedView). item_at c.args.pool.now c.args.id ≡ Some x) g.V.Volume.tells (g.V.Volume.state c.args.volume.now) c.apply_batch.result
     made.errors made.fits (λ told over b there. (made.full told over b there).1)
+
+pub returns-clause-images : goal.returns-clause-images
+returns-clause-images g c = λ told x there s more good is sealed.
+    let state = g.V.Volume.state in
+    let made = c.apply_batch.ensures in
+    applied_keeps c.args.self (state c.args.volume.now) s good is g.V.Volume.tells (λ (b : SealedView). item_at c.args.pool.now c.args.id ≡ Some b) (state c.apply_batch.new.vol)
+    made.images (λ b at le here P was. subst (λ v. P (state v)) {y = c.apply_batch.new.vol} (sym (made.idle b at le here)) was) told x there more sealed
 
 pub returns-clause-sound : goal.returns-clause-sound
 returns-clause-sound g c =

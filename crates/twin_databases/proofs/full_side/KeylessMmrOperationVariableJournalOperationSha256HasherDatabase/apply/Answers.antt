@@ -1,10 +1,11 @@
-use Rattle.std.proofs.Common.{◌≡◌, Some, map}
+use Rattle.std.proofs.Common.{◌≡◌, Some, map, ap}
 use Rattle.std.proofs.lemmas.Result.{IfOk-weaker}
 use Rattle.chain_core.specs.Reached.{item_at}
 use Rattle.auth_journal.specs.Appending.{unapplied}
 use Rattle.list_machine.specs.Operation.{meaning}
 use Rattle.twin_databases.specs.FullKind.{SealedView}
 use Rattle.twin_databases.proofs.FullLemmas.{alive_item, applied_list, applied_errors, appended_begins, names_wider, same_names}
+use Rattle.twin_databases.proofs.FullMoments.{applied_images}
 use Rattle.twin_databases.proofs.full_side.KeylessMmrOperationVariableJournalOperationSha256HasherDatabase.apply.Goals as goal
 
 pub returns-clause-list : goal.returns-clause-list
@@ -37,3 +38,11 @@ pub returns-clause-writes : goal.returns-clause-writes
 returns-clause-writes g c =
     let b = alive_item c.args.pool.now c.args.id c.requires in
     (c.apply_batch.ensures.appends b.0 b.1).writes
+
+pub returns-clause-images : goal.returns-clause-images
+returns-clause-images g c told x there s more good is sealed =
+    let made = c.apply_batch.ensures in
+    applied_images g.V.Volume.tells c.args.self (g.V.Volume.state c.args.volume.now)
+    (g.V.Volume.state c.apply_batch.new.vol) (λ (b : SealedView). item_at c.args.pool.now c.args.id ≡ Some b)
+    c.apply_batch.result made.stale (λ refused. ap g.V.Volume.state (made.unwritten refused)) made.images
+    told x there s more is sealed

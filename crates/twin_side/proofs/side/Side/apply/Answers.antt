@@ -2,6 +2,7 @@ use Rattle.std.proofs.Common.{true, refl, sym}
 use Rattle.twin_batches.specs.StateOf.{any_lists}
 use Rattle.twin_batches.proofs.Handlers.{held_there, held_alive, taken_there, apply_state, apply_fails}
 use Rattle.twin_batches.proofs.Writing.{writes_ok, writes_err}
+use Rattle.twin_side.proofs.SideImages.{applied_images}
 use Rattle.twin_side.proofs.side.Side.apply.Goals as goal
 
 pub apply-requires : goal.apply-requires
@@ -37,3 +38,13 @@ returns-in-Err-clause-errors g c =
 
 pub returns-in-Err-clause-writes : goal.returns-in-Err-clause-writes
 returns-in-Err-clause-writes g c = writes_err _ _ _ _ _ c.in-Err.ensures.writes
+
+pub returns-in-Ok-clause-images : goal.returns-in-Ok-clause-images
+returns-in-Ok-clause-images g c =
+    applied_images g.D.Database.kind _ _ c.args.self.db c.args.self.numbers g.V.Volume.tells c.args.b c.requires.takes
+    c.in-Some.held (sym c.in-Some.ensures.held) c.in-Ok.ensures.images
+
+pub returns-in-Err-clause-images : goal.returns-in-Err-clause-images
+returns-in-Err-clause-images g c =
+    applied_images g.D.Database.kind _ _ c.args.self.db c.args.self.numbers g.V.Volume.tells c.args.b c.requires.takes
+    c.in-Some.held (sym c.in-Some.ensures.held) c.in-Err.ensures.images
