@@ -9,6 +9,8 @@ use Rattle.list_machine.specs.Operation.{Operation}
 use Rattle.twin_batches.specs.Kind.{Kind, kept_of}
 use Rattle.twin_batches.specs.StateOf.{IsStateOf}
 use Rattle.twin_batches.specs.declared.numbers.Numbers.{Numbers}
+use Rattle.compact_db.specs.DbView.{seen_log}
+use Rattle.twin_databases.specs.CompactKind.{CompactView, compact_kind}
 use Rattle.twin_databases.specs.FullKind.{FullView, full_kind}
 
 -- ---- names apart
@@ -85,3 +87,11 @@ module _ (names : Names) (a b : State) (call : NamesCall names a b) where
           durable_after names db.journal.tree.log.name a b call.images none
               (call.others.logs db.journal.tree.log.name none) synced.1,
         )
+
+  -- and so does what is durable of the compact one
+  pub witnesses_beside : (db : CompactView) → AreApart names (compact_kind.names db)
+      → compact_kind.is_durable db a → compact_kind.is_durable db b
+  witnesses_beside db apart durable =
+      let none = apart.logs.0 in
+      durable_after names (seen_log db.log).name a b call.images none
+      (call.others.logs (seen_log db.log).name none) durable

@@ -232,7 +232,7 @@ module _ (config : Config) (apart : AreNamesApart config) (small : config.value_
         (ap (λ (log : Log). log.start) (witness_stays config apart old mid first_names))
         (under s full.state.size cap_is most_low most_past start.good witnesses)
 
-    compact_size : (compact_kind.state compact).size ≡ Size
+    pub compact_size : (compact_kind.state compact).size ≡ Size
     compact_size =
         ap (λ (c : Commitment Mmr Sha256Digest). c.size)
         (compact_kind.state_is Opened (present next) compact is_compact)

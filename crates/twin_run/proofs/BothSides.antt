@@ -39,7 +39,7 @@ use Rattle.twin_run.specs.Faults.{IsCorrupt}
 use Rattle.twin_run.specs.Twins.{AreShaped, AreSound, AreUnder, AreOf, AreKept, AreSettled, GoesOn, GoOn, IsTwinsOf, names_of, reply_of}
 use Rattle.twin_run.specs.declared.ending.Fault.{Fault}
 use Rattle.twin_run.specs.declared.sides.Twins.{Twins}
-use Rattle.twin_run.proofs.Beside.{apart_swapped, call_first, call_second, state_beside, durable_beside, synced_beside}
+use Rattle.twin_run.proofs.Beside.{apart_swapped, call_first, call_second, state_beside, durable_beside, synced_beside, witnesses_beside}
 
 -- ---- a database that goes on
 
@@ -332,6 +332,10 @@ module _ (old : Twins) (shaped : AreShaped old) (a b : volume.State) where
         → IsStateOf compact_kind (present b) old.compact.db old.compact.numbers s
     compact_waits s of = state_beside (full_kind.names old.full.db) a b call compact_kind old.compact.db
         old.compact.numbers s shaped.apart of
+
+    pub compact_lasts : compact_kind.is_durable old.compact.db a → compact_kind.is_durable old.compact.db b
+    compact_lasts durable =
+        witnesses_beside (full_kind.names old.full.db) a b call old.compact.db shaped.apart durable
 
   module _ (call : NamesCall (compact_kind.names old.compact.db) a b) where
     pub compact_called : NamesCall (names_of old) a b

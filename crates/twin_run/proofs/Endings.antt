@@ -21,7 +21,7 @@ use Rattle.twin_run.specs.declared.ending.Status.TheVariants.{BadWords, BadLine,
 use Rattle.twin_run.specs.declared.words.Task.{Task}
 use Rattle.twin_run.specs.declared.words.Task.TheVariants.{Commands, Generate}
 use Rattle.twin_run.specs.Faults.{IsCorrupt}
-use Rattle.twin_run.specs.Outcome.{WritesOrFails, AreToRun, IsEarly, IsReadStatus, HasWrittenSoFar, IsRunStatus, output_of, fault_status}
+use Rattle.twin_run.specs.Outcome.{AreBegun, WritesOrFails, AreToRun, IsEarly, IsReadStatus, HasWrittenSoFar, IsRunStatus, output_of, fault_status}
 use Rattle.twin_run.specs.Words.{WordsSay}
 
 -- of no reply nothing is written
@@ -30,18 +30,22 @@ unfolding text_of summary_of
 none_out Commands = refl
 none_out (Generate number count) = refl
 
+pub nothing_out : (task : Task) (w : Option (List ℕ)) (faults : ℕ)
+    → WritesOrFails w w faults faults (output_of task [])
+nothing_out task w faults = inl (subst (λ (t : List ℕ). Appends w w t) (sym (none_out task)) (nothing_added w))
+
+pub none_begun : (tells : Type 0) (image : Image) (commands : List Command) → AreBegun tells image commands []
+unfolding trace
+none_begun tells image commands = record {
+  fewer = omega arith;
+  one_root = tt;
+  told = λ told s start clear. record { front = refl; fewer = omega arith };
+}
+
 pub wrote_nothing : (tells : Type 0) (image : Image) (task : Task) (commands : List Command) (w : Option (List ℕ))
     (faults volume : ℕ) → HasWrittenSoFar tells image task commands w w faults faults volume volume
-unfolding trace
-wrote_nothing tells image task commands w faults volume = (
-  [],
-  record {
-    fewer = omega arith;
-    one_root = tt;
-    told = λ told s start clear. record { front = refl; fewer = omega arith };
-  },
-  inl (subst (λ (t : List ℕ). Appends w w t) (sym (none_out task)) (nothing_added w)),
-)
+wrote_nothing tells image task commands w faults volume =
+    ([], none_begun tells image commands, nothing_out task w faults)
 
 -- a text was written, or a front of it where the sink failed
 pub wrote_so : {E : Type 0} (w w' : Option (List ℕ)) (f f' : ℕ) (text : List ℕ) (r : Result (Unit {0}) E)

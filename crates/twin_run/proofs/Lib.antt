@@ -1,4 +1,5 @@
 pub mod RunLemmas
+pub mod RunMoments
 pub mod Endings
 pub mod Beside
 pub mod BothFaults
@@ -9,6 +10,10 @@ pub mod HeldLog
 pub mod Lasting
 pub mod Realigning
 pub mod BothOpened
+pub mod OneVolume
+pub mod BothMoments
+pub mod BothStates
 pub mod Lowering
 pub mod FaultLemmas
 pub mod WordForms
+pub mod RealignMoments

@@ -1,4 +1,5 @@
 pub mod Lasting
+pub mod Standing
 pub mod Faults
 pub mod Twins
 pub mod Words

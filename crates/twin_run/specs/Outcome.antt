@@ -3,7 +3,7 @@ use Rattle.std.specs.Prelude.{◌≡◌, ◌⊎◌, ℕ, ◌+◌, ◌<◌, ◌�
 use Rattle.std.specs.Io.KnownBytes.{Appends, IsAtEnd}
 use Rattle.codec_base.specs.Causes.{Rose}
 use Rattle.stream_base.specs.Writing.{WritesFront}
-use Rattle.volume_base.specs.Moments.{Image}
+use Rattle.volume_base.specs.Moments.{Image, present}
 use Rattle.volume_base.specs.Volume as disk
 use Rattle.log_model.specs.Machine.{State}
 use Rattle.command_text.specs.declared.command.Command.{Command}
@@ -15,7 +15,7 @@ use Rattle.command_text.specs.Text.{text_of}
 use Rattle.list_machine.specs.Config.{standard_config}
 use Rattle.list_machine.specs.Generator.{generated, summary_of}
 use Rattle.list_machine.specs.Operation.{Operation}
-use Rattle.list_machine.specs.Starts.{OfEachStart, IsLeft}
+use Rattle.list_machine.specs.Starts.{OfEachStart, IsLeft, opened_from}
 use Rattle.list_machine.specs.Trace.{trace, state_after, IsBegun, TellOneRoot}
 use Rattle.twin_run.specs.declared.ending.Fault.{Fault}
 use Rattle.twin_run.specs.declared.ending.Fault.TheVariants as fault
@@ -24,6 +24,7 @@ use Rattle.twin_run.specs.declared.ending.Status.TheVariants.{BadWords, BadLine,
 use Rattle.twin_run.specs.declared.words.Task.{Task}
 use Rattle.twin_run.specs.declared.words.Task.TheVariants.{Commands, Generate}
 use Rattle.twin_run.specs.Lasting.{LastsBehind}
+use Rattle.twin_run.specs.Standing.{BeginsAt, CoversAll, CoversSome}
 use Rattle.twin_run.specs.Words.{WordsSay}
 
 -- The input was read to its end, and isn't too long.
@@ -138,6 +139,38 @@ pub record Outlasts (words : List (List ℕ)) (left left' : Option (List ℕ)) (
   pub commands : List Command
   pub asked : IsAsked words left left' task commands
   pub lasting : LastsBehind standard_config now commands
+
+-- At each moment of a run of these commands a crash leaves what stands for one of the list machine's states, for that
+-- before or behind the step that is running. It is known where each image that a crash may leave before the run stands
+-- for a good state without batches, and nothing clashes.
+module _ (commands : List Command) (old new : disk.State) where
+  -- of a whole run
+  abbrev pub StandsThroughout : Type 0
+  StandsThroughout = (s : State Operation) → BeginsAt standard_config commands s old
+      → CoversAll standard_config s (opened_from standard_config s (present old)) commands old new
+
+  -- of one that ended with these replies
+  abbrev pub StandsSoFar : List Reply → Type 0
+  StandsSoFar said = (s : State Operation) → BeginsAt standard_config commands s old
+      → CoversSome standard_config s (opened_from standard_config s (present old)) commands (length said) old new
+
+-- So it was over the words' run.
+module _ (words : List (List ℕ)) (left left' : Option (List ℕ)) (old new : disk.State) where
+  pub record HasStood : Type 0 where
+    pub task : Task
+    pub commands : List Command
+    pub asked : IsAsked words left left' task commands
+    pub stood : StandsThroughout commands old new
+
+  -- of one that ended with the first replies, whose output was written, or a front of it where the sink failed
+  pub record HasStoodSoFar (tells : Type 0) (written written' : Option (List ℕ)) (faults faults' : ℕ) : Type 0 where
+    pub task : Task
+    pub commands : List Command
+    pub asked : IsAsked words left left' task commands
+    pub said : List Reply
+    pub replies : AreBegun tells (present old) commands said
+    pub wrote : WritesOrFails written written' faults faults' (output_of task said)
+    pub stood : StandsSoFar commands old new said
 
 -- The program ends before its run.
 abbrev pub IsEarly : Status → Type 0

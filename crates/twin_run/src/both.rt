@@ -17,6 +17,7 @@ ghost use Rattle.twin_batches.specs.declared.about.Topic.TheVariants as topic;
 ghost use Rattle.twin_databases.specs.CompactKind.{compact_kind};
 ghost use Rattle.twin_databases.specs.FullKind.{full_kind};
 ghost use Rattle.twin_run.specs.Faults.{IsCorrupt, IsOwnFault};
+ghost use Rattle.twin_run.specs.Standing.{TakesTo};
 ghost use Rattle.twin_run.specs.Twins.{AreShaped, HaveRoom, AreKept, AreSettled, GoOn, LeaveBatches, IsTwinsOf, IsDurableAfter, names_of};
 
 use crate::agreement::{agreed, check_same, refusal_of_both};
@@ -85,6 +86,10 @@ impl Twins {
         ensures corrupt { IfErr result (λ fault. V.tells → (config : Config) (s : State Operation) → IsTold s →
             IsTwinsOf config (present (V.state volume.old)) self s → IsCorrupt fault → ⊥) }
         ensures own { IfErr result IsOwnFault }
+        // Whatever a crash leaves at a moment stands for the state before, or for that which the list machine leaves.
+        ensures images { V.tells → (config : Config) (s : State Operation) → IsTold s →
+            IsTwinsOf config (present (V.state volume.old)) self s →
+            TakesTo config s ((apply s b (batch_at s b)).1) (V.state volume.old) (V.state volume.new) result }
         ensures names { V.tells → NamesCall (names_of self) (V.state volume.old) (V.state volume.new) }
         ensures writes { Writes V.tells Fault.Volume (V.state volume.old) (V.state volume.new) result }
     {
@@ -116,6 +121,10 @@ impl Twins {
         ensures corrupt { IfErr result (λ fault. V.tells → (config : Config) (s : State Operation) → IsTold s →
             IsTwinsOf config (present (V.state volume.old)) self s → IsCorrupt fault → ⊥) }
         ensures own { IfErr result IsOwnFault }
+        // Whatever a crash leaves at a moment stands for the state before, or for that which the list machine leaves.
+        ensures images { V.tells → (config : Config) (s : State Operation) → IsTold s →
+            IsTwinsOf config (present (V.state volume.old)) self s →
+            TakesTo config s ((apply s b (batch_at s b)).1) (V.state volume.old) (V.state volume.new) result }
         ensures names { V.tells → NamesCall (names_of self) (V.state volume.old) (V.state volume.new) }
         ensures writes { Writes V.tells Fault.Volume (V.state volume.old) (V.state volume.new) result }
     {
@@ -143,6 +152,10 @@ impl Twins {
         ensures corrupt { IfErr result (λ fault. V.tells → (config : Config) (s : State Operation) →
             IsTwinsOf config (present (V.state volume.old)) self s → IsCorrupt fault → ⊥) }
         ensures own { IfErr result IsOwnFault }
+        // Whatever a crash leaves at a moment stands for the state before, or for that which the list machine leaves.
+        ensures images { V.tells → (config : Config) (s : State Operation) →
+            IsTwinsOf config (present (V.state volume.old)) self s →
+            TakesTo config s ((step config s command.now).1) (V.state volume.old) (V.state volume.new) result }
         ensures names { V.tells → NamesCall (names_of self) (V.state volume.old) (V.state volume.new) }
         ensures writes { Writes V.tells Fault.Volume (V.state volume.old) (V.state volume.new) result }
     {
@@ -175,6 +188,10 @@ impl Twins {
         ensures corrupt { IfErr result (λ fault. V.tells → (config : Config) (s : State Operation) →
             IsTwinsOf config (present (V.state volume.old)) self s → IsCorrupt fault → ⊥) }
         ensures own { IfErr result IsOwnFault }
+        // Whatever a crash leaves at a moment stands for the state before, or for that which the list machine leaves.
+        ensures images { V.tells → (config : Config) (s : State Operation) →
+            IsTwinsOf config (present (V.state volume.old)) self s →
+            TakesTo config s (pruned config.log_blob config.witness_blob s location) (V.state volume.old) (V.state volume.new) result }
         ensures names { V.tells → NamesCall (names_of self) (V.state volume.old) (V.state volume.new) }
         ensures changes { Changes V.tells Fault.Volume (V.state volume.old) (V.state volume.new) result }
     {
@@ -211,6 +228,10 @@ impl Twins {
         ensures corrupt { IfErr result (λ fault. V.tells → (config : Config) (s : State Operation) → IsTold s →
             IsTwinsOf config (present (V.state volume.old)) self s → IsCorrupt fault → ⊥) }
         ensures own { IfErr result IsOwnFault }
+        // Whatever a crash leaves at a moment stands for the state before, or for that which the list machine leaves.
+        ensures images { V.tells → (config : Config) (s : State Operation) → IsTold s →
+            IsTwinsOf config (present (V.state volume.old)) self s →
+            TakesTo config s ((prune config.log_blob config.witness_blob s location).1) (V.state volume.old) (V.state volume.new) result }
         ensures names { V.tells → NamesCall (names_of self) (V.state volume.old) (V.state volume.new) }
         ensures changes { Changes V.tells Fault.Volume (V.state volume.old) (V.state volume.new) result }
     {
@@ -257,6 +278,10 @@ impl Twins {
         ensures left { IfOk result (λ r. (why : Refusal) → r.1 ≡ answer.Refused why →
             LeaveBatches command.now self r.0) }
         ensures no_item { NeedsNoItem command.now → (V.state volume.new).reads ≡ (V.state volume.old).reads }
+        // Whatever a crash leaves at a moment stands for the state before, or for that which the list machine leaves.
+        ensures images { V.tells → (config : Config) (s : State Operation) → IsTold s →
+            IsTwinsOf config (present (V.state volume.old)) self s →
+            TakesTo config s ((step config s command.now).1) (V.state volume.old) (V.state volume.new) result }
         ensures names { V.tells → NamesCall (names_of self) (V.state volume.old) (V.state volume.new) }
         ensures changes { Changes V.tells Fault.Volume (V.state volume.old) (V.state volume.new) result }
     {

@@ -14,7 +14,9 @@ ghost use Rattle.twin_databases.specs.CompactKind.{compact_kind};
 ghost use Rattle.twin_databases.specs.OpeningErrors.{IsOfFullOpening};
 ghost use Rattle.twin_databases.specs.FullKind.{IsFullDbOf, full_kind, kept_full};
 ghost use Rattle.twin_databases.specs.Reopening.{FollowsOperations, KeepsOperations, OpensAgain};
+ghost use Rattle.twin_databases.specs.Standing.{KeepStanding, OpensGood, StandNow, settled_at};
 ghost use Rattle.twin_run.specs.Faults.{IsCorrupt, IsOfOpenings, IsOwnFault};
+ghost use Rattle.twin_run.specs.Standing.{TakesTo};
 ghost use Rattle.twin_run.specs.Twins.{AreOpenedAs, AreSound, AreUnder};
 
 use crate::agreement::check_same;
@@ -53,6 +55,16 @@ fn lowered<V: Volume>(
         KeepsOperations config.now.value_limit None full.state.size first
         ((V.state volume.old).log config.now.log) →
         KeepsOperations config.now.value_limit (Some size) size first ((V.state volume.new).log config.now.log)) }
+    // Where whatever a crash leaves of its names stands for a good state of which no more is durable than this size, it
+    // does so at each moment, whatever is answered. Where what it left stood for the state up to the full database's
+    // size, and all of that was durable, it does so up to that of the database that is opened.
+    ensures images { let now = config.now in V.tells → (s : State Operation) →
+        OpensGood now.value_limit (Some size) s →
+        KeepStanding now.log now.nodes now.metadata s (V.state volume.old) (V.state volume.new) }
+    ensures settled { let now = config.now in IfOk result (λ db. V.tells → (s : State Operation) →
+        OpensGood now.value_limit (Some size) s → StandNow now.log now.nodes now.metadata s (V.state volume.old) →
+        StandNow now.log now.nodes now.metadata (settled_at s full.state.size) (V.state volume.old) →
+        StandNow now.log now.nodes now.metadata (settled_at s db.state.size) (V.state volume.new)) }
     ensures under { IfOk result (λ db. full_kind.is_under config.now db) }
     ensures sound { IfOk result (λ db. full_kind.is_sound db) }
     ensures durable { IfOk result (λ db. V.tells → full_kind.is_synced full (V.state volume.old) →
@@ -87,6 +99,11 @@ pub fn realign<V: Volume>(
     // Such contents aren't found to be no state.
     ensures corrupt { IfErr result (λ fault. V.tells → (s : State Operation) →
         IsStart config.now s (present (V.state volume.old)) → IsCorrupt fault → ⊥) }
+    // Whatever a crash leaves up to a moment of it stands for such a state, and from that moment on for what is opened
+    // of it; after an error that moment may not have come.
+    ensures images { V.tells → (s : State Operation) → IsStart config.now s (present (V.state volume.old)) →
+        TakesTo config.now s (opened_from config.now s (present (V.state volume.old))) (V.state volume.old)
+        (V.state volume.new) result }
     ensures own { IfErr result IsOwnFault }
     // Whatever the volume holds, an error that is told of contents is one of that database's opening.
     ensures causes { IfErr result (IsOfOpenings V.tells config.now) }

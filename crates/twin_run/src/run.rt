@@ -4,10 +4,13 @@ ghost use Rattle.codec_base.specs.Causes.{Rose};
 ghost use Rattle.volume_base.specs.Moments.{present};
 ghost use Rattle.volume_base.specs.Names.{NamesCall};
 ghost use Rattle.volume_base.specs.Volume.{Changes, StaysSteady};
-ghost use Rattle.list_machine.specs.Starts.{OfEachStart, IsLeft, twin_names};
+ghost use Rattle.log_model.specs.Machine.{State};
+ghost use Rattle.list_machine.specs.Operation.{Operation};
+ghost use Rattle.list_machine.specs.Starts.{OfEachStart, IsLeft, opened_from, twin_names};
 ghost use Rattle.list_machine.specs.Trace.{trace, state_after, IsBegun, TellOneRoot};
 ghost use Rattle.twin_run.specs.Faults.{IsCorrupt, IsOwnFault};
 ghost use Rattle.twin_run.specs.Lasting.{LastsBehind};
+ghost use Rattle.twin_run.specs.Standing.{BeginsAt, CoversAll, CoversSome};
 ghost use Rattle.twin_run.specs.declared.ending.Fault.TheVariants.{Volume, Memory};
 
 use crate::ending::{Fault, Stopped};
@@ -37,6 +40,14 @@ fn answer_all<V: Volume>(
     ensures left { OnOk result (V.tells → OfEachStart config.now (present (V.state volume.old)) commands.now
         (λ now. IsLeft config.now (present (V.state volume.new)) (state_after config.now now commands.now))) }
     ensures durable { OnOk result (V.tells → LastsBehind config.now (V.state volume.new) commands.now) }
+    ensures images { OnOk result (V.tells → (s : State Operation) →
+        BeginsAt config.now commands.now s (V.state volume.old) →
+        CoversAll config.now s (opened_from config.now s (present (V.state volume.old))) commands.now
+        (V.state volume.old) (V.state volume.new)) }
+    ensures images_so_far { OnErr result (V.tells → (s : State Operation) →
+        BeginsAt config.now commands.now s (V.state volume.old) →
+        CoversSome config.now s (opened_from config.now s (present (V.state volume.old))) commands.now
+        (length replies.new) (V.state volume.old) (V.state volume.new)) }
     ensures corrupt { IfErr result (λ fault. V.tells → OfEachStart config.now (present (V.state volume.old))
         commands.now (λ now. IsCorrupt fault → ⊥)) }
     ensures own { IfErr result IsOwnFault }
@@ -91,6 +102,16 @@ pub fn run_twins<V: Volume>(
     // state without its batches, so the next run may begin there.
     ensures left { V.tells → OfEachStart config.now (present (V.state volume.old)) commands.now (λ now. OnOk result
         (IsLeft config.now (present (V.state volume.new)) (state_after config.now now commands.now))) }
+    // Where each image that a crash may leave before the run stands for such a state, each that one may leave at a
+    // moment of the run stands for the list machine's state before or after the running step: the states come one after
+    // another, and of a run that stopped with so many replies the last is the one before, or behind, the step that was
+    // running.
+    ensures images { V.tells → (s : State Operation) → BeginsAt config.now commands.now s (V.state volume.old) →
+        OnOk result (CoversAll config.now s (opened_from config.now s (present (V.state volume.old))) commands.now
+        (V.state volume.old) (V.state volume.new)) }
+    ensures images_so_far { V.tells → (s : State Operation) → BeginsAt config.now commands.now s (V.state volume.old) →
+        IfErr result (λ e. CoversSome config.now s (opened_from config.now s (present (V.state volume.old)))
+        commands.now (length e.replies) (V.state volume.old) (V.state volume.new)) }
     // Whatever the volume holds, behind a whole run the operation log and the witness log outlast a crash where behind
     // the last of its opening, commits and syncs there is no apply and no prune; and where that last one is no commit,
     // the node log too.

@@ -17,6 +17,7 @@ ghost use Rattle.twin_databases.specs.CompactKind.{compact_kind};
 ghost use Rattle.twin_databases.specs.FullKind.{full_kind};
 ghost use Rattle.twin_databases.specs.Reopening.{FollowsOperations, KeepsOperations};
 ghost use Rattle.twin_run.specs.Faults.{IsCorrupt, IsOfOpenings, IsOwnFault};
+ghost use Rattle.twin_run.specs.Standing.{TakesTo};
 ghost use Rattle.twin_run.specs.Twins.{AreShaped, AreOf, AreKept, LeaveBatches, IsTwinsOf, IsDurableAfter, names_of, reply_of, opened_reply};
 
 use crate::ending::Fault;
@@ -50,6 +51,11 @@ impl Twins {
             IsStart config.now s (present (V.state volume.old)) →
             let now = opened_from config.now s (present (V.state volume.old)) in
             (r.1 ≡ opened_reply now) × IsTwinsOf config.now (present (V.state volume.new)) r.0 now) }
+        // Whatever a crash leaves up to a moment of the opening stands for such a state, and from that moment on for
+        // what is opened of it; after an error that moment may not have come.
+        ensures images { V.tells → (s : State Operation) → IsStart config.now s (present (V.state volume.old)) →
+            TakesTo config.now s (opened_from config.now s (present (V.state volume.old))) (V.state volume.old)
+            (V.state volume.new) result }
         ensures of { IfOk result (λ r. AreOf config.now r.0) }
         ensures durable { IfOk result (λ r. V.tells →
             full_kind.is_synced r.0.full.db (V.state volume.new)
@@ -150,6 +156,10 @@ impl Twins {
         // And it finds no fault in what the volume holds.
         ensures corrupt { IfErr result (λ fault. V.tells → (config : Config) (s : State Operation) → IsTold s →
             IsTwinsOf config (present (V.state volume.old)) self s → IsCorrupt fault → ⊥) }
+        // Whatever a crash leaves at a moment stands for the state before, or for that which the list machine leaves.
+        ensures images { V.tells → (config : Config) (s : State Operation) → IsTold s →
+            IsTwinsOf config (present (V.state volume.old)) self s →
+            TakesTo config s ((step config s command.now).1) (V.state volume.old) (V.state volume.new) result }
         ensures own { IfErr result IsOwnFault }
         // Whatever the volume holds, the roots in the reply are those of the two databases, and one.
         ensures roots { IfOk result (λ r. r.1 ≡ reply_of r.0 r.1.answer) }

@@ -1,4 +1,4 @@
-use Rattle.std.proofs.Common.{inl, inr, subst, sym}
+use Rattle.std.proofs.Common.{inl, inr, ⊎_elim, subst, sym}
 use Rattle.std.specs.Prelude.{List}
 use Rattle.command_text.specs.declared.command.Command.{Command}
 use Rattle.volume_base.specs.Moments.{present}
@@ -96,6 +96,39 @@ returns-in-Ok-clause-lasting g c = λ whole told. record {
   asked = record { said = c.in-Some.ensures; runs = c.in-Ok.ensures.runs };
   lasting = rw c.deref.ensures.value at (c.run_and_write.ensures.durable whole told);
 }
+
+pub returns-in-Ok-clause-images : goal.returns-in-Ok-clause-images
+returns-in-Ok-clause-images g c = λ whole told. record {
+  task = c.in-Some.task;
+  commands = c.in-Ok.commands.items;
+  asked = record { said = c.in-Some.ensures; runs = c.in-Ok.ensures.runs };
+  stood = rw c.deref.ensures.value at (c.run_and_write.ensures.images whole told);
+}
+
+pub returns-in-Ok-clause-images_so_far : goal.returns-in-Ok-clause-images_so_far
+returns-in-Ok-clause-images_so_far g c = λ e told.
+    let run = c.run_and_write.ensures.images_so_far (⊎_elim (λ v. inl v) (λ v. inr (inl v)) e) told in record {
+      task = c.in-Some.task;
+      commands = c.in-Ok.commands.items;
+      asked = record { said = c.in-Some.ensures; runs = c.in-Ok.ensures.runs };
+      said = run.0;
+      replies = rw c.deref.ensures.value at run.1;
+      wrote = run.2;
+      stood = rw c.deref.ensures.value at run.3;
+    }
+
+pub returns-in-Ok-clause-images_of_memory : goal.returns-in-Ok-clause-images_of_memory
+returns-in-Ok-clause-images_of_memory g c = λ e told.
+    let run = c.run_and_write.ensures.images_so_far (inr (inr e)) told in
+    inr (record {
+      task = c.in-Some.task;
+      commands = c.in-Ok.commands.items;
+      asked = record { said = c.in-Some.ensures; runs = c.in-Ok.ensures.runs };
+      said = run.0;
+      replies = rw c.deref.ensures.value at run.1;
+      wrote = run.2;
+      stood = rw c.deref.ensures.value at run.3;
+    })
 
 pub returns-in-Ok-clause-no_fault : goal.returns-in-Ok-clause-no_fault
 returns-in-Ok-clause-no_fault g c = c.run_and_write.ensures.no_fault

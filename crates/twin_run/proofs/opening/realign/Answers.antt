@@ -1,18 +1,21 @@
-use Rattle.std.proofs.Common.{◌≡◌, Some, None, [], sym, ◌∙◌, ap, subst}
+use Rattle.std.proofs.Common.{◌≡◌, Some, None, [], get_or, sym, ◌∙◌, ap, subst}
 use Rattle.volume_base.specs.Moments.{present}
+use Rattle.volume_base.specs.Names.{Names}
+use Rattle.volume_base.specs.Volume.{OnlyLeft}
 use Rattle.volume_base.proofs.CallLemmas.{names_call_joins}
 use Rattle.volume_base.proofs.JoinLemmas.{went_joins, went_none, went_of}
 use Rattle.chain_core.specs.declared.commitment.Commitment.{Commitment}
 use Rattle.chain_core.specs.declared.error.Error.TheVariants as error
 use Rattle.tree_shape.specs.declared.mmr.Mmr.{Mmr}
 use Rattle.tree_shape.specs.declared.sha256.Sha256Digest.{Sha256Digest}
-use Rattle.list_machine.specs.Starts.{twin_names}
+use Rattle.list_machine.specs.Starts.{opened_from, twin_names}
 use Rattle.twin_databases.proofs.WentLemmas.{changes_err, changes_ok}
 use Rattle.twin_run.specs.Faults.{IsCorrupt, IsOwnFault}
 use Rattle.twin_run.specs.declared.ending.Fault.TheVariants as fault
-use Rattle.twin_run.proofs.BothOpened.{both_opened, compact_call, compact_synced, full_call, full_synced, is_again, kept_over, most_low, most_past, one_state, opens_again, some_cap, witnesses, witnesses_over}
+use Rattle.twin_run.proofs.BothOpened.{both_opened, compact_call, compact_size, compact_synced, full_call, full_synced, is_again, kept_over, most_low, most_past, one_state, opens_again, some_cap, witnesses, witnesses_over}
 use Rattle.twin_run.proofs.FaultLemmas.{changes_compact, changes_full, compact_cause, compact_outside, compact_own, full_cause, full_outside, full_own, unlike_cause, unlike_own, unlike_same, unlike_volume}
 use Rattle.twin_run.proofs.Realigning.{Listed, first_start}
+use Rattle.twin_run.proofs.RealignMoments.{along_err, along_first, along_ok, along_second, along_third, full_now, opens_size, settled_third, witness_now}
 use Rattle.twin_run.proofs.opening.realign.Goals as goal
 
 -- ---- the full database isn't opened
@@ -352,3 +355,145 @@ returns-in-Err-check_same-clause-changes g c =
     (went_of g.V.Volume.tells error.Volume mid next c.in-Ok-open_compact_under.compact
     c.in-Ok-open_compact_under.ensures.changes))
     (went_of g.V.Volume.tells error.Volume next new c.in-Ok-lowered.full c.in-Ok-lowered.ensures.changes))
+
+-- ---- what a crash leaves
+
+pub returns-in-Err-clause-images : goal.returns-in-Err-clause-images
+returns-in-Err-clause-images g c told s start each =
+    let config = c.args.config.now in
+    let old = g.V.Volume.state c.args.volume.now in
+    let mid = g.V.Volume.state c.open_full_under.new.volume in
+    let small = c.limit_within.ensures in
+    let left = g.met.V.Volume.contents_left c.args.volume.now told in
+    let opened = opened_from config s (present old) in
+    along_err config s opened old mid c.full_fault.result
+    (along_first config c.names_apart.ensures small s old start left each mid (c.in-Err.ensures.names told)
+    (c.in-Err.ensures.images told))
+
+pub returns-in-Err-open_compact_under-clause-images : goal.returns-in-Err-open_compact_under-clause-images
+returns-in-Err-open_compact_under-clause-images g c told s start each =
+    let config = c.args.config.now in
+    let old = g.V.Volume.state c.args.volume.now in
+    let mid = g.V.Volume.state c.open_full_under.new.volume in
+    let next = g.V.Volume.state c.open_compact_under.new.volume in
+    let small = c.limit_within.ensures in
+    let left = g.met.V.Volume.contents_left c.args.volume.now told in
+    let opened = opened_from config s (present old) in
+    let full = c.in-Ok.full in
+    let first = c.in-Ok.ensures in
+    let most : c.as_u64-most.result ≡ full.state.size =
+    c.as_u64-most.ensures ∙ ap (λ (k : Commitment Mmr Sha256Digest). k.size) c.commitment.ensures in
+    let opens = first.opened told in
+    let names = first.names told in
+    let cap = ap Some most in
+    let low = most_low config c.names_apart.ensures small s old mid start full opens first.same_names names in
+    let past = most_past config c.names_apart.ensures small s old mid start full opens first.same_names names in
+    let there = witnesses config c.names_apart.ensures small s old mid start full opens first.same_names names in
+    along_err config s opened old next c.compact_fault.result
+    (along_second config c.names_apart.ensures small s old start left each mid names (first.images told) next
+    (c.in-Err-open_compact_under.ensures.names told)
+    (c.in-Err-open_compact_under.ensures.images told s full.state.size cap low past start.good there))
+
+pub returns-in-Err-lowered-clause-images : goal.returns-in-Err-lowered-clause-images
+returns-in-Err-lowered-clause-images g c told s start each =
+    let config = c.args.config.now in
+    let old = g.V.Volume.state c.args.volume.now in
+    let mid = g.V.Volume.state c.open_full_under.new.volume in
+    let next = g.V.Volume.state c.open_compact_under.new.volume in
+    let new = g.V.Volume.state c.lowered.new.volume in
+    let small = c.limit_within.ensures in
+    let left = g.met.V.Volume.contents_left c.args.volume.now told in
+    let opened = opened_from config s (present old) in
+    let full = c.in-Ok.full in
+    let first = c.in-Ok.ensures in
+    let most : c.as_u64-most.result ≡ full.state.size =
+    c.as_u64-most.ensures ∙ ap (λ (k : Commitment Mmr Sha256Digest). k.size) c.commitment.ensures in
+    let opens = first.opened told in
+    let names = first.names told in
+    let cap = ap Some most in
+    let low = most_low config c.names_apart.ensures small s old mid start full opens first.same_names names in
+    let past = most_past config c.names_apart.ensures small s old mid start full opens first.same_names names in
+    let there = witnesses config c.names_apart.ensures small s old mid start full opens first.same_names names in
+    let compact = c.in-Ok-open_compact_under.compact in
+    let second = c.in-Ok-open_compact_under.ensures in
+    let size = c.as_u64-size.ensures ∙ ap (λ (k : Commitment Mmr Sha256Digest). k.size) c.commitment-2.ensures in
+    let size_is = size ∙ compact_size config c.names_apart.ensures small s old mid start full opens first.same_names names
+    next compact (Some c.as_u64-most.result) cap (second.opened told) (second.names told) in
+    let lower = opens_size config small s old start c.as_u64-size.result size_is in
+    along_err config s opened old new c.full_fault-in-Err-lowered.result
+    (along_third config c.names_apart.ensures small s old start left each mid names (first.images told) next
+    (second.names told) (second.images told s full.state.size cap low past start.good there) new
+    (c.in-Err-lowered.ensures.names told) c.as_u64-size.result lower (c.in-Err-lowered.ensures.images told))
+
+pub returns-in-Err-check_same-clause-images : goal.returns-in-Err-check_same-clause-images
+returns-in-Err-check_same-clause-images g c told s start each =
+    let config = c.args.config.now in
+    let old = g.V.Volume.state c.args.volume.now in
+    let mid = g.V.Volume.state c.open_full_under.new.volume in
+    let next = g.V.Volume.state c.open_compact_under.new.volume in
+    let new = g.V.Volume.state c.lowered.new.volume in
+    let small = c.limit_within.ensures in
+    let left = g.met.V.Volume.contents_left c.args.volume.now told in
+    let opened = opened_from config s (present old) in
+    let full = c.in-Ok.full in
+    let first = c.in-Ok.ensures in
+    let most : c.as_u64-most.result ≡ full.state.size =
+    c.as_u64-most.ensures ∙ ap (λ (k : Commitment Mmr Sha256Digest). k.size) c.commitment.ensures in
+    let opens = first.opened told in
+    let names = first.names told in
+    let cap = ap Some most in
+    let low = most_low config c.names_apart.ensures small s old mid start full opens first.same_names names in
+    let past = most_past config c.names_apart.ensures small s old mid start full opens first.same_names names in
+    let there = witnesses config c.names_apart.ensures small s old mid start full opens first.same_names names in
+    let compact = c.in-Ok-open_compact_under.compact in
+    let second = c.in-Ok-open_compact_under.ensures in
+    let size = c.as_u64-size.ensures ∙ ap (λ (k : Commitment Mmr Sha256Digest). k.size) c.commitment-2.ensures in
+    let size_is = size ∙ compact_size config c.names_apart.ensures small s old mid start full opens first.same_names names
+    next compact (Some c.as_u64-most.result) cap (second.opened told) (second.names told) in
+    let lower = opens_size config small s old start c.as_u64-size.result size_is in
+    along_err config s opened old new c.in-Err-check_same.fault
+    (along_third config c.names_apart.ensures small s old start left each mid names (first.images told) next
+    (second.names told) (second.images told s full.state.size cap low past start.good there) new
+    (c.in-Ok-lowered.ensures.names told) c.as_u64-size.result lower (c.in-Ok-lowered.ensures.images told))
+
+pub returns-in-Ok-check_same-clause-images : goal.returns-in-Ok-check_same-clause-images
+returns-in-Ok-check_same-clause-images g c told s start each =
+    let config = c.args.config.now in
+    let old = g.V.Volume.state c.args.volume.now in
+    let mid = g.V.Volume.state c.open_full_under.new.volume in
+    let next = g.V.Volume.state c.open_compact_under.new.volume in
+    let new = g.V.Volume.state c.lowered.new.volume in
+    let small = c.limit_within.ensures in
+    let left = g.met.V.Volume.contents_left c.args.volume.now told in
+    let opened = opened_from config s (present old) in
+    let full = c.in-Ok.full in
+    let first = c.in-Ok.ensures in
+    let most : c.as_u64-most.result ≡ full.state.size =
+    c.as_u64-most.ensures ∙ ap (λ (k : Commitment Mmr Sha256Digest). k.size) c.commitment.ensures in
+    let opens = first.opened told in
+    let names = first.names told in
+    let cap = ap Some most in
+    let low = most_low config c.names_apart.ensures small s old mid start full opens first.same_names names in
+    let past = most_past config c.names_apart.ensures small s old mid start full opens first.same_names names in
+    let there = witnesses config c.names_apart.ensures small s old mid start full opens first.same_names names in
+    let compact = c.in-Ok-open_compact_under.compact in
+    let second = c.in-Ok-open_compact_under.ensures in
+    let size = c.as_u64-size.ensures ∙ ap (λ (k : Commitment Mmr Sha256Digest). k.size) c.commitment-2.ensures in
+    let size_is = size ∙ compact_size config c.names_apart.ensures small s old mid start full opens first.same_names names
+    next compact (Some c.as_u64-most.result) cap (second.opened told) (second.names told) in
+    let lower = opens_size config small s old start c.as_u64-size.result size_is in
+    let third = c.in-Ok-lowered.ensures in
+    let both = returns-in-Ok-check_same-clause-opened g c told s start in
+    let synced = returns-in-Ok-check_same-clause-durable g c told in
+    let settled = settled_third config c.names_apart.ensures small s old start left each mid names (first.images told)
+    next (second.names told) (second.images told s full.state.size cap low past start.good there) new
+    (third.names told) c.as_u64-size.result lower (third.images told) full.state.size c.in-Ok-lowered.full.state.size
+    (first.settled told) (third.settled told) in
+    let only = subst (λ (n : Names). OnlyLeft (new.log_left new.clock (get_or n.logs 0 []))
+    (new.log (get_or n.logs 0 []))) second.same_names synced.1 in
+    along_ok config s opened old new (c.in-Ok-lowered.full, compact)
+    (along_third config c.names_apart.ensures small s old start left each mid names (first.images told) next
+    (second.names told) (second.images told s full.state.size cap low past start.good there) new
+    (c.in-Ok-lowered.ensures.names told) c.as_u64-size.result lower (c.in-Ok-lowered.ensures.images told))
+    (full_now config s old new start c.in-Ok-lowered.full compact both settled)
+    (witness_now config s old new start c.in-Ok-lowered.full compact both third.same_names second.same_names only)

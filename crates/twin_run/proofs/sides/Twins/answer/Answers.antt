@@ -12,6 +12,8 @@ use Rattle.twin_databases.proofs.WentLemmas.{changes_ok, changes_err}
 use Rattle.twin_run.proofs.BothFaults.{full_is_own, full_is_outside, full_changes, compact_is_own, compact_is_outside, compact_changes, fault_as, changes_as}
 use Rattle.twin_run.proofs.BothSides.{full_stands, compact_stands, twins_over, named_meet, kept_meet, each_ok, kept_same, on_same, on_settled, shaped_settled}
 use Rattle.twin_run.proofs.Left.{both_left}
+use Rattle.twin_run.proofs.BothMoments.{takes_ok, takes_err, takes_here, takes_idle, takes_named}
+use Rattle.twin_run.proofs.BothStates.{in_batches, stands_beside, stands_same}
 use Rattle.twin_run.proofs.sides.Twins.answer.Goals as goal
 
 -- ---- batches
@@ -350,3 +352,77 @@ returns-in-Prune-clause-left g c = IfOk-weaker c.prune.result _ _ (λ r kept why
 pub returns-in-Prune-clause-no_item : goal.returns-in-Prune-clause-no_item
 returns-in-Prune-clause-no_item g c = λ none. absurd (prune_reads c.args.command.now c.in-Prune.location
     (sym c.topic_of.ensures ∙ c.in-Prune.is) none)
+
+-- ---- what a crash leaves
+
+pub returns-in-Ok-clause-images : goal.returns-in-Ok-clause-images
+returns-in-Ok-clause-images g c = λ told config s lists of.
+    let about = sym c.topic_of.ensures ∙ c.in-Batches.is in
+    let next = (step config s c.args.command.now).1 in
+    takes_here config s next _ _
+    (stands_beside config s next (in_batches s config c.args.command.now about))
+
+pub returns-in-Err-clause-images : goal.returns-in-Err-clause-images
+returns-in-Err-clause-images g c = λ told config s lists of.
+    let about = sym c.topic_of.ensures ∙ c.in-Batches.is in
+    let next = (step config s c.args.command.now).1 in
+    takes_here config s next _ _
+    (stands_beside config s next (in_batches s config c.args.command.now about))
+
+pub returns-in-Apply-clause-images : goal.returns-in-Apply-clause-images
+returns-in-Apply-clause-images g c = λ told config s lists of.
+    let about = sym c.topic_of.ensures ∙ c.in-Apply.is in
+    takes_named config s _ _ _ _ (step config s c.args.command.now)
+    (ap (λ o. o.1) (named_apply config s c.args.command.now c.in-Apply.b about))
+    (c.apply.ensures.images told config s lists of)
+
+pub returns-in-Ok-ask-clause-images : goal.returns-in-Ok-ask-clause-images
+returns-in-Ok-ask-clause-images g c = λ told config s lists of.
+    let about = sym c.topic_of.ensures ∙ c.in-Question.is in
+    let next = (step config s c.args.command.now).1 in
+    let read = c.in-Ok-ask.ensures.reads in
+    takes_idle config s next _ _ _ read.clock (read.past told)
+    (stands_same config s next (asked_same s config c.args.command.now about))
+
+pub returns-in-Err-ask-clause-images : goal.returns-in-Err-ask-clause-images
+returns-in-Err-ask-clause-images g c = λ told config s lists of.
+    let about = sym c.topic_of.ensures ∙ c.in-Question.is in
+    let next = (step config s c.args.command.now).1 in
+    let read = c.in-Err-ask.ensures.reads in
+    takes_idle config s next _ _ _ read.clock (read.past told)
+    (stands_same config s next (asked_same s config c.args.command.now about))
+
+pub returns-in-Ok-prove_commit-clause-images : goal.returns-in-Ok-prove_commit-clause-images
+returns-in-Ok-prove_commit-clause-images g c = λ told config s lists of.
+    let about = sym c.topic_of.ensures ∙ c.in-CommitProof.is in
+    let next = (step config s c.args.command.now).1 in
+    let read = c.in-Ok-prove_commit.ensures.reads in
+    takes_idle config s next _ _ _ read.clock (read.past told) (stands_same config s next
+    (ap (λ o. o.1) (named_proof config s c.args.command.now c.in-CommitProof.n about)
+    ∙ proved_same s c.in-CommitProof.n))
+
+pub returns-in-Err-prove_commit-clause-images : goal.returns-in-Err-prove_commit-clause-images
+returns-in-Err-prove_commit-clause-images g c = λ told config s lists of.
+    let about = sym c.topic_of.ensures ∙ c.in-CommitProof.is in
+    let next = (step config s c.args.command.now).1 in
+    let read = c.in-Err-prove_commit.ensures.reads in
+    takes_idle config s next _ _ _ read.clock (read.past told) (stands_same config s next
+    (ap (λ o. o.1) (named_proof config s c.args.command.now c.in-CommitProof.n about)
+    ∙ proved_same s c.in-CommitProof.n))
+
+pub returns-in-Ok-store-clause-images : goal.returns-in-Ok-store-clause-images
+returns-in-Ok-store-clause-images g c = λ told config s lists of.
+    takes_ok config s (step config s c.args.command.now).1 _ _ c.in-Ok-store.twins _
+    (c.in-Ok-store.ensures.images told config s of)
+
+pub returns-in-Err-store-clause-images : goal.returns-in-Err-store-clause-images
+returns-in-Err-store-clause-images g c = λ told config s lists of.
+    takes_err config s (step config s c.args.command.now).1 _ _ c.in-Err-store.fault _
+    (c.in-Err-store.ensures.images told config s of)
+
+pub returns-in-Prune-clause-images : goal.returns-in-Prune-clause-images
+returns-in-Prune-clause-images g c = λ told config s lists of.
+    let about = sym c.topic_of.ensures ∙ c.in-Prune.is in
+    takes_named config s _ _ _ _ (step config s c.args.command.now)
+    (ap (λ o. o.1) (named_prune config s c.args.command.now c.in-Prune.location about))
+    (c.prune.ensures.images told config s lists of)

@@ -1,10 +1,14 @@
 use Rattle.std.proofs.Common.{refl, sym, ◌∙◌, ap}
 use Rattle.std.specs.Prelude.{Ok}
+use Rattle.log_model.specs.Machine.{batch_at}
 use Rattle.volume_base.proofs.CallLemmas.{names_call_none}
+use Rattle.list_machine.specs.Step.{apply}
 use Rattle.twin_batches.proofs.Quiet.{apply_kept, apply_done}
 use Rattle.twin_batches.proofs.Writing.{writes_ok, writes_err, writes_nothing, writes_none}
 use Rattle.twin_run.proofs.BothFaults.{refused_alone, both_refuse, alike_ok, both_take}
 use Rattle.twin_run.proofs.BothSides.{on_same, refused_meet}
+use Rattle.twin_run.proofs.BothMoments.{takes_ok, takes_err, takes_here, takes_nothing}
+use Rattle.twin_run.proofs.BothStates.{stands_same}
 use Rattle.twin_run.proofs.sides.Twins.apply.Goals as goal
 
 pub apply_both-requires-clause-full_takes : goal.apply_both-requires-clause-full_takes
@@ -58,3 +62,25 @@ returns-in-Err-clause-names g c = λ told. names_call_none _ _
 pub returns-in-Err-clause-writes : goal.returns-in-Err-clause-writes
 returns-in-Err-clause-writes g c = writes_none _ _ _ _
     (refused_alone _ _ _ c.refusal_of_both.ensures c.in-Err.fault c.in-Err.is).other
+
+pub returns-in-Ok-clause-images : goal.returns-in-Ok-clause-images
+returns-in-Ok-clause-images g c = λ told config s lists of.
+    takes_ok config s (apply s c.args.b (batch_at s c.args.b)).1 _ _ c.in-Ok.twins _
+    (c.in-Ok.ensures.images told config s lists of)
+
+pub returns-in-Err-apply_both-clause-images : goal.returns-in-Err-apply_both-clause-images
+returns-in-Err-apply_both-clause-images g c = λ told config s lists of.
+    takes_err config s (apply s c.args.b (batch_at s c.args.b)).1 _ _ c.in-Err-apply_both.fault _
+    (c.in-Err-apply_both.ensures.images told config s lists of)
+
+pub returns-in-Ok-Some-clause-images : goal.returns-in-Ok-Some-clause-images
+returns-in-Ok-Some-clause-images g c = λ told config s lists of.
+    let why = both_refuse _ _ _ c.refusal_of_both.ensures _ (c.in-Ok-Some.is ∙ ap Ok c.in-Ok-Some.field-0-is) in
+    let kept = apply_kept s c.in-Ok-Some.refusal c.args.b
+    (sym why ∙ c.apply_refusal-full.ensures.machine _ s lists of.full) in
+    let next = (apply s c.args.b (batch_at s c.args.b)).1 in
+    takes_here config s next _ _ (stands_same config s next (ap (λ o. o.1) kept))
+
+pub returns-in-Err-clause-images : goal.returns-in-Err-clause-images
+returns-in-Err-clause-images g c = λ told config s lists of.
+    takes_nothing config s (apply s c.args.b (batch_at s c.args.b)).1 _ _

@@ -8,6 +8,8 @@ use Rattle.twin_databases.specs.FullKind.{full_kind}
 use Rattle.twin_run.proofs.BothFaults.{full_is_own, full_is_outside, full_writes, compact_is_own, compact_is_outside, compact_writes, unlike_told, writes_fail, writes_done, writes_refused}
 use Rattle.twin_run.proofs.BothSides.{next_good, states_equal, on_changed, shaped_on, full_called, compact_waits, both_called, called_twins}
 use Rattle.twin_run.proofs.FaultLemmas.{unlike_same}
+use Rattle.twin_run.proofs.BothMoments.{apply_stops, apply_goes}
+use Rattle.twin_run.proofs.BothStates.{applied_longer}
 use Rattle.twin_run.proofs.sides.Twins.apply_both.Goals as goal
 
 pub returns-in-Err-clause-corrupt : goal.returns-in-Err-clause-corrupt
@@ -102,3 +104,44 @@ pub returns-in-Err-check_same-clause-writes : goal.returns-in-Err-check_same-cla
 returns-in-Err-check_same-clause-writes g c = writes_refused _ _ _ _ _ _ _ c.in-Err-check_same.fault
     (unlike_told _ _ c.in-Err-check_same.fault c.in-Err-check_same.ensures.unlike).other c.in-Ok.ensures.writes
     c.in-Ok-apply.ensures.writes
+
+pub returns-in-Err-clause-images : goal.returns-in-Err-clause-images
+returns-in-Err-clause-images g c = λ told config s lists of.
+    let full = c.in-Err.ensures in
+    let good = of.good.good.log in
+    apply_stops config c.args.self c.requires.shaped of.of s (apply s c.args.b (batch_at s c.args.b)).1 _ _
+    (g.met.V.Volume.contents_left c.args.volume.now told) (full.names told)
+    (λ image. applied_longer s good c.args.self.compact.db image c.args.b) (full.images told s lists good of.full) _
+
+pub returns-in-Err-apply-clause-images : goal.returns-in-Err-apply-clause-images
+returns-in-Err-apply-clause-images g c = λ told config s lists of.
+    let full = c.in-Ok.ensures in
+    let compact = c.in-Err-apply.ensures in
+    let good = of.good.good.log in
+    apply_goes config c.args.self c.requires.shaped of.of s (apply s c.args.b (batch_at s c.args.b)).1 _ _
+    (g.met.V.Volume.contents_left c.args.volume.now told) (full.names told)
+    (λ image. applied_longer s good c.args.self.compact.db image c.args.b) (full.images told s lists good of.full) _ _
+    (compact.names told) (compact.images told s lists good
+    (compact_waits c.args.self c.requires.shaped _ _ (full.names told) s of.compact))
+
+pub returns-in-Ok-check_same-clause-images : goal.returns-in-Ok-check_same-clause-images
+returns-in-Ok-check_same-clause-images g c = λ told config s lists of.
+    let full = c.in-Ok.ensures in
+    let compact = c.in-Ok-apply.ensures in
+    let good = of.good.good.log in
+    apply_goes config c.args.self c.requires.shaped of.of s (apply s c.args.b (batch_at s c.args.b)).1 _ _
+    (g.met.V.Volume.contents_left c.args.volume.now told) (full.names told)
+    (λ image. applied_longer s good c.args.self.compact.db image c.args.b) (full.images told s lists good of.full) _ _
+    (compact.names told) (compact.images told s lists good
+    (compact_waits c.args.self c.requires.shaped _ _ (full.names told) s of.compact))
+
+pub returns-in-Err-check_same-clause-images : goal.returns-in-Err-check_same-clause-images
+returns-in-Err-check_same-clause-images g c = λ told config s lists of.
+    let full = c.in-Ok.ensures in
+    let compact = c.in-Ok-apply.ensures in
+    let good = of.good.good.log in
+    apply_goes config c.args.self c.requires.shaped of.of s (apply s c.args.b (batch_at s c.args.b)).1 _ _
+    (g.met.V.Volume.contents_left c.args.volume.now told) (full.names told)
+    (λ image. applied_longer s good c.args.self.compact.db image c.args.b) (full.images told s lists good of.full) _ _
+    (compact.names told) (compact.images told s lists good
+    (compact_waits c.args.self c.requires.shaped _ _ (full.names told) s of.compact))

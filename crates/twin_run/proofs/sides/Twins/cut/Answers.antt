@@ -7,7 +7,9 @@ use Rattle.volume_base.proofs.JoinLemmas.{changes_of_writes}
 use Rattle.twin_batches.specs.Kind.{kept_of}
 use Rattle.twin_databases.specs.FullKind.{full_kind}
 use Rattle.twin_run.proofs.BothFaults.{full_is_own, full_is_outside, full_changes, compact_is_own, compact_is_outside, compact_changes, changes_fail, changes_done, changes_went}
-use Rattle.twin_run.proofs.BothSides.{on_settled, shaped_settled, settled_joins, names_settled, pruned_good, full_called, full_durable, compact_waits, both_called, called_twins}
+use Rattle.twin_run.proofs.BothSides.{on_settled, shaped_settled, settled_joins, names_settled, pruned_good, full_called, full_durable, compact_waits, compact_lasts, both_called, called_twins}
+use Rattle.twin_run.proofs.BothMoments.{prune_goes, prune_ends, takes_ok, takes_err, takes_back}
+use Rattle.twin_run.proofs.BothStates.{committed_less, pruned_wider}
 use Rattle.twin_run.proofs.sides.Twins.cut.Goals as goal
 
 pub prune-requires-clause-sound : goal.prune-requires-clause-sound
@@ -141,3 +143,58 @@ returns-in-Err-prune-2-clause-changes g c = changes_fail _ _ _ _ _ _ _
     (changes_of_writes _ _ _ _ _ c.in-Ok.ensures.writes)
     (changes_fail _ _ _ _ _ _ _ c.in-Ok-prune.ensures.changes
     (compact_changes c.in-Err-prune-2.error _ c.compact_fault.ensures _ _ _ c.in-Err-prune-2.ensures.changes))
+
+pub returns-in-Err-clause-images : goal.returns-in-Err-clause-images
+returns-in-Err-clause-images g c = λ told config s of.
+    takes_back config s (committed s) (pruned config.log_blob config.witness_blob s c.args.location) _ _ c.in-Err.fault
+    _ (committed_less s of.good.good.log config) (c.in-Err.ensures.images told config s of)
+
+pub returns-in-Err-prune-clause-images : goal.returns-in-Err-prune-clause-images
+returns-in-Err-prune-clause-images g c = λ told config s of.
+    let made = c.in-Ok.twins in
+    let here = c.in-Ok.ensures.ok told config s of in
+    let shaped = shaped_settled c.args.self made c.requires.shaped c.in-Ok.ensures.settled in
+    let next = pruned config.log_blob config.witness_blob s c.args.location in
+    let good = here.good.good.log in
+    let full = c.in-Err-prune.ensures in
+    takes_err config s next _ _ c.in-Err-prune.error _
+    (prune_goes config made shaped here.of s (committed s) next _ _ _
+    (g.met.V.Volume.contents_left c.store.new.volume told) (full.names told)
+    (committed_less s of.good.good.log config) (pruned_wider config s c.args.location made.compact.db) made _
+    (c.in-Ok.ensures.images told config s of) (full.images told (c.in-Ok.ensures.durable told).0 config (committed s) good here.full))
+
+pub returns-in-Ok-prune-2-clause-images : goal.returns-in-Ok-prune-2-clause-images
+returns-in-Ok-prune-2-clause-images g c = λ told config s of.
+    let made = c.in-Ok.twins in
+    let here = c.in-Ok.ensures.ok told config s of in
+    let shaped = shaped_settled c.args.self made c.requires.shaped c.in-Ok.ensures.settled in
+    let next = pruned config.log_blob config.witness_blob s c.args.location in
+    let good = here.good.good.log in
+    let full = c.in-Ok-prune.ensures in
+    let compact = c.in-Ok-prune-2.ensures in
+    takes_ok config s next _ _ c.in-Ok-prune-2.compact _
+    (prune_ends config made shaped here.of s (committed s) next _ _ _
+    (g.met.V.Volume.contents_left c.store.new.volume told) (full.names told)
+    (committed_less s of.good.good.log config) (pruned_wider config s c.args.location made.compact.db) made
+    c.in-Ok-prune.full _ _ (compact.names told) (c.in-Ok.ensures.images told config s of)
+    (full.images told (c.in-Ok.ensures.durable told).0 config (committed s) good here.full) (compact.images told
+    (compact_lasts made shaped _ _ (full.names told) (c.in-Ok.ensures.durable told).1) config (committed s) good
+    (compact_waits made shaped _ _ (full.names told) (committed s) here.compact)))
+
+pub returns-in-Err-prune-2-clause-images : goal.returns-in-Err-prune-2-clause-images
+returns-in-Err-prune-2-clause-images g c = λ told config s of.
+    let made = c.in-Ok.twins in
+    let here = c.in-Ok.ensures.ok told config s of in
+    let shaped = shaped_settled c.args.self made c.requires.shaped c.in-Ok.ensures.settled in
+    let next = pruned config.log_blob config.witness_blob s c.args.location in
+    let good = here.good.good.log in
+    let full = c.in-Ok-prune.ensures in
+    let compact = c.in-Err-prune-2.ensures in
+    takes_err config s next _ _ c.in-Err-prune-2.error _
+    (prune_ends config made shaped here.of s (committed s) next _ _ _
+    (g.met.V.Volume.contents_left c.store.new.volume told) (full.names told)
+    (committed_less s of.good.good.log config) (pruned_wider config s c.args.location made.compact.db) made
+    c.in-Ok-prune.full _ _ (compact.names told) (c.in-Ok.ensures.images told config s of)
+    (full.images told (c.in-Ok.ensures.durable told).0 config (committed s) good here.full) (compact.images told
+    (compact_lasts made shaped _ _ (full.names told) (c.in-Ok.ensures.durable told).1) config (committed s) good
+    (compact_waits made shaped _ _ (full.names told) (committed s) here.compact)))

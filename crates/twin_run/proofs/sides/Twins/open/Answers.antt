@@ -9,6 +9,7 @@ use Rattle.twin_databases.specs.Reopening.{FollowsOperations, KeepsOperations}
 use Rattle.twin_run.specs.Twins.{reply_of}
 use Rattle.twin_run.specs.declared.sides.Twins.{Twins}
 use Rattle.twin_run.proofs.BothSides.{opened_twins, opened_of, opened_shaped, opened_durable, made_reply, one_root}
+use Rattle.twin_run.proofs.RealignMoments.{takes_ok}
 use Rattle.twin_run.proofs.sides.Twins.open.Goals as goal
 
 pub returns-clause-shaped : goal.returns-clause-shaped
@@ -75,3 +76,10 @@ returns-clause-equal g c =
     let told = c.reply-reply.ensures in
     ap (λ r. r.full_root) told ∙ one_root twins c.opened.result (returns-clause-shaped g c).equal
     ∙ sym (ap (λ r. r.compact_root) told)
+
+pub returns-clause-images : goal.returns-clause-images
+returns-clause-images g c told s start each =
+    let config = c.args.config.now in
+    let old = g.V.Volume.state c.args.volume.now in
+    takes_ok config s (opened_from config s (present old)) old (g.V.Volume.state c.realign.new.volume) _ _
+    (c.in-Ok.ensures.images told s start each)

@@ -7,6 +7,7 @@ use Rattle.twin_databases.specs.CompactKind.{compact_kind}
 use Rattle.twin_databases.specs.FullKind.{full_kind}
 use Rattle.twin_run.specs.Twins.{reply_of}
 use Rattle.twin_run.proofs.BothSides.{are_of, called_config, counted_of, counted_twins, made_reply, one_root}
+use Rattle.twin_run.proofs.BothMoments.{takes_ok, takes_err}
 use Rattle.twin_run.proofs.sides.Twins.step.Goals as goal
 
 pub answer-requires-clause-shaped : goal.answer-requires-clause-shaped
@@ -114,3 +115,18 @@ returns-in-Err-clause-own_names g c = c.in-Err.ensures.names
 pub returns-in-Err-clause-names : goal.returns-in-Err-clause-names
 returns-in-Err-clause-names g c = λ told config of.
     called_config config c.args.self _ _ of (c.in-Err.ensures.names told)
+
+pub returns-in-Ok-clause-images : goal.returns-in-Ok-clause-images
+returns-in-Ok-clause-images g c = λ told config s lists of.
+    let image = present (g.V.Volume.state c.args.volume.now) in
+    let counted = counted_twins c.args.self _ refl refl c.count.ensures.batches c.count.ensures.pool
+    c.count-2.ensures.batches c.count-2.ensures.pool config image s of in
+    takes_ok config s (step config s c.args.command.now).1 _ _ (c.in-Ok.twins, c.in-Ok.answer) _
+    (c.in-Ok.ensures.images told config s lists counted)
+
+pub returns-in-Err-clause-images : goal.returns-in-Err-clause-images
+returns-in-Err-clause-images g c = λ told config s lists of.
+    let image = present (g.V.Volume.state c.args.volume.now) in
+    takes_err config s (step config s c.args.command.now).1 _ _ c.in-Err.fault _
+    (c.in-Err.ensures.images told config s lists (counted_twins c.args.self _ refl refl c.count.ensures.batches
+    c.count.ensures.pool c.count-2.ensures.batches c.count-2.ensures.pool config image s of))

@@ -1,6 +1,8 @@
 use Rattle.list_machine.specs.Step.{step}
 use Rattle.twin_run.proofs.BothFaults.{full_is_own, full_is_outside, full_writes, compact_is_own, compact_is_outside, compact_writes, writes_fail, writes_done}
 use Rattle.twin_run.proofs.BothSides.{next_good, on_settled, full_called, compact_waits, full_durable, both_called, called_twins}
+use Rattle.twin_run.proofs.BothMoments.{store_stops, store_goes, takes_ok, takes_err}
+use Rattle.twin_run.proofs.BothStates.{stored_less}
 use Rattle.twin_run.proofs.sides.Twins.store.Goals as goal
 
 pub returns-in-Err-clause-corrupt : goal.returns-in-Err-clause-corrupt
@@ -68,3 +70,38 @@ returns-in-Err-store-clause-names g c = λ told.
 pub returns-in-Err-store-clause-writes : goal.returns-in-Err-store-clause-writes
 returns-in-Err-store-clause-writes g c = writes_fail _ _ _ _ _ _ _ c.in-Ok.ensures.writes
     (compact_writes c.in-Err-store.error _ c.compact_fault.ensures _ _ _ c.in-Err-store.ensures.writes)
+
+pub returns-in-Err-clause-images : goal.returns-in-Err-clause-images
+returns-in-Err-clause-images g c = λ told config s of.
+    let full = c.in-Err.ensures in
+    let good = of.good.good.log in
+    store_stops config c.args.self c.requires.shaped of.of s (step config s c.args.command.now).1 _ _
+    (g.met.V.Volume.contents_left c.args.volume.now told) (full.names told)
+    (stored_less s good config c.args.command.now c.requires.about c.args.self.full.db) c.in-Err.error _
+    (full.images told config s good of.full)
+
+pub returns-in-Ok-store-clause-images : goal.returns-in-Ok-store-clause-images
+returns-in-Ok-store-clause-images g c = λ told config s of.
+    let full = c.in-Ok.ensures in
+    let compact = c.in-Ok-store.ensures in
+    let good = of.good.good.log in
+    let next = (step config s c.args.command.now).1 in
+    takes_ok config s next _ _ c.in-Ok-store.compact _
+    (store_goes config c.args.self c.requires.shaped of.of s next _ _
+    (g.met.V.Volume.contents_left c.args.volume.now told) (full.names told)
+    (stored_less s good config c.args.command.now c.requires.about c.args.self.full.db) c.in-Ok.full _ _
+    (compact.names told) (full.images told config s good of.full) (compact.images told config s good
+    (compact_waits c.args.self c.requires.shaped _ _ (full.names told) s of.compact)))
+
+pub returns-in-Err-store-clause-images : goal.returns-in-Err-store-clause-images
+returns-in-Err-store-clause-images g c = λ told config s of.
+    let full = c.in-Ok.ensures in
+    let compact = c.in-Err-store.ensures in
+    let good = of.good.good.log in
+    let next = (step config s c.args.command.now).1 in
+    takes_err config s next _ _ c.in-Err-store.error _
+    (store_goes config c.args.self c.requires.shaped of.of s next _ _
+    (g.met.V.Volume.contents_left c.args.volume.now told) (full.names told)
+    (stored_less s good config c.args.command.now c.requires.about c.args.self.full.db) c.in-Ok.full _ _
+    (compact.names told) (full.images told config s good of.full) (compact.images told config s good
+    (compact_waits c.args.self c.requires.shaped _ _ (full.names told) s of.compact)))
