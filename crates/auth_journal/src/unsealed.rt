@@ -1,13 +1,13 @@
 use crate::items::keep_from;
 use crate::{Error, MerkleizedBatch};
-use codec_base::{ListOf, Write, encode};
+use codec_base::{ListOf, Write};
 use std::alloc::Global;
 use std::marker::Model;
 use std::rc::Rc;
-use tree_core::{Family, Hasher, Location, MAX_LEAVES, Standard};
+use tree_core::{Family, Feed, Hasher, Location, MAX_LEAVES, Standard};
 
-/// A batch that still takes items: its nodes, how leaves are hashed and peaks folded, the lists of its kept ancestors, and its own
-/// items.
+/// A batch that still takes items: its nodes, how leaves are hashed and peaks folded, the lists of its kept ancestors,
+/// and its own items.
 #[derive(Drop)]
 pub struct UnmerkleizedBatch<F: Family, H: Hasher, Item: Write + Drop> {
     nodes: tree_core::UnmerkleizedBatch<F, H::Digest>,
@@ -86,9 +86,11 @@ impl<F: Family, H: Hasher, Item: Write + Drop> UnmerkleizedBatch<F, H, Item> {
         &self.items
     }
 
-    /// Adds an item, and its leaf. It refuses with `LocationOverflow` where the batch has `MAX_LEAVES` leaves, and else only with
-    /// `Memory`; the batch is then as before.
+    /// Adds an item, and its leaf, which is hashed in pieces. It refuses with `LocationOverflow` where the batch has
+    /// `MAX_LEAVES` leaves, and else only with `Memory`; the batch is then as before.
     pub fn add(&mut self, item: Item) -> Result<(), Error<F>>
+    where
+        Item: Feed,
         ensures ok { OnOk result (self.new ≡ with_item F.shape H.hash Item.spelling self.old item) }
         ensures err { OnErr result (self.new ≡ self.old) }
         ensures full { leaf_count self.old.nodes ≡ 2 ^ 62 → result ≡ Err (Error.Merkle (LocationOverflow (2 ^ 62 + 1))) }
@@ -98,12 +100,9 @@ impl<F: Family, H: Hasher, Item: Write + Drop> UnmerkleizedBatch<F, H, Item> {
             let past = Location::new(MAX_LEAVES + 1);
             return Err(Error::Merkle(tree_core::Error::LocationOverflow(past)));
         }
-        let bytes = match encode(*self.items.allocator(), &item) {
-            Ok(bytes) => bytes,
-            Err(_) => return Err(Error::Memory),
-        };
+        let leaf = self.nodes.next_leaf_digest(&self.hasher, &item);
         self.items.push(item)?;
-        match self.nodes.add(&self.hasher, bytes.as_slice()) {
+        match self.nodes.add_leaf_digest(leaf) {
             Ok(()) => Ok(()),
             Err(_) => {
                 let _ = self.items.pop();

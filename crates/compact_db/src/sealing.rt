@@ -1,5 +1,5 @@
 //! How a batch is sealed.
-ghost use Rattle.std.specs.Prelude.{◌≡◌, ◌≤◌, ◌<◌, ◌^◌, ◌+◌, ◌++◌, ◌∷◌, [], List, length, min, IfOk, IfErr, OnOk, IsOkUnless};
+ghost use Rattle.std.specs.Prelude.{◌≡◌, ◌≤◌, ◌<◌, ◌^◌, ◌+◌, ◌++◌, [], List, length, min, IfOk, IfErr, IsOkUnless};
 ghost use Rattle.std.specs.Option.{ForSome};
 ghost use Rattle.chain_core.specs.Slots.{IsAlive};
 ghost use Rattle.log_model.specs.Operations.{floor_of, leaves_from, root_of};
@@ -11,29 +11,22 @@ ghost use Rattle.compact_db.specs.Sealing.{IsEnded, IsSealedIn, WhyNotSealed};
 
 use crate::{CompactOperation, MerkleizedBatch, UnmerkleizedBatch};
 use chain_core::{Bounds, Commitment, Error, Place, Pool};
-use codec_base::{Bytes, CodecError, ListOf};
+use codec_base::{CodecError, ListOf};
 use log_model::Logged;
 use std::alloc::Global;
 use tree_core::{Bagging, Family, Hasher, Location, Position, Standard};
 
-/// Adds the digest of the leaf at a place that an operation is. The buffer has its bytes meanwhile.
-fn push_leaf<F: Family, O: Logged, H: Hasher>(
+/// The digest of the leaf that an operation at this place is, hashed in pieces.
+fn leaf_of<F: Family, O: Logged, H: Hasher>(
     hasher: &Standard<H>,
-    buffer: &mut Bytes,
-    leaves: &mut Vec<H::Digest>,
     place: u64,
     operation: &O,
-) -> Result<(), CodecError>
+) -> H::Digest
     requires { place < 2 ^ 62 }
-    ensures leaf { OnOk result (leaves.new.items ≡ leaves.old.items ++
-        leaf F.shape H.hash place (O.meaning.encoding operation.now) ∷ []) }
-    ensures memory { IsOkUnless result CodecError.Memory }
+    ensures { result ≡ leaf F.shape H.hash place (O.meaning.encoding operation.now) }
 {
-    buffer.truncate(0);
-    operation.write(buffer)?;
     let position = Position::<F>::new(F::position(place, 0));
-    leaves.push(hasher.leaf_digest(position, buffer.as_slice()))?;
-    Ok(())
+    hasher.leaf_digest_of(position, operation)
 }
 
 /// The digests of the leaves that these operations are, the first at this place.
@@ -49,10 +42,9 @@ fn leaves_of<F: Family, O: Logged, H: Hasher>(
     ensures memory { IsOkUnless result CodecError.Memory }
 {
     let mut leaves = Vec::with_capacity(alloc, operations.len())?;
-    let mut buffer = Bytes::new(alloc);
     for i in 0..operations.len() {
         let place = first + i as u64;
-        push_leaf::<F, O, H>(hasher, &mut buffer, &mut leaves, place, &operations[i])?;
+        leaves.push(leaf_of::<F, O, H>(hasher, place, &operations[i]))?;
     }
     Ok(leaves)
 }

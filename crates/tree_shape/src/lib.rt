@@ -4,6 +4,7 @@
 mod bagging;
 mod digest;
 mod family;
+mod feed;
 mod hasher;
 mod inactive;
 mod location_codec;
@@ -25,6 +26,7 @@ mod widths;
 pub use bagging::Bagging;
 pub use digest::Digest;
 pub use family::Family;
+pub use feed::{Feed, feed_varint, feed_zeros};
 pub use hasher::Hasher;
 pub use inactive::inactive_law;
 pub use mmb::Mmb;
