@@ -29,7 +29,8 @@ use tree_core::{Family, Hasher};
 use volume_base::Volume;
 
 impl<F: Family, O: CompactOperation, H: Hasher> CompactDb<F, O, H> {
-    /// The database with what a batch has behind it, which this commit ends, under the batch's root, and one more witness.
+    /// The database with what a batch has behind it, which this commit ends, under the batch's root, and one more
+    /// witness.
     pub(crate) fn grown<V: Volume>(
         self,
         vol: &mut V,

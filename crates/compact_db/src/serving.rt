@@ -158,8 +158,8 @@ impl<F: Family, O: CompactOperation, H: Hasher> CompactDb<F, O, H> {
     /// order: `Merkle(RangeOutOfBounds)` of a size past the last state's, or 0; `Merkle(RangeOutOfBounds)` of a start
     /// at or past the size; `Journal(ItemPruned)` of a start before the commit; `Journal(ItemPruned)` of the commit
     /// where no witness of the size is kept. While an import waits the imported state alone is kept. The last state
-    /// is served from memory. Another is searched for by halving; where the bytes of a witness on the way are none it is
-    /// `Journal(Corruption)`.
+    /// is served from memory. Another is searched for by halving; where the bytes of a witness on the way are none it
+    /// is `Journal(Corruption)`.
     pub fn serve<V: Volume>(
         &self,
         vol: &mut V,

@@ -44,8 +44,8 @@ fn pins_before<F: Family, H: Hasher>(
     Ok(pins)
 }
 
-/// What is derived of a state with this root, from a tree whose last leaf is the commit of these bytes and this floor, and
-/// which keeps what stands before that leaf. Nothing is hashed. It refuses with `Memory` alone.
+/// What is derived of a state with this root, from a tree whose last leaf is the commit of these bytes and this floor,
+/// and which keeps what stands before that leaf. Nothing is hashed. It refuses with `Memory` alone.
 pub(crate) fn witness_under<F: Family, H: Hasher>(
     alloc: Global,
     merkle: &Merkle<F, H::Digest>,

@@ -62,7 +62,7 @@ module _ {D Op : Type 0} (s : Shape) (h : Hashing D) (digest : D → List ℕ) (
         (steps_like (NamesLeft names) P Q b c below result like (steps_named j k b c below items nodes pins steps (now_after (NamesLeft names) P a b ab)))
 
   -- once it is durable it stays so, whatever is answered
-  pub begins_done : {S T E C : Type 0} (x y z : List ℕ) (a b : State) (made : S) (result : Result T E) → BeginsStanding {T = S} {E = C} s h digest spelling first marks x y z a b (Ok made) → BeginsStanding s h digest spelling first marks x y z a b result
+  pub begins_done : {S T E C : Type 0} (x y z : List ℕ) (a b : State) (made : S) (result : Result T E) → BeginsStanding s h digest spelling first marks x y z {T = S} {E = C} a b (Ok made) → BeginsStanding s h digest spelling first marks x y z a b result
   begins_done x y z a b made result did has =
       let steps = did has in
       steps_of_turns (NamesLeft (two_logs_and_map x y z)) (One x y z) (Settled x y z) a b result steps.past steps.ok

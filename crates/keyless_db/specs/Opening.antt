@@ -39,22 +39,25 @@ NotBuilt start end e =
     ⊎ (((2 ^ 62 < end) × (e ≡ Merkle (LocationOverflow end)))
     ⊎ ((start ≡ end) × (0 < end) × (e ≡ Journal (ItemPruned (end - 1)))))
 
--- An error of an opening, whatever the volume holds: one of the journal's, which wraps neither want of memory nor a failure
--- of the volume; or that the last operation is no commit.
+-- An error of an opening, whatever the volume holds: one of the journal's, which wraps neither want of memory nor a
+-- failure of the volume; or that the last operation is no commit.
 abbrev pub IsOfOpening : {F : Type 0} → Error F → Type 0
 IsOfOpening e = (e ≡ DataCorrupted NotACommit) ⊎ IsFromJoined IsLifted e
 
--- Why no database is opened of these contents under a cap, or none: by the outside; or as the journal; or, without a cap,
--- an empty log stands past 0.
-abbrev pub NotListed : {F D Op V : Type 0} → Type 0 → (D → List ℕ) → (D → Type 0) → Shape → Map → Log → Items Op → Meaning Op V → Option ℕ → Error F → Type 0
+-- Why no database is opened of these contents under a cap, or none: by the outside; or as the journal; or, without a
+-- cap, an empty log stands past 0.
+abbrev pub NotListed : {F D Op V : Type 0} → Type 0 → (D → List ℕ) → (D → Type 0) → Shape → Map → Log → Items Op
+    → Meaning Op V → Option ℕ → Error F → Type 0
 NotListed tells spelling admits s m log items meaning cap e =
     IsOutside e
     ⊎ (IsFromJoined (NotOpened tells spelling admits s m log items (IsSaidCommit meaning) cap) e
-    ⊎ ((cap ≡ None) × (items.log.start ≡ end_of items.log) × (0 < end_of items.log) × (e ≡ Journal (ItemPruned (end_of items.log - 1)))))
+    ⊎ ((cap ≡ None) × (items.log.start ≡ end_of items.log) × (0 < end_of items.log)
+    × (e ≡ Journal (ItemPruned (end_of items.log - 1)))))
 
--- Under a cap, or none, a log has an end at which it is opened, and isn't empty past 0. So many leaves' nodes are durable:
--- those before its start at least, and none past that end.
-pub record HasOpening {Op V : Type 0} (m : Meaning Op V) (items : Items Op) (cap : Option ℕ) (durable : ℕ) : Type 0 where
+-- Under a cap, or none, a log has an end at which it is opened, and isn't empty past 0. So many leaves' nodes are
+-- durable: those before its start at least, and none past that end.
+pub record HasOpening {Op V : Type 0} (m : Meaning Op V) (items : Items Op) (cap : Option ℕ) (durable : ℕ)
+    : Type 0 where
   pub end : ℕ
   pub ends : EndsAt items (IsSaidCommit m) cap end
   pub some : (items.log.start < end) ⊎ (end ≡ 0)
@@ -101,20 +104,31 @@ module _ {F D Op V Cfg : Type 0} (s : Shape) (h : Hashing D) (m : Meaning Op V) 
   -- there; where the log begins at 0 and there is none, that of the first commit alone.
   abbrev pub IsInitOf : Items Op → Option ℕ → List Op → DbView F D Op Cfg → Image → Type 0
   IsInitOf items cap list db image =
-      (EndsAt items (IsSaidCommit m) cap db.state.size × IsHeldFor s h m digest admits spelling (take db.state.size list) db image)
-      ⊎ (EndsAt items (IsSaidCommit m) cap 0 × IsFirstCommit m db.commit × IsHeldFor s h m digest admits spelling (db.commit ∷ []) db image)
+      (EndsAt items (IsSaidCommit m) cap db.state.size
+      × IsHeldFor s h m digest admits spelling (take db.state.size list) db image)
+      ⊎ (EndsAt items (IsSaidCommit m) cap 0 × IsFirstCommit m db.commit
+      × IsHeldFor s h m digest admits spelling (db.commit ∷ []) db image)
 
--- Where whatever a crash leaves of two logs and a map stands for no operation, a call takes it to this commit alone: it
--- stands for that at each moment, and from a turn on that is durable.
-abbrev pub BeginsStanding : {T E D Op : Type 0} → Shape → Hashing D → (D → List ℕ) → (Op → List ℕ) → Op → Marks → List ℕ → List ℕ → List ℕ → State → State → Result T E → Type 0
-BeginsStanding s h digest spelling first marks items nodes metadata old new result =
-    Now (NamesLeft (two_logs_and_map items nodes metadata)) (NamesStand s h digest spelling [] marks items nodes metadata) old →
-    Steps (NamesLeft (two_logs_and_map items nodes metadata)) (NamesStand s h digest spelling (first ∷ []) marks items nodes metadata)
-    (NamesStand s h digest spelling (first ∷ []) (all_synced 1 marks) items nodes metadata) old new result
+module _ {D Op : Type 0} (s : Shape) (h : Hashing D) (digest : D → List ℕ) (spelling : Op → List ℕ) (first : Op)
+    (marks : Marks) (items nodes metadata : List ℕ) where
+  -- Whatever a crash leaves of two logs and a map stands for these operations.
+  abbrev StandNow : List Op → State → Type 0
+  StandNow list now =
+      Now (NamesLeft (two_logs_and_map items nodes metadata))
+      (NamesStand s h digest spelling list marks items nodes metadata) now
 
--- The same where what a crash leaves may have this commit already, though the log has it not.
-abbrev pub BecomesStanding : {T E D Op : Type 0} → Shape → Hashing D → (D → List ℕ) → (Op → List ℕ) → Op → Marks → List ℕ → List ℕ → List ℕ → State → State → Result T E → Type 0
-BecomesStanding s h digest spelling first marks items nodes metadata old new result =
-    Now (NamesLeft (two_logs_and_map items nodes metadata)) (NamesStand s h digest spelling (first ∷ []) marks items nodes metadata) old →
-    Steps (NamesLeft (two_logs_and_map items nodes metadata)) (NamesStand s h digest spelling (first ∷ []) marks items nodes metadata)
-    (NamesStand s h digest spelling (first ∷ []) (all_synced 1 marks) items nodes metadata) old new result
+  module _ {T E : Type 0} where
+    -- A call takes it to this commit alone: it stands for that at each moment, and from a turn on that is durable.
+    abbrev StandsAlone : State → State → Result T E → Type 0
+    StandsAlone old new result =
+        Steps (NamesLeft (two_logs_and_map items nodes metadata))
+        (NamesStand s h digest spelling (first ∷ []) marks items nodes metadata)
+        (NamesStand s h digest spelling (first ∷ []) (all_synced 1 marks) items nodes metadata) old new result
+
+    -- So it does where that stands for no operation,
+    abbrev pub BeginsStanding : State → State → Result T E → Type 0
+    BeginsStanding old new result = StandNow [] old → StandsAlone old new result
+
+    -- or may have this commit already, though the log has it not.
+    abbrev pub BecomesStanding : State → State → Result T E → Type 0
+    BecomesStanding old new result = StandNow (first ∷ []) old → StandsAlone old new result

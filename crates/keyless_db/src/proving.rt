@@ -189,7 +189,8 @@ impl<F: Family, O: KeylessOperation, C: Backing<Item = O>, H: Hasher> Keyless<F,
             IsErrOf result (Error.HistoricalFloorPruned n) →
             (n ≡ size) × (V.tells → IsNoCommitAt O.meaning items (size - 1)) }
         // Of any database, whatever the volume holds.
-        ensures errors { IfErr result (λ e. IsFromJoined IsLifted e ⊎ (e ≡ Error.HistoricalFloorPruned self.now.state.size)) }
+        ensures errors { IfErr result (λ e.
+            IsFromJoined IsLifted e ⊎ (e ≡ Error.HistoricalFloorPruned self.now.state.size)) }
         ensures reads { Reads V.tells Error.Volume (V.state vol.old) (V.state vol.new) result }
     {
         let size = Location::new(self.state.size.as_u64());

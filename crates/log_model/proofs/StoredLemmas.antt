@@ -39,7 +39,7 @@ first_same low high l (n ∷ ns) more r lt le = pick (λ past. first_same n high
     pick later true e = refl
     pick later false e = ap suc (later (not_le l n e))
 
-witnesses_same : (total durable : ℕ) (sizes more : List ℕ) → AreSizes total sizes → durable ≤ total → durable_witnesses (sizes ++ more) durable ≡ durable_witnesses sizes durable
+pub witnesses_same : (total durable : ℕ) (sizes more : List ℕ) → AreSizes total sizes → durable ≤ total → durable_witnesses (sizes ++ more) durable ≡ durable_witnesses sizes durable
 witnesses_same total zero sizes more r le = refl
 witnesses_same total (suc durable) sizes more r le = ap (λ n. n + 1) (first_same 0 total (suc durable) sizes more (from_zero sizes r) (omega arith) le)
   where
@@ -77,7 +77,7 @@ module _ {D Op V : Type 0} (s : Shape) (h : Hashing D) (spelling : D → List �
       let pins : pins_of s h m (ops ++ more) (n - 1) ≡ pins_of s h m ops (n - 1) = ap (λ os. map (node_of s h (leaves_from s h m 0 os)) (peaks s (n - 1))) front in
       rw (bytes, pins) refl
 
-  witnesses_longer : (ops more : List Op) (low : ℕ) (ns : List ℕ) → RiseTo low (length ops) ns → map (witness_text s h m spelling (ops ++ more)) ns ≡ map (witness_text s h m spelling ops) ns
+  pub witnesses_longer : (ops more : List Op) (low : ℕ) (ns : List ℕ) → RiseTo low (length ops) ns → map (witness_text s h m spelling (ops ++ more)) ns ≡ map (witness_text s h m spelling ops) ns
   witnesses_longer ops more low [] r = refl
   witnesses_longer ops more low (n ∷ ns) r =
       let lt = r.0 in

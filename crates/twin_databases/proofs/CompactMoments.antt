@@ -1,6 +1,6 @@
 -- What a crash leaves of the compact database's log at each moment of a call: of one that makes the witnesses durable, of a prune, and
 -- of an apply.
-use Rattle.std.proofs.Common.{◌≡◌, ℕ, zero, suc, ◌+◌, ◌-◌, ◌<◌, ◌≤◌, Bool, true, false, cond, List, [], ◌∷◌, ◌++◌, length, map, drop, min, max, refl, sym, ◌∙◌, ap, subst, append-nil, arith}
+use Rattle.std.proofs.Common.{◌≡◌, ℕ, zero, suc, ◌+◌, ◌-◌, ◌<◌, ◌≤◌, Bool, true, false, List, [], ◌∷◌, ◌++◌, length, map, drop, min, max, refl, sym, ◌∙◌, ap, subst, append-nil, arith}
 use Rattle.std.specs.Prelude.{nat_le, nat_lt, Result, Ok, Err, OnOk}
 use Rattle.std.proofs.lemmas.List.{length-append, length-map, map-append, drop-map}
 use Rattle.volume_base.specs.Bounds.{IsRunOf, IsPartOf}
@@ -18,14 +18,14 @@ use Rattle.tree_shape.specs.Mmr.{mmr}
 use Rattle.tree_shape.specs.Sha256Codec.{bytes_of}
 use Rattle.tree_shape.specs.declared.mmr.Mmr.{Mmr}
 use Rattle.tree_shape.specs.declared.sha256.Sha256Digest.{Sha256Digest}
-use Rattle.log_model.specs.AppliedSizes.{RiseTo, AreSizes, first_at_least}
+use Rattle.log_model.specs.AppliedSizes.{AreSizes, first_at_least}
 use Rattle.log_model.specs.Good.{IsGoodLog}
 use Rattle.log_model.specs.Machine.{State, committed, pruned, sizes_with}
 use Rattle.log_model.specs.Stored.{CompactStands, durable_witnesses}
 use Rattle.log_model.specs.Witness.{witness_text}
 use Rattle.log_model.proofs.OpeningLemmas.{rises_from_zero}
-use Rattle.log_model.proofs.SizeLemmas.{either, le_is, not_le, lt_is, not_lt, rise_le, first_longer, first_higher}
-use Rattle.log_model.proofs.StoredLemmas.{witness_longer}
+use Rattle.log_model.proofs.SizeLemmas.{either, le_is, not_le, lt_is, not_lt, first_longer, first_higher}
+use Rattle.log_model.proofs.StoredLemmas.{witnesses_same, witnesses_longer}
 use Rattle.chain_core.specs.declared.commitment.Commitment.{Commitment}
 use Rattle.chain_core.specs.declared.error.Error.{Error}
 use Rattle.witness_store.specs.StoreView.{HasWitnesses}
@@ -75,20 +75,6 @@ all_durable : (total : ℕ) (sizes : List ℕ) → AreSizes total sizes → dura
 all_durable zero sizes are = omega arith
 all_durable (suc d) sizes are = let lt = first_size (suc d) (suc d) sizes are (omega arith) in omega (arith, lt)
 
--- the first that is at least a number is the same among more, where it is one of these
-first_kept : (l : ℕ) (ns more : List ℕ) → first_at_least l ns < length ns → first_at_least l (ns ++ more) ≡ first_at_least l ns
-first_kept l [] more lt = absurd (omega (arith, lt))
-first_kept l (n ∷ ns) more lt = pick (first_kept l ns more) (nat_le l n) lt
-  where
-    pick : (first_at_least l ns < length ns → first_at_least l (ns ++ more) ≡ first_at_least l ns) → (b : Bool) → cond b zero (suc (first_at_least l ns)) < length (n ∷ ns)
-        → cond b zero (suc (first_at_least l (ns ++ more))) ≡ cond b zero (suc (first_at_least l ns))
-    pick later true lt = refl
-    pick later false lt = ap suc (later (omega (arith, lt)))
-
-durable_longer : (total durable : ℕ) (sizes more : List ℕ) → AreSizes total sizes → durable ≤ total → durable_witnesses (sizes ++ more) durable ≡ durable_witnesses sizes durable
-durable_longer total zero sizes more are le = refl
-durable_longer total (suc d) sizes more are le = ap (λ (n : ℕ). n + 1) (first_kept (suc d) sizes more (first_size (suc d) total sizes are le))
-
 -- ---- where a prune lets witnesses begin
 
 -- no later than at the first that is at least the greatest location
@@ -115,16 +101,6 @@ one_size : (sizes : List ℕ) (before now : ℕ) → before < now → sizes_with
 one_size sizes before now lt =
     either (λ (ns : List ℕ). ns ≡ sizes ++ (now ∷ [])) (nat_lt before now) _ _ (λ e. refl)
     (λ e. absurd (let le = not_lt before now e in omega (arith, lt, le)))
-
--- its witnesses at the sizes of before are those of before
-texts_longer : (ops more : List Operation) (low : ℕ) (ns : List ℕ) → RiseTo low (length ops) ns
-    → map (witness_text mmr sha meaning bytes_of (ops ++ more)) ns ≡ map (witness_text mmr sha meaning bytes_of ops) ns
-texts_longer ops more low [] r = refl
-texts_longer ops more low (n ∷ ns) r =
-    let lt = r.0 in
-    let le = rise_le n (length ops) ns r.1 in
-    ap (λ (t : List ℕ). t ∷ map (witness_text mmr sha meaning bytes_of (ops ++ more)) ns) (witness_longer mmr sha bytes_of meaning ops more n (omega (arith, lt)) le)
-    ∙ ap (λ (ts : List (List ℕ)). witness_text mmr sha meaning bytes_of ops n ∷ ts) (texts_longer ops more n ns r.1)
 
 module _ (db : CompactView) (old : volume.State) (s : State Operation) (good : IsGoodLog meaning s) (is : IsCompactOf (kept_of s) (present old) db) where
   abbrev pub Name : List ℕ
@@ -275,7 +251,7 @@ module _ (db : CompactView) (old : volume.State) (s : State Operation) (good : I
         let rise = rises_from_zero (length s.ops) s.sizes good.sizes in
         map-append (text_of bytes_of) Held (Last ∷ [])
         ∙ ap (λ (ts : List (List ℕ)). ts ++ (witness_text mmr sha meaning bytes_of list (length list) ∷ []))
-        (texts_are s.ops s.sizes ∙ sym (texts_longer s.ops more 0 s.sizes rise))
+        (texts_are s.ops s.sizes ∙ sym (witnesses_longer mmr sha bytes_of meaning s.ops more 0 s.sizes rise))
         ∙ sym (map-append (witness_text mmr sha meaning bytes_of list) s.sizes (length list ∷ []))
 
     longer_list : (log : Log) → HasWitnesses bytes_of (Held ++ (Last ∷ [])) Greatest Least log → Longer (s.ops ++ more) log
@@ -283,7 +259,7 @@ module _ (db : CompactView) (old : volume.State) (s : State Operation) (good : I
         let list = s.ops ++ more in
         let sizes = s.sizes ++ (length list ∷ []) in
         let lt : length s.ops < length list = omega (arith, some, length-append s.ops more) in
-        let count = durable_longer (length s.ops) s.durable s.sizes (length list ∷ []) good.sizes good.within in
+        let count = witnesses_same (length s.ops) s.durable s.sizes (length list ∷ []) good.sizes good.within in
         subst (λ (ns : List ℕ). CompactStands mmr sha bytes_of meaning list ns s.prune s.durable log) (sym (one_size s.sizes (length s.ops) (length list) lt))
         (part_wider (map (witness_text mmr sha meaning bytes_of list) sizes) Greatest (first_at_least s.prune sizes) Least (durable_witnesses sizes s.durable) log
         (first_longer s.prune s.sizes (length list ∷ [])) (omega (arith, count))

@@ -94,7 +94,8 @@ pub trait Durable: Database {
         ensures images { V.tells → Self.kind.is_durable self (V.state volume.old) →
             (config : Config) (s : State Operation) → IsGoodLog meaning s →
             Self.kind.is_of (kept_of s) (present (V.state volume.old)) self →
-            StepsTo Self.kind s (pruned config.log_blob config.witness_blob s location) self (V.state volume.old) (V.state volume.new) result }
+            StepsTo Self.kind s (pruned config.log_blob config.witness_blob s location) self (V.state volume.old)
+            (V.state volume.new) result }
         ensures names { V.tells → NamesCall (Self.kind.names self) (V.state volume.old) (V.state volume.new) }
         ensures changes { Changes V.tells Error.Volume (V.state volume.old) (V.state volume.new) result };
 }

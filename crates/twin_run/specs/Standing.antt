@@ -41,7 +41,8 @@ CoversSome config first opened commands replies old new =
 
 -- A run of these commands may begin on a volume where each image that a crash may leave stands for a good state
 -- without batches, and nothing clashes that is hashed for the lists of the run.
-pub record BeginsAt (config : Config) (commands : List Command) (s : State Operation) (now : volume.State) : Type 0 where
+pub record BeginsAt (config : Config) (commands : List Command) (s : State Operation) (now : volume.State)
+    : Type 0 where
   pub start : IsStart config s (present now)
   pub stands : EachNow (Stands config s) now
   pub clash : HasNoClash config (opened_from config s (present now)) commands

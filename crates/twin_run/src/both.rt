@@ -191,7 +191,8 @@ impl Twins {
         // Whatever a crash leaves at a moment stands for the state before, or for that which the list machine leaves.
         ensures images { V.tells → (config : Config) (s : State Operation) →
             IsTwinsOf config (present (V.state volume.old)) self s →
-            TakesTo config s (pruned config.log_blob config.witness_blob s location) (V.state volume.old) (V.state volume.new) result }
+            TakesTo config s (pruned config.log_blob config.witness_blob s location) (V.state volume.old)
+            (V.state volume.new) result }
         ensures names { V.tells → NamesCall (names_of self) (V.state volume.old) (V.state volume.new) }
         ensures changes { Changes V.tells Fault.Volume (V.state volume.old) (V.state volume.new) result }
     {
@@ -231,7 +232,8 @@ impl Twins {
         // Whatever a crash leaves at a moment stands for the state before, or for that which the list machine leaves.
         ensures images { V.tells → (config : Config) (s : State Operation) → IsTold s →
             IsTwinsOf config (present (V.state volume.old)) self s →
-            TakesTo config s ((prune config.log_blob config.witness_blob s location).1) (V.state volume.old) (V.state volume.new) result }
+            TakesTo config s ((prune config.log_blob config.witness_blob s location).1) (V.state volume.old)
+            (V.state volume.new) result }
         ensures names { V.tells → NamesCall (names_of self) (V.state volume.old) (V.state volume.new) }
         ensures changes { Changes V.tells Fault.Volume (V.state volume.old) (V.state volume.new) result }
     {

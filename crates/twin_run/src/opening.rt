@@ -82,8 +82,8 @@ fn lowered<V: Volume>(
 
 /// Opens the full database without a cap, then the compact one under the full one's size, and the full one again, where
 /// the compact one is at a lesser size. Both are then at one size, and have one root. It fails with `Corrupt` where one
-/// isn't opened for what the volume holds, or sizes or roots differ, with `Volume` where a call of the volume failed, and
-/// with `Memory`.
+/// isn't opened for what the volume holds, or sizes or roots differ, with `Volume` where a call of the volume failed,
+/// and with `Memory`.
 pub fn realign<V: Volume>(
     alloc: Global,
     config: &TwinConfig,

@@ -129,8 +129,8 @@ impl Twins {
     }
 
     /// One step. No count passes its type's end, since each is at most that of the steps. It fails with `Corrupt` where
-    /// one side alone refuses, or both come to different states, or what is read can't stand there, with `Volume` where a
-    /// call of the volume failed, and with `Memory`; then there are no databases any more.
+    /// one side alone refuses, or both come to different states, or what is read can't stand there, with `Volume` where
+    /// a call of the volume failed, and with `Memory`; then there are no databases any more.
     pub fn step<V: Volume>(
         mut self,
         volume: &mut V,

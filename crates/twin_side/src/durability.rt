@@ -147,7 +147,8 @@ impl<D: Durable> Side<D> {
         ensures images { V.tells → D.kind.is_durable self.db (V.state volume.old) →
             (config : Config) (s : State Operation) → IsGoodLog meaning s →
             IsStateOf D.kind (present (V.state volume.old)) self.db self.numbers s →
-            StepsTo D.kind s (pruned config.log_blob config.witness_blob s location) self.db (V.state volume.old) (V.state volume.new) result }
+            StepsTo D.kind s (pruned config.log_blob config.witness_blob s location) self.db (V.state volume.old)
+            (V.state volume.new) result }
         ensures names { V.tells → NamesCall (D.kind.names self.db) (V.state volume.old) (V.state volume.new) }
         ensures changes { Changes V.tells Error.Volume (V.state volume.old) (V.state volume.new) result }
     {
