@@ -84,62 +84,6 @@ module _ (tells : Type 0) (image : Image) (commands : List Command) (said : List
     pub one_root : TellOneRoot said
     pub told : tells → OfEachStart standard_config image commands (λ now. IsBegun said (replies_to now commands))
 
--- A text was written, or a front of it where the sink failed.
-abbrev pub WritesOrFails : Option (List ℕ) → Option (List ℕ) → ℕ → ℕ → List ℕ → Type 0
-WritesOrFails old new faults faults' text = Appends old new text ⊎ (Rose faults faults' × WritesFront old new text)
-
--- What was written for the words where the run began on these contents.
-module _ (tells : Type 0) (image : Image) (words : List (List ℕ)) (left left' written written' : Option (List ℕ)) where
-  -- the output of all replies
-  pub record IsAnswered : Type 0 where
-    pub task : Task
-    pub commands : List Command
-    pub asked : IsAsked words left left' task commands
-    pub said : List Reply
-    pub replies : AreReplies tells image commands said
-    pub wrote : Appends written written' (output_of task said)
-
-  -- a front of it
-  pub record IsCutOff : Type 0 where
-    pub task : Task
-    pub commands : List Command
-    pub asked : IsAsked words left left' task commands
-    pub said : List Reply
-    pub replies : AreReplies tells image commands said
-    pub wrote : WritesFront written written' (output_of task said)
-
-  -- the output of the first replies, or a front of it where the sink failed
-  pub record IsStopped (faults faults' : ℕ) : Type 0 where
-    pub task : Task
-    pub commands : List Command
-    pub asked : IsAsked words left left' task commands
-    pub said : List Reply
-    pub replies : AreBegun tells image commands said
-    pub wrote : WritesOrFails written written' faults faults' (output_of task said)
-
-module _ (image : Image) (words : List (List ℕ)) (left left' : Option (List ℕ)) where
-  -- From no good state without batches, for which these contents stand, the run is without a clash.
-  pub record IsAtFault : Type 0 where
-    pub task : Task
-    pub commands : List Command
-    pub asked : IsAsked words left left' task commands
-    pub fault : OfEachStart standard_config image commands (λ now. ⊥)
-
-  -- Where such a run began, both logs hold what is kept of the state after it.
-  pub record HasLeft (image' : Image) : Type 0 where
-    pub task : Task
-    pub commands : List Command
-    pub asked : IsAsked words left left' task commands
-    pub left_so : OfEachStart standard_config image commands
-        (λ now. IsLeft standard_config image' (state_after standard_config now commands))
-
--- What is said to last behind the commands of the words' run outlasts a crash now.
-pub record Outlasts (words : List (List ℕ)) (left left' : Option (List ℕ)) (now : disk.State) : Type 0 where
-  pub task : Task
-  pub commands : List Command
-  pub asked : IsAsked words left left' task commands
-  pub lasting : LastsBehind standard_config now commands
-
 -- At each moment of a run of these commands a crash leaves what stands for one of the list machine's states, for that
 -- before or behind the step that is running. It is known where each image that a crash may leave before the run stands
 -- for a good state without batches, and nothing clashes.
@@ -154,23 +98,57 @@ module _ (commands : List Command) (old new : disk.State) where
   StandsSoFar said = (s : State Operation) → BeginsAt standard_config commands s old
       → CoversSome standard_config s (opened_from standard_config s (present old)) commands (length said) old new
 
--- So it was over the words' run.
-module _ (words : List (List ℕ)) (left left' : Option (List ℕ)) (old new : disk.State) where
-  pub record HasStood : Type 0 where
-    pub task : Task
-    pub commands : List Command
-    pub asked : IsAsked words left left' task commands
-    pub stood : StandsThroughout commands old new
+-- A run of these commands has made these replies, and has taken the volume from one state to another.
+module _ (tells : Type 0) (old new : disk.State) (commands : List Command) (said : List Reply) where
+  -- It was whole. Where it began on what stands for a good state without batches, both logs hold what is kept of the
+  -- state after it; what it says to last behind it outlasts a crash; and so it stood at each moment.
+  pub record HasRun : Type 0 where
+    pub replies : AreReplies tells (present old) commands said
+    pub left : tells → OfEachStart standard_config (present old) commands
+        (λ now. IsLeft standard_config (present new) (state_after standard_config now commands))
+    pub lasting : tells → LastsBehind standard_config new commands
+    pub stood : tells → StandsThroughout commands old new
 
-  -- of one that ended with the first replies, whose output was written, or a front of it where the sink failed
-  pub record HasStoodSoFar (tells : Type 0) (written written' : Option (List ℕ)) (faults faults' : ℕ) : Type 0 where
+  -- It ended with the first replies, and stood so at each moment until then.
+  pub record HasBegun : Type 0 where
+    pub replies : AreBegun tells (present old) commands said
+    pub stood : tells → StandsSoFar commands old new said
+
+-- A text was written, or a front of it where the sink failed.
+abbrev pub WritesOrFails : Option (List ℕ) → Option (List ℕ) → ℕ → ℕ → List ℕ → Type 0
+WritesOrFails old new faults faults' text = Appends old new text ⊎ (Rose faults faults' × WritesFront old new text)
+
+-- What was run for the words on a volume, and written.
+module _ (tells : Type 0) (old new : disk.State) (words : List (List ℕ))
+    (left left' written written' : Option (List ℕ)) where
+  -- a whole run, and the output of its replies
+  pub record IsAnswered : Type 0 where
     pub task : Task
     pub commands : List Command
     pub asked : IsAsked words left left' task commands
     pub said : List Reply
-    pub replies : AreBegun tells (present old) commands said
+    pub ran : HasRun tells old new commands said
+    pub wrote : Appends written written' (output_of task said)
+
+  -- or a front of it
+  pub record IsCutOff : Type 0 where
+    pub task : Task
+    pub commands : List Command
+    pub asked : IsAsked words left left' task commands
+    pub said : List Reply
+    pub ran : HasRun tells old new commands said
+    pub wrote : WritesFront written written' (output_of task said)
+
+  -- a run that ended early, and the output of its replies, or a front of it where the sink failed; what the volume held
+  -- is at fault only where that stands for no good state without batches, or something clashes
+  pub record IsStopped (corrupt : Type 0) (faults faults' : ℕ) : Type 0 where
+    pub task : Task
+    pub commands : List Command
+    pub asked : IsAsked words left left' task commands
+    pub said : List Reply
+    pub began : HasBegun tells old new commands said
     pub wrote : WritesOrFails written written' faults faults' (output_of task said)
-    pub stood : StandsSoFar commands old new said
+    pub fault : corrupt → tells → OfEachStart standard_config (present old) commands (λ now. ⊥)
 
 -- The program ends before its run.
 abbrev pub IsEarly : Status → Type 0
@@ -197,21 +175,21 @@ IsReadStatus left left' faults faults' WriteFault = ⊥
 IsReadStatus left left' faults faults' Volume = ⊥
 IsReadStatus left left' faults faults' Corrupt = ⊥
 
--- What a run of these commands has left in a sink, and why it didn't end otherwise.
-module _ (tells : Type 0) (image : Image) (task : Task) (commands : List Command) (written written' : Option (List ℕ))
-    (faults faults' volume volume' : ℕ) where
+-- What a run of these commands has left of a volume and in a sink, and why it didn't end otherwise.
+module _ (tells : Type 0) (old new : disk.State) (task : Task) (commands : List Command)
+    (written written' : Option (List ℕ)) (faults faults' : ℕ) where
   abbrev pub HasWrittenSoFar : Type 0
   HasWrittenSoFar =
-      (said : List Reply) × AreBegun tells image commands said
+      (said : List Reply) × HasBegun tells old new commands said
       × WritesOrFails written written' faults faults' (output_of task said)
 
   abbrev pub IsRunStatus : Status → Type 0
   IsRunStatus Done =
-      (said : List Reply) × AreReplies tells image commands said × Appends written written' (output_of task said)
-  IsRunStatus WriteFault = Rose faults faults' × ((said : List Reply) × AreReplies tells image commands said
+      (said : List Reply) × HasRun tells old new commands said × Appends written written' (output_of task said)
+  IsRunStatus WriteFault = Rose faults faults' × ((said : List Reply) × HasRun tells old new commands said
       × WritesFront written written' (output_of task said))
-  IsRunStatus Volume = Rose volume volume' × HasWrittenSoFar
-  IsRunStatus Corrupt = (tells → OfEachStart standard_config image commands (λ now. ⊥)) × HasWrittenSoFar
+  IsRunStatus Volume = Rose old.faults new.faults × HasWrittenSoFar
+  IsRunStatus Corrupt = (tells → OfEachStart standard_config (present old) commands (λ now. ⊥)) × HasWrittenSoFar
   IsRunStatus Memory = HasWrittenSoFar
   IsRunStatus BadWords = ⊥
   IsRunStatus (BadLine n) = ⊥

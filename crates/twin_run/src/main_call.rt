@@ -7,14 +7,12 @@ ghost use Rattle.volume_base.specs.Names.{NamesCall};
 ghost use Rattle.volume_base.specs.Volume.{StaysSteady};
 ghost use Rattle.line_text.specs.Lines.{lines_of};
 ghost use Rattle.command_text.specs.declared.command.Command.{Command};
-ghost use Rattle.command_text.specs.declared.command.Reply.{Reply};
 ghost use Rattle.command_text.specs.Bad.{IsFirstBad};
 ghost use Rattle.command_text.specs.Grammar.{InputSays};
 ghost use Rattle.list_machine.specs.Config.{standard_config};
-ghost use Rattle.list_machine.specs.Starts.{OfEachStart, IsLeft, twin_names};
-ghost use Rattle.list_machine.specs.Trace.{state_after};
-ghost use Rattle.twin_run.specs.Outcome.{IsValid, IsWhole, IsInput, Runs, AreToRun, IsAtFault, HasLeft, Outlasts, StandsThroughout, StandsSoFar, HasStood, HasStoodSoFar, AreBegun, WritesOrFails, IsAnswered, IsCutOff, IsStopped, IsEarly, IsReadStatus, IsRunStatus, fault_status, output_of};
-ghost use Rattle.twin_run.specs.Lasting.{LastsBehind};
+ghost use Rattle.list_machine.specs.Starts.{OfEachStart, twin_names};
+ghost use Rattle.twin_run.specs.Outcome.{IsValid, IsWhole, IsInput, Runs, AreToRun, IsAnswered, IsCutOff, IsStopped};
+ghost use Rattle.twin_run.specs.Outcome.{IsEarly, IsReadStatus, IsRunStatus, fault_status, output_of};
 ghost use Rattle.twin_run.specs.Words.{WordsSay, HaveNoForm, texts_of};
 
 use crate::ending::{Fault, Status};
@@ -113,24 +111,11 @@ fn run_and_write<O: Sink, V: Volume>(
     output: &mut O,
     volume: &mut V,
 ) -> Status
-    ensures run { IsRunStatus V.tells (present (V.state volume.old)) task commands.now (O.written output.old)
-        (O.written output.new) (O.faults output.old) (O.faults output.new) (V.state volume.old).faults
-        (V.state volume.new).faults result }
+    ensures run { IsRunStatus V.tells (V.state volume.old) (V.state volume.new) task commands.now
+        (O.written output.old) (O.written output.new) (O.faults output.old) (O.faults output.new) result }
     ensures flushed { result ≡ Status.Done → O.flushed output.new }
     ensures passed_on { O.flushed output.new ⊎
         (Rose (O.faults output.old) (O.faults output.new) ⊎ (output.new ≡ output.old)) }
-    ensures left { ((result ≡ Status.Done) ⊎ (result ≡ Status.WriteFault)) → V.tells →
-        OfEachStart standard_config (present (V.state volume.old)) commands.now
-        (λ now. IsLeft standard_config (present (V.state volume.new))
-        (state_after standard_config now commands.now)) }
-    ensures durable { ((result ≡ Status.Done) ⊎ (result ≡ Status.WriteFault)) → V.tells →
-        LastsBehind standard_config (V.state volume.new) commands.now }
-    ensures images { ((result ≡ Status.Done) ⊎ (result ≡ Status.WriteFault)) → V.tells →
-        StandsThroughout commands.now (V.state volume.old) (V.state volume.new) }
-    ensures images_so_far { ((result ≡ Status.Volume) ⊎ ((result ≡ Status.Corrupt) ⊎ (result ≡ Status.Memory))) →
-        V.tells → (said : List Reply) × AreBegun V.tells (present (V.state volume.old)) commands.now said ×
-        WritesOrFails (O.written output.old) (O.written output.new) (O.faults output.old) (O.faults output.new)
-        (output_of task said) × StandsSoFar commands.now (V.state volume.old) (V.state volume.new) said }
     ensures no_fault { ((result ≡ Status.Done) ⊎ (result ≡ Status.WriteFault)) →
         (V.state volume.new).faults ≡ (V.state volume.old).faults }
     ensures names { V.tells → NamesCall (twin_names standard_config) (V.state volume.old) (V.state volume.new) }
@@ -178,27 +163,18 @@ pub fn twins_main<I: Source, O: Sink, V: Volume>(
     ensures read_fault { result ≡ Status.ReadFault → Rose (I.faults input.old) (I.faults input.new) }
     ensures too_long { result ≡ Status.TooLong → IfSome (I.left input.old) (λ bytes. 16777216 < length bytes) }
 
-    // After a whole run.
-    ensures done { result ≡ Status.Done → IsAnswered V.tells (present (V.state volume.old)) (texts_of words.now)
-        (I.left input.old) (I.left input.new) (O.written output.old) (O.written output.new) }
+    // After a whole run the output of its replies is written, or a front of it. Where the volume tells what it holds,
+    // and that stood for a good state without batches, and nothing clashes, both logs hold what is kept of the last
+    // list; whatever it held, what the last of its opening, commits and syncs makes durable outlasts a crash where no
+    // apply and no prune comes behind; and where each image that a crash may leave before the run stands for such a
+    // state, each that one may leave at a moment of it stands for the list machine's state before or after the running
+    // step.
+    ensures done { result ≡ Status.Done → IsAnswered V.tells (V.state volume.old) (V.state volume.new)
+        (texts_of words.now) (I.left input.old) (I.left input.new) (O.written output.old) (O.written output.new) }
     ensures flushed { result ≡ Status.Done → O.flushed output.new }
     ensures write_fault { result ≡ Status.WriteFault → Rose (O.faults output.old) (O.faults output.new) }
-    ensures cut_off { result ≡ Status.WriteFault → IsCutOff V.tells (present (V.state volume.old))
+    ensures cut_off { result ≡ Status.WriteFault → IsCutOff V.tells (V.state volume.old) (V.state volume.new)
         (texts_of words.now) (I.left input.old) (I.left input.new) (O.written output.old) (O.written output.new) }
-    // Both logs then hold what is kept of the last list.
-    ensures left { ((result ≡ Status.Done) ⊎ (result ≡ Status.WriteFault)) → V.tells →
-        HasLeft (present (V.state volume.old)) (texts_of words.now) (I.left input.old) (I.left input.new)
-        (present (V.state volume.new)) }
-    // And what the last of its opening, commits and syncs makes durable outlasts a crash where no apply and no prune
-    // comes behind.
-    ensures lasting { ((result ≡ Status.Done) ⊎ (result ≡ Status.WriteFault)) → V.tells →
-        Outlasts (texts_of words.now) (I.left input.old) (I.left input.new) (V.state volume.new) }
-    // And where each image that a crash may leave before the run stands for a good state without batches, and nothing
-    // clashes, each that one may leave at a moment of it stands for the list machine's state before or after the running
-    // step.
-    ensures images { ((result ≡ Status.Done) ⊎ (result ≡ Status.WriteFault)) → V.tells →
-        HasStood (texts_of words.now) (I.left input.old) (I.left input.new) (V.state volume.old)
-        (V.state volume.new) }
     ensures no_fault { ((result ≡ Status.Done) ⊎ (result ≡ Status.WriteFault)) →
         (V.state volume.new).faults ≡ (V.state volume.old).faults }
 
@@ -206,28 +182,17 @@ pub fn twins_main<I: Source, O: Sink, V: Volume>(
     ensures volume { result ≡ Status.Volume → Rose (V.state volume.old).faults (V.state volume.new).faults }
     // What a volume that tells its contents holds is at fault only where that stands for no good state without batches,
     // or something clashes.
-    ensures corrupt { result ≡ Status.Corrupt → V.tells → IsAtFault (present (V.state volume.old)) (texts_of words.now)
-        (I.left input.old) (I.left input.new) }
-    ensures stopped { ((result ≡ Status.Volume) ⊎ (result ≡ Status.Corrupt)) →
-        IsStopped V.tells (present (V.state volume.old)) (texts_of words.now) (I.left input.old) (I.left input.new)
-        (O.written output.old) (O.written output.new) (O.faults output.old) (O.faults output.new) }
-
     // Each moment of such a run too lies in a step that was answered, or in the one that was running.
-    ensures images_so_far { ((result ≡ Status.Volume) ⊎ (result ≡ Status.Corrupt)) → V.tells →
-        HasStoodSoFar (texts_of words.now) (I.left input.old) (I.left input.new) (V.state volume.old)
-        (V.state volume.new) V.tells (O.written output.old) (O.written output.new) (O.faults output.old)
-        (O.faults output.new) }
+    ensures stopped { ((result ≡ Status.Volume) ⊎ (result ≡ Status.Corrupt)) →
+        IsStopped V.tells (V.state volume.old) (V.state volume.new) (texts_of words.now) (I.left input.old)
+        (I.left input.new) (O.written output.old) (O.written output.new) (result ≡ Status.Corrupt)
+        (O.faults output.old) (O.faults output.new) }
 
     // Want of memory, in the run or before it.
     ensures memory { result ≡ Status.Memory → ((output.new ≡ output.old) × (volume.new ≡ volume.old)) ⊎
-        IsStopped V.tells (present (V.state volume.old)) (texts_of words.now) (I.left input.old) (I.left input.new)
-        (O.written output.old) (O.written output.new) (O.faults output.old) (O.faults output.new) }
-    // So it is of a run that ended so; or none was begun.
-    ensures images_of_memory { result ≡ Status.Memory → V.tells →
-        ((output.new ≡ output.old) × (volume.new ≡ volume.old)) ⊎
-        HasStoodSoFar (texts_of words.now) (I.left input.old) (I.left input.new) (V.state volume.old)
-        (V.state volume.new) V.tells (O.written output.old) (O.written output.new) (O.faults output.old)
-        (O.faults output.new) }
+        IsStopped V.tells (V.state volume.old) (V.state volume.new) (texts_of words.now) (I.left input.old)
+        (I.left input.new) (O.written output.old) (O.written output.new) (result ≡ Status.Corrupt)
+        (O.faults output.old) (O.faults output.new) }
 
     // Whatever is answered, what was written is passed on, or the sink has failed.
     ensures passed_on { O.flushed output.new ⊎

@@ -1,4 +1,4 @@
-use Rattle.std.proofs.Common.{inl, inr, ⊎_elim, subst, sym}
+use Rattle.std.proofs.Common.{inl, inr, subst, sym}
 use Rattle.std.specs.Prelude.{List}
 use Rattle.command_text.specs.declared.command.Command.{Command}
 use Rattle.volume_base.specs.Moments.{present}
@@ -8,7 +8,7 @@ use Rattle.list_machine.specs.Trace.{HasNoClash}
 use Rattle.twin_run.specs.Outcome.{AreToRun}
 use Rattle.twin_run.specs.declared.words.Task.{Task}
 use Rattle.twin_run.specs.declared.words.Task.TheVariants.{Generate}
-use Rattle.twin_run.proofs.Endings.{early_reads, not_early, valid_run, valid_task}
+use Rattle.twin_run.proofs.Endings.{early_reads, never_corrupt, never_short, not_early, valid_run, valid_task}
 use Rattle.twin_run.proofs.RunLemmas.{not_risen}
 use Rattle.twin_run.proofs.WordForms.{few_rounds, one_task}
 use Rattle.twin_run.proofs.main_call.twins_main.Goals as goal
@@ -38,11 +38,11 @@ returns-in-Ok-clause-generates g c = λ number count said.
 
 pub returns-in-Ok-clause-early : goal.returns-in-Ok-clause-early
 returns-in-Ok-clause-early g c = λ early.
-    absurd (not_early _ _ _ _ _ _ _ _ _ _ c.run_and_write.result c.run_and_write.ensures.run early)
+    absurd (not_early _ _ _ _ _ _ _ _ _ c.run_and_write.result c.run_and_write.ensures.run early)
 
 pub returns-in-Ok-clause-reads : goal.returns-in-Ok-clause-reads
 returns-in-Ok-clause-reads g c = λ early.
-    absurd (not_early _ _ _ _ _ _ _ _ _ _ c.run_and_write.result c.run_and_write.ensures.run early)
+    absurd (not_early _ _ _ _ _ _ _ _ _ c.run_and_write.result c.run_and_write.ensures.run early)
 
 pub returns-in-Ok-clause-bad_line : goal.returns-in-Ok-clause-bad_line
 returns-in-Ok-clause-bad_line g c = λ n e. let run = c.run_and_write.ensures.run in absurd (rw e at run)
@@ -60,7 +60,7 @@ returns-in-Ok-clause-done g c = λ e.
       commands = c.in-Ok.commands.items;
       asked = record { said = c.in-Some.ensures; runs = c.in-Ok.ensures.runs };
       said = run.0;
-      replies = rw c.deref.ensures.value at run.1;
+      ran = rw c.deref.ensures.value at run.1;
       wrote = run.2;
     }
 
@@ -77,73 +77,15 @@ returns-in-Ok-clause-cut_off g c = λ e.
       commands = c.in-Ok.commands.items;
       asked = record { said = c.in-Some.ensures; runs = c.in-Ok.ensures.runs };
       said = run.1.0;
-      replies = rw c.deref.ensures.value at run.1.1;
+      ran = rw c.deref.ensures.value at run.1.1;
       wrote = run.1.2;
     }
-
-pub returns-in-Ok-clause-left : goal.returns-in-Ok-clause-left
-returns-in-Ok-clause-left g c = λ whole told. record {
-  task = c.in-Some.task;
-  commands = c.in-Ok.commands.items;
-  asked = record { said = c.in-Some.ensures; runs = c.in-Ok.ensures.runs };
-  left_so = rw c.deref.ensures.value at (c.run_and_write.ensures.left whole told);
-}
-
-pub returns-in-Ok-clause-lasting : goal.returns-in-Ok-clause-lasting
-returns-in-Ok-clause-lasting g c = λ whole told. record {
-  task = c.in-Some.task;
-  commands = c.in-Ok.commands.items;
-  asked = record { said = c.in-Some.ensures; runs = c.in-Ok.ensures.runs };
-  lasting = rw c.deref.ensures.value at (c.run_and_write.ensures.durable whole told);
-}
-
-pub returns-in-Ok-clause-images : goal.returns-in-Ok-clause-images
-returns-in-Ok-clause-images g c = λ whole told. record {
-  task = c.in-Some.task;
-  commands = c.in-Ok.commands.items;
-  asked = record { said = c.in-Some.ensures; runs = c.in-Ok.ensures.runs };
-  stood = rw c.deref.ensures.value at (c.run_and_write.ensures.images whole told);
-}
-
-pub returns-in-Ok-clause-images_so_far : goal.returns-in-Ok-clause-images_so_far
-returns-in-Ok-clause-images_so_far g c = λ e told.
-    let run = c.run_and_write.ensures.images_so_far (⊎_elim (λ v. inl v) (λ v. inr (inl v)) e) told in record {
-      task = c.in-Some.task;
-      commands = c.in-Ok.commands.items;
-      asked = record { said = c.in-Some.ensures; runs = c.in-Ok.ensures.runs };
-      said = run.0;
-      replies = rw c.deref.ensures.value at run.1;
-      wrote = run.2;
-      stood = rw c.deref.ensures.value at run.3;
-    }
-
-pub returns-in-Ok-clause-images_of_memory : goal.returns-in-Ok-clause-images_of_memory
-returns-in-Ok-clause-images_of_memory g c = λ e told.
-    let run = c.run_and_write.ensures.images_so_far (inr (inr e)) told in
-    inr (record {
-      task = c.in-Some.task;
-      commands = c.in-Ok.commands.items;
-      asked = record { said = c.in-Some.ensures; runs = c.in-Ok.ensures.runs };
-      said = run.0;
-      replies = rw c.deref.ensures.value at run.1;
-      wrote = run.2;
-      stood = rw c.deref.ensures.value at run.3;
-    })
 
 pub returns-in-Ok-clause-no_fault : goal.returns-in-Ok-clause-no_fault
 returns-in-Ok-clause-no_fault g c = c.run_and_write.ensures.no_fault
 
 pub returns-in-Ok-clause-volume : goal.returns-in-Ok-clause-volume
 returns-in-Ok-clause-volume g c = λ e. let run = rw e at c.run_and_write.ensures.run in run.0
-
-pub returns-in-Ok-clause-corrupt : goal.returns-in-Ok-clause-corrupt
-returns-in-Ok-clause-corrupt g c = λ e told.
-    let run = rw e at c.run_and_write.ensures.run in record {
-      task = c.in-Some.task;
-      commands = c.in-Ok.commands.items;
-      asked = record { said = c.in-Some.ensures; runs = c.in-Ok.ensures.runs };
-      fault = (rw c.deref.ensures.value at run.0) told;
-    }
 
 pub returns-in-Ok-clause-stopped : goal.returns-in-Ok-clause-stopped
 returns-in-Ok-clause-stopped g c = λ e. elim e [
@@ -153,8 +95,9 @@ returns-in-Ok-clause-stopped g c = λ e. elim e [
         commands = c.in-Ok.commands.items;
         asked = record { said = c.in-Some.ensures; runs = c.in-Ok.ensures.runs };
         said = run.1.0;
-        replies = rw c.deref.ensures.value at run.1.1;
+        began = rw c.deref.ensures.value at run.1.1;
         wrote = run.1.2;
+        fault = λ at. absurd (never_corrupt _ v at);
       }
   | inr v ↦
       let run = rw v at c.run_and_write.ensures.run in record {
@@ -162,8 +105,9 @@ returns-in-Ok-clause-stopped g c = λ e. elim e [
         commands = c.in-Ok.commands.items;
         asked = record { said = c.in-Some.ensures; runs = c.in-Ok.ensures.runs };
         said = run.1.0;
-        replies = rw c.deref.ensures.value at run.1.1;
+        began = rw c.deref.ensures.value at run.1.1;
         wrote = run.1.2;
+        fault = λ at. rw c.deref.ensures.value at run.0;
       }
 ]
 
@@ -175,8 +119,9 @@ returns-in-Ok-clause-memory g c = λ e.
       commands = c.in-Ok.commands.items;
       asked = record { said = c.in-Some.ensures; runs = c.in-Ok.ensures.runs };
       said = run.0;
-      replies = rw c.deref.ensures.value at run.1;
+      began = rw c.deref.ensures.value at run.1;
       wrote = run.2;
+      fault = λ at. absurd (never_short _ e at);
     })
 
 pub returns-in-Ok-clause-complete : goal.returns-in-Ok-clause-complete
@@ -192,7 +137,7 @@ returns-in-Ok-clause-valid g c = λ commands valid told s start clear source sin
     let image = present (g.V.Volume.state c.args.volume.now) in
     let here = subst (λ (cs : List Command). HasNoClash standard_config (opened_from standard_config s image) cs)
     (sym same) clear in
-    valid_run _ _ _ _ _ _ _ _ _ _ c.run_and_write.result c.run_and_write.ensures.run
+    valid_run _ _ _ _ _ _ _ _ _ c.run_and_write.result c.run_and_write.ensures.run
     (λ e. let run = rw e at c.run_and_write.ensures.run in (rw c.deref.ensures.value at run.0) told s start here) sink
     volume
 
