@@ -15,7 +15,7 @@ use codec_base::{Duplicate, ListOf};
 use journal_base::{Backing, Mutable, append_all};
 use std::alloc::Global;
 use std::rc::Rc;
-use tree_core::{Family, Hasher, Location, MAX_LEAVES};
+use tree_core::{Family, Feed, Hasher, Location, MAX_LEAVES};
 use volume_base::{JournalError, Volume};
 
 /// The journal with the items of the lists from this one on behind its own, by one append; of no items nothing is written. It
@@ -107,6 +107,8 @@ impl<F: Family, C: Backing, H: Hasher> Journal<F, C, H> {
         &self,
         items: &[C::Item],
     ) -> Result<tree_core::MerkleizedBatch<F, H::Digest>, Error<F>>
+    where
+        C::Item: Feed,
         ensures full { 2 ^ 62 < self.now.tree.tree.leaves + length items.now →
             result ≡ Err (Error.Merkle (LocationOverflow (2 ^ 62 + 1))) }
         ensures refused { IfErr result (λ e. (e ≡ Error.Memory) ⊎ ((e ≡ Error.Merkle (LocationOverflow (2 ^ 62 + 1)))
@@ -124,7 +126,7 @@ impl<F: Family, C: Backing, H: Hasher> Journal<F, C, H> {
                 MAX_LEAVES + 1,
             ))));
         }
-        sealed_leaves(self.alloc, &self.merkle, &self.hasher, items)
+        sealed_leaves(&self.merkle, &self.hasher, items)
     }
 
     /// This item alone, as a copy.
@@ -148,6 +150,8 @@ impl<F: Family, C: Backing, H: Hasher> Journal<F, C, H> {
         vol: &mut V,
         item: &C::Item,
     ) -> Result<(Self, Location<F>), Error<F>>
+    where
+        C::Item: Feed,
         ensures full { self.tree.tree.leaves ≡ 2 ^ 62 → (vol.new ≡ vol.old)
             × ((result ≡ Err Error.Memory) ⊎ (result ≡ Err (Error.Merkle (LocationOverflow (2 ^ 62 + 1))))) }
         ensures refused { (e : tree_error.Error F) → IsErrOf result (Error.Merkle e) → self.tree.tree.leaves ≡ 2 ^ 62 }
@@ -197,6 +201,8 @@ impl<F: Family, C: Backing, H: Hasher> Journal<F, C, H> {
         vol: &mut V,
         items: &[C::Item],
     ) -> Result<(Self, u64), Error<F>>
+    where
+        C::Item: Feed,
         ensures empty { length items.now ≡ 0 → (result ≡ Err (Error.Journal EmptyAppend)) × (vol.new ≡ vol.old) }
         ensures full { 0 < length items.now → 2 ^ 62 < self.tree.tree.leaves + length items.now →
             (result ≡ Err (Error.Merkle (LocationOverflow (2 ^ 62 + 1)))) × (vol.new ≡ vol.old) }

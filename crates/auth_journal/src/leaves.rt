@@ -10,14 +10,12 @@ ghost use Rattle.auth_journal.specs.Batched.{leaves_from};
 ghost use Rattle.auth_journal.specs.Joined.{leaves_of};
 
 use crate::Error;
-use codec_base::{Write, encode};
+use codec_base::Write;
 use merkle_full::Merkle;
-use std::alloc::Global;
-use tree_core::{Family, Hasher, MerkleizedBatch, Standard, UnmerkleizedBatch};
+use tree_core::{Family, Feed, Hasher, MerkleizedBatch, Standard, UnmerkleizedBatch};
 
 /// Adds a leaf for each of these items.
-fn add_leaves<F: Family, H: Hasher, T: Write>(
-    alloc: Global,
+fn add_leaves<F: Family, H: Hasher, T: Write + Feed>(
     batch: &mut UnmerkleizedBatch<F, H::Digest>,
     hasher: &Standard<H>,
     items: &[T],
@@ -28,11 +26,8 @@ fn add_leaves<F: Family, H: Hasher, T: Write>(
     ensures memory { IsOkUnless result Error.Memory }
 {
     for i in 0..items.len() {
-        let bytes = match encode(alloc, &items[i]) {
-            Ok(bytes) => bytes,
-            Err(_) => return Err(Error::Memory),
-        };
-        match batch.add(hasher, bytes.as_slice()) {
+        let leaf = batch.next_leaf_digest(hasher, &items[i]);
+        match batch.add_leaf_digest(leaf) {
             Ok(()) => {}
             Err(_) => return Err(Error::Memory),
         }
@@ -41,8 +36,7 @@ fn add_leaves<F: Family, H: Hasher, T: Write>(
 }
 
 /// The leaves of these items, as a sealed batch on a tree.
-pub(crate) fn sealed_leaves<F: Family, H: Hasher, T: Write>(
-    alloc: Global,
+pub(crate) fn sealed_leaves<F: Family, H: Hasher, T: Write + Feed>(
     merkle: &Merkle<F, H::Digest>,
     hasher: &Standard<H>,
     items: &[T],
@@ -59,7 +53,7 @@ pub(crate) fn sealed_leaves<F: Family, H: Hasher, T: Write>(
         Ok(batch) => batch,
         Err(_) => return Err(Error::Memory),
     };
-    add_leaves(alloc, &mut batch, hasher, items)?;
+    add_leaves(&mut batch, hasher, items)?;
     match batch.merkleize(hasher, 0) {
         Ok(sealed) => Ok(sealed),
         Err(_) => Err(Error::Memory),
@@ -67,8 +61,7 @@ pub(crate) fn sealed_leaves<F: Family, H: Hasher, T: Write>(
 }
 
 /// The tree with a leaf for each of these items behind its own.
-pub(crate) fn with_leaves<F: Family, H: Hasher, T: Write>(
-    alloc: Global,
+pub(crate) fn with_leaves<F: Family, H: Hasher, T: Write + Feed>(
     merkle: Merkle<F, H::Digest>,
     hasher: &Standard<H>,
     items: &[T],
@@ -83,7 +76,7 @@ pub(crate) fn with_leaves<F: Family, H: Hasher, T: Write>(
         (leaves_of F.shape H.hash T.spelling (list ++ items.now)) t image) }
     ensures memory { IsOkUnless result Error.Memory }
 {
-    let batch = sealed_leaves(alloc, &merkle, hasher, items)?;
+    let batch = sealed_leaves(&merkle, hasher, items)?;
     match merkle.apply_batch(&batch) {
         Ok(longer) => Ok(longer),
         Err(_) => Err(Error::Memory),

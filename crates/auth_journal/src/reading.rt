@@ -1,5 +1,5 @@
 //! Items read one after another.
-ghost use Rattle.std.specs.Prelude.{◌≡◌, ◌+◌, ◌-◌, ◌≤◌, List, length, take, drop, IfOk, IfErr};
+ghost use Rattle.std.specs.Prelude.{◌≡◌, ◌-◌, ◌≤◌, List, length, take, drop, IfOk, IfErr};
 ghost use Rattle.journal_base.specs.Answers.{IsOfVolume};
 ghost use Rattle.journal_base.specs.Items.{items_of, Spells};
 ghost use Rattle.journal_base.specs.View.{log_of};
