@@ -3,8 +3,6 @@ use Rattle.std.proofs.Common.{◌≡◌, ◌⊎◌, inl, inr, ℕ, ◌-◌, ◌<
 use Rattle.std.specs.Prelude.{◌==◌, ◌&&◌, nat_lt, nat_le, Bool, slice_get, Result, Ok, Err, IfErr, IsErrOf, IsOkUnless, if◌then◌else◌}
 use Rattle.std.proofs.Math.Seq.{take-length}
 use Rattle.std.proofs.lemmas.Bool.Decides.{nat_tests}
-use Rattle.std.proofs.lemmas.List.{length-take}
-use Rattle.std.proofs.lemmas.Option.{slice_get_within}
 use Rattle.volume_base.specs.declared.error.JournalError.TheVariants.{ItemPruned}
 use Rattle.tree_shape.specs.Hashing.{Hashing}
 use Rattle.tree_shape.specs.Shape.{Shape}
@@ -19,7 +17,6 @@ use Rattle.compact_db.specs.Serving.{has_size, is_kept, kept_answer, serve_answe
 use Rattle.compact_db.specs.StateOf.{IsStateOf, verified_of}
 use Rattle.compact_db.specs.declared.verified.VerifiedWitness.{VerifiedWitness}
 use Rattle.compact_db.proofs.ApplyLemmas.{one_item}
-use Rattle.compact_db.proofs.ServingLemmas.{get_take}
 
 -- three tests, each with a refusal of its own, and what answers after them
 abbrev chosen : {E : Type 0} → Bool → Bool → Bool → Result (Unit {0}) E → E → E → E → Result (Unit {0}) E
@@ -114,12 +111,3 @@ module _ {F D Op V : Type 0} (s : Shape) (h : Hashing D) (m : Meaning Op V) (req
       let whole : take size ops ≡ ops = rw n (take-length ops) in
       let place : slice_get ops (length ops - 1) ≡ Some commit = subst (λ k. slice_get ops (k - 1) ≡ Some commit) n at in
       same_response tip op (is.tip_is ∙ ap (verified_of s h m) (sym whole)) (one_item (slice_get ops (length ops - 1)) op commit is.commit_is place)
-
-  pub front_response : (tip : VerifiedWitness F D) (tree : Tree D) (op : Op) → 0 < size → IsStateOf s h m (take size ops) tip tree op
-      → response_to request tip op ≡ response_to request (verified_of s h m (take size ops)) commit
-  front_response tip tree op some is =
-      let below = slice_get_within ops (size - 1) commit at in
-      let count : length (take size ops) ≡ size = omega (arith, some, below, length-take size ops) in
-      let here : slice_get (take size ops) (size - 1) ≡ Some op = subst (λ k. slice_get (take size ops) (k - 1) ≡ Some op) count is.commit_is in
-      let low : size - 1 < size = omega (arith, some) in
-      same_response tip op is.tip_is (one_item (slice_get ops (size - 1)) op commit (sym (get_take ops size (size - 1) low) ∙ here) at)

@@ -10,13 +10,15 @@ use Rattle.tree_shape.specs.Shape.{Shape, inactive, made, peaks_down, IsLawful}
 use Rattle.tree_shape.specs.declared.bagging.Bagging.{Bagging}
 use Rattle.tree_shape.specs.declared.bagging.Bagging.TheVariants.{ForwardFold}
 use Rattle.tree_shape.proofs.NodeLemmas.{map-reverse}
+use Rattle.tree_proof.specs.declared.proof.Proof.{Proof}
 use Rattle.tree_core.specs.Reading.{ArePeaks}
 use Rattle.tree_core.specs.Tree.{Tree, node_at}
 use Rattle.tree_core.proofs.MarkLemmas.{mark_peaks}
 use Rattle.tree_core.proofs.PrunedLemmas.{peak_stands}
 use Rattle.witness_store.specs.declared.witness.Witness.{Witness}
 use Rattle.compact_db.specs.Derived.{ArePinsIn, IsRootOver}
-use Rattle.compact_db.specs.Verified.{root_under}
+use Rattle.compact_db.specs.Verified.{root_under, IsShownOf}
+use Rattle.compact_db.specs.declared.verified.VerifiedWitness.{VerifiedWitness}
 use Rattle.compact_db.proofs.PinLemmas.{pins_are}
 
 -- all positions were read
@@ -70,6 +72,11 @@ pins_given s t u n given read w at are same pinned =
 pub witness_by : {F D : Type 0} (w : Witness F D) (bytes : List ℕ) (n : ℕ) (pins : List D) → w.op_bytes ≡ bytes → w.size ≡ n → w.pinned_nodes ≡ pins
     → w ≡ record { op_bytes = bytes; size = n; pinned_nodes = pins }
 witness_by w bytes n pins p q r i = record { op_bytes = p i; size = q i; pinned_nodes = r i }
+
+-- what is derived of a state, by what is shown of it and the root
+pub verified_by : {F D : Type 0} (w : Witness F D) (d : D) (p : Proof F D) (v : VerifiedWitness F D) → IsShownOf w p v → d ≡ v.root
+    → (let one : VerifiedWitness F D = record { witness = w; root = d; proof = p } in one) ≡ v
+verified_by w d p v shown root i = record { witness = shown.0 i; root = root i; proof = shown.1 i }
 
 -- the root of leaves under a floor, by the inactive peaks and the fold
 pub root_under_is : {D : Type 0} (s : Shape) (h : Hashing D) (all : List D) (below floor k n : ℕ) (b : Bagging) (d : D) → k ≡ inactive s n below

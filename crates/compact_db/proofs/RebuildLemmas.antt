@@ -15,7 +15,7 @@ use Rattle.log_model.specs.Witness.{last_bytes}
 use Rattle.log_model.proofs.OperationLemmas.{length-leaves_from}
 use Rattle.witness_store.specs.declared.witness.Witness.{Witness}
 use Rattle.compact_db.specs.Rebuild.{operation_answer, rebuild_answer}
-use Rattle.compact_db.specs.StateOf.{IsRestored, IsStateOf}
+use Rattle.compact_db.specs.StateOf.{IsRestored, IsStateOf, verified_of}
 use Rattle.compact_db.specs.Verified.{verified_leaves}
 use Rattle.compact_db.specs.WitnessOf.{witness_of}
 use Rattle.compact_db.specs.declared.verified.VerifiedWitness.{VerifiedWitness}
@@ -71,27 +71,37 @@ module _ {F D Op V : Type 0} (s : Shape) (h : Hashing D) (m : Meaning Op V) (adm
   pub last_is : w.op_bytes ≡ m.encoding parted.last
   last_is = ap (λ (x : Witness F D). x.op_bytes) is ∙ parted.bytes
 
-  pub state_is : (commit : Op) (floor : ℕ) (tip : VerifiedWitness F D) (tree : Tree D) → commit ≡ parted.last → m.floor commit ≡ Some floor
-      → IsRestored s h (leaves_from s h m 0 Before ++ (leaf s h (length (leaves_from s h m 0 Before)) w.op_bytes ∷ [])) w.op_bytes floor (tip, tree)
-      → IsStateOf s h m ops tip tree commit
-  state_is commit floor tip tree here floored made =
-      let leaves : leaves_from s h m 0 Before ++ (leaf s h (length (leaves_from s h m 0 Before)) w.op_bytes ∷ []) ≡ leaves_from s h m 0 ops =
+  leaves_are : leaves_from s h m 0 Before ++ (leaf s h (length (leaves_from s h m 0 Before)) w.op_bytes ∷ []) ≡ leaves_from s h m 0 ops
+  leaves_are =
       ap (λ bytes. leaves_from s h m 0 Before ++ (leaf s h (length (leaves_from s h m 0 Before)) bytes ∷ [])) last_is
-      ∙ sym (leaves_ended s h m Before parted.last) ∙ ap (leaves_from s h m 0) (sym parted.parted) in
+      ∙ sym (leaves_ended s h m Before parted.last) ∙ ap (leaves_from s h m 0) (sym parted.parted)
+
+  -- what is derived of the leaves before it and of its own is derived of the list
+  pub verified_is : (commit : Op) (floor : ℕ) → commit ≡ parted.last → m.floor commit ≡ Some floor
+      → verified_leaves {F = F} s h (leaves_from s h m 0 Before ++ (leaf s h (length (leaves_from s h m 0 Before)) w.op_bytes ∷ [])) w.op_bytes floor ≡ verified_of s h m ops
+  verified_is commit floor here floored =
       let bytes : w.op_bytes ≡ last_bytes s h m ops (length ops) = ap (λ (x : Witness F D). x.op_bytes) is in
       let low : floor ≡ floor_of m ops = sym (parted.floor ∙ floor_one (sym (ap m.floor here) ∙ floored)) in
-      record {
-        ends = ends;
-        few = few;
-        tip_is = made.0 ∙ ap (λ ds. verified_leaves s h ds w.op_bytes floor) leaves
-            ∙ ap (λ bs. verified_leaves s h (leaves_from s h m 0 ops) bs floor) bytes
-            ∙ ap (verified_leaves s h (leaves_from s h m 0 ops) (last_bytes s h m ops (length ops))) low;
-        tree_of = subst (λ ds. IsOf s h ds tree) leaves made.1;
-        commit_is = parted.here ∙ ap Some (sym here);
-      }
+      ap (λ ds. verified_leaves {F = F} s h ds w.op_bytes floor) leaves_are
+      ∙ ap (λ bs. verified_leaves {F = F} s h (leaves_from s h m 0 ops) bs floor) bytes
+      ∙ ap (verified_leaves {F = F} s h (leaves_from s h m 0 ops) (last_bytes s h m ops (length ops))) low
     where
       floor_one : m.floor parted.last ≡ Some floor → floor_of m (parted.last ∷ []) ≡ floor
       floor_one e = rw e refl
+
+  pub commit_last : (commit : Op) → commit ≡ parted.last → slice_get ops (length ops - 1) ≡ Some commit
+  commit_last commit here = parted.here ∙ ap Some (sym here)
+
+  pub state_is : (commit : Op) (floor : ℕ) (tip : VerifiedWitness F D) (tree : Tree D) → commit ≡ parted.last → m.floor commit ≡ Some floor
+      → IsRestored s h (leaves_from s h m 0 Before ++ (leaf s h (length (leaves_from s h m 0 Before)) w.op_bytes ∷ [])) w.op_bytes floor (tip, tree)
+      → IsStateOf s h m ops tip tree commit
+  state_is commit floor tip tree here floored made = record {
+    ends = ends;
+    few = few;
+    tip_is = made.0 ∙ verified_is commit floor here floored;
+    tree_of = subst (λ ds. IsOf s h ds tree) leaves_are made.1;
+    commit_is = commit_last commit here;
+  }
 
 pub at_last : {X : Type 0} (xs : List X) (x : X) → slice_get (xs ++ (x ∷ [])) (length (xs ++ (x ∷ [])) - 1) ≡ Some x
 at_last [] x = refl

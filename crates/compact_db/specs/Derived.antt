@@ -6,6 +6,7 @@ use Rattle.tree_shape.specs.Root.{root_over}
 use Rattle.tree_shape.specs.Shape.{Shape, inactive}
 use Rattle.tree_shape.specs.declared.bagging.Bagging.TheVariants.{ForwardFold}
 use Rattle.tree_proof.specs.Cover.{meets}
+use Rattle.tree_proof.specs.declared.proof.Proof.{Proof}
 use Rattle.tree_verification.specs.Ranges.{leaf_answer, Proves}
 use Rattle.tree_core.specs.Reading.{ArePeaks}
 use Rattle.tree_core.specs.Tree.{Tree, node_at}
@@ -21,6 +22,12 @@ IsRootOver {D} s h t floor d =
     (ds : List D) → ArePeaks s t.leaves (λ x k. node_at t (s.position x k)) ds →
     d ≡ root_over h t.leaves ds (inactive s t.leaves floor) ForwardFold
 
+-- It proves the tree's last leaf under this floor, by the tree's own nodes.
+abbrev pub ProvesLast : {F D : Type 0} → Shape → Tree D → ℕ → Proof F D → Type 0
+ProvesLast s t floor proof =
+    Proves s (leaf_answer t.leaves (t.leaves - 1)) t.leaves (inactive s t.leaves floor) (meets (t.leaves - 1) t.leaves)
+    (node_at t) (Ok proof)
+
 -- It is derived of a tree whose last leaf is the commit of these bytes and this floor: the peaks before that leaf, the
 -- root over its own peaks, and the proof of the leaf.
 pub record IsDerivedOf {F D : Type 0} (s : Shape) (h : Hashing D) (t : Tree D) (bytes : List ℕ) (floor : ℕ)
@@ -29,5 +36,4 @@ pub record IsDerivedOf {F D : Type 0} (s : Shape) (h : Hashing D) (t : Tree D) (
   pub size : v.witness.size ≡ t.leaves
   pub pinned : ArePinsIn s t (t.leaves - 1) v.witness.pinned_nodes
   pub root : IsRootOver s h t floor v.root
-  pub proof : Proves s (leaf_answer t.leaves (t.leaves - 1)) t.leaves (inactive s t.leaves floor)
-      (meets (t.leaves - 1) t.leaves) (node_at t) (Ok v.proof)
+  pub proof : ProvesLast s t floor v.proof

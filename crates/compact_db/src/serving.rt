@@ -15,11 +15,14 @@ ghost use Rattle.compact_db.specs.DbView.{IsOfList, seen_log, waits};
 ghost use Rattle.compact_db.specs.Held.{IsHeldFor};
 ghost use Rattle.compact_db.specs.Rebuild.{rebuild_answer};
 ghost use Rattle.compact_db.specs.Serving.{IsKeptAt, has_size, is_kept, kept_answer, serve_answer, response_to, AnswersAs, IsDamaged, IsLogFault, IsRebuiltAt};
-ghost use Rattle.compact_db.specs.StateOf.{IsStateOf, verified_of};
+ghost use Rattle.compact_db.specs.StateOf.{verified_of};
+ghost use Rattle.compact_db.specs.Verified.{IsShownOf};
 ghost use Rattle.compact_db.specs.WitnessOf.{witness_of};
 
 use crate::places::kept_at;
-use crate::{CompactDb, CompactOperation, Rebuilt, VerifiedWitness, rebuild};
+use crate::rebuilding::shown_of;
+use crate::verified::Shown;
+use crate::{CompactDb, CompactOperation, VerifiedWitness};
 use chain_core::Error;
 use codec_base::{Duplicate, ListOf};
 use op_codec::{Request, Response};
@@ -91,13 +94,14 @@ fn copied<F: Family, D: Digest>(proof: &Proof<F, D>) -> Result<Proof<F, D>, Erro
 }
 
 impl<F: Family, O: CompactOperation, H: Hasher> CompactDb<F, O, H> {
-    /// The kept state of exactly so many operations. It refuses with `Journal(ItemPruned)` of its commit where no such
-    /// witness is kept, and while an import waits; with a fault of the log; or as `rebuild` does.
+    /// What is shown of the kept state of exactly so many operations, and its commit. It refuses with
+    /// `Journal(ItemPruned)` of its commit where no such witness is kept, and while an import waits; with a fault of the
+    /// log; or as `rebuild` does.
     fn state_at<V: Volume>(
         &self,
         vol: &mut V,
         size: u64,
-    ) -> Result<Rebuilt<F, O, H::Digest>, Error<F>>
+    ) -> Result<(Shown<F, H::Digest>, O), Error<F>>
         requires { 0 < size }
         ensures waiting { waits self.now.log ≡ true →
             (result ≡ Err (Error.Journal (journal_error.ItemPruned (size - 1)))) × (vol.new ≡ vol.old) }
@@ -117,12 +121,14 @@ impl<F: Family, O: CompactOperation, H: Hasher> CompactDb<F, O, H> {
         ensures rebuilt { let view = seen_log self.now.log in
             let items = witnesses_of {F = F} H.Digest.spelling (H.Digest.admits tt) view (V.state vol.old) in
             IfOk result (λ r. V.tells → IsWithin view (V.state vol.old) →
-            IsRebuiltAt F.shape O.meaning (λ bytes. whole (O.reads self.now.codec bytes)) items size r.tip r.commit) }
+            (v : VerifiedWitness F H.Digest) → v.witness ≡ r.0.witness →
+            IsRebuiltAt F.shape O.meaning (λ bytes. whole (O.reads self.now.codec bytes)) items size v r.1) }
         ensures list { IfOk result (λ r. V.tells → (ops : List O) (sizes : List ℕ) →
             IsHeldFor F.shape H.hash O.meaning H.Digest.spelling (H.Digest.admits tt) ops sizes self.now
             (V.state vol.old) →
             ((op : O) → slice_get ops (size - 1) ≡ Some op → O.admits self.now.codec op) →
-            IsStateOf F.shape H.hash O.meaning (take size ops) r.tip r.merkle r.commit) }
+            IsShownOf r.0.witness r.0.proof (verified_of F.shape H.hash O.meaning (take size ops))
+            × (slice_get ops (size - 1) ≡ Some r.1)) }
         ensures errors { let view = seen_log self.now.log in
             let within = IsWithin view (V.state vol.old) in
             let items = witnesses_of {F = F} H.Digest.spelling (H.Digest.admits tt) view (V.state vol.old) in
@@ -133,7 +139,7 @@ impl<F: Family, O: CompactOperation, H: Hasher> CompactDb<F, O, H> {
             LooksFew (log.end - log.start) (V.state vol.old) (V.state vol.new) }
     {
         match kept_at(&self.log, vol, Location::new(size)) {
-            Ok(Some((_, witness))) => rebuild::<F, O, H>(self.alloc, &self.codec, witness),
+            Ok(Some((_, witness))) => shown_of::<F, O, H>(self.alloc, &self.codec, witness),
             Ok(None) => Err(Error::Journal(JournalError::ItemPruned(size - 1))),
             Err(error) => Err(error),
         }
@@ -228,19 +234,15 @@ impl<F: Family, O: CompactOperation, H: Hasher> CompactDb<F, O, H> {
         if size == tip {
             return self.serve_tip(&request);
         }
-        let Rebuilt {
-            tip: state,
-            merkle: _,
-            commit,
-        } = match self.state_at(vol, size) {
+        let (shown, commit) = match self.state_at(vol, size) {
             Ok(rebuilt) => rebuilt,
             Err(error) => return Err(error),
         };
         response(
             self.alloc,
             &request,
-            state.proof,
-            state.witness.pinned_nodes,
+            shown.proof,
+            shown.witness.pinned_nodes,
             commit,
         )
     }

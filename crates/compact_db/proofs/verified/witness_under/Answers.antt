@@ -1,11 +1,8 @@
-use Rattle.std.proofs.Common.{◌≤◌, length, sym, subst, ◌∙◌}
-use Rattle.tree_core.specs.Tree.{Tree}
-use Rattle.compact_db.proofs.PinLemmas.{inactive_fits}
+use Rattle.compact_db.specs.Verified.{verified_leaves}
+use Rattle.compact_db.proofs.DerivedLemmas.{verified_by}
 use Rattle.compact_db.proofs.verified.witness_under.Goals as goal
 
-pub proof-requires : goal.proof-requires
-proof-requires g c =
-    let fits = inactive_fits g.F.Family.shape c.args.merkle.now.leaves _ _ _
-    (c.new.ensures ∙ c.as_u64-size.ensures ∙ c.leaves.ensures.leaves) c.inactive_peaks-inactive.ensures in
-    subst (λ (t : Tree g.row.H-Digest.Denot). c.inactive_peaks-inactive.result ≤ length (g.F.Family.shape.heights t.leaves))
-    (sym c.mem-2.ensures) fits
+pub returns-clause-verified : goal.returns-clause-verified
+returns-clause-verified g c all of root =
+    verified_by c.in_ok-shown.shown.witness c.args.root c.in_ok-shown.shown.proof (verified_leaves g.F.Family.shape g.H.Hasher.hash all c.args.op_bytes c.args.floor)
+    (c.in_ok-shown.ensures.verified all of) root

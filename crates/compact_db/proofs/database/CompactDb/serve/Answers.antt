@@ -1,4 +1,4 @@
-use Rattle.std.proofs.Common.{◌≡◌, ◌⊎◌, ◌-◌, ◌<◌, inl, inr, true, false, ℕ, List, [], drop, take, Ok, Err, refl, sym, ◌∙◌, ap, subst}
+use Rattle.std.proofs.Common.{◌≡◌, ◌⊎◌, ◌-◌, ◌<◌, inl, inr, true, false, ℕ, List, [], drop, take, Some, Ok, Err, refl, sym, ◌∙◌, ap, subst}
 use Rattle.std.specs.Prelude.{slice_get, IsOk}
 use Rattle.codec_base.specs.Parts.{whole}
 use Rattle.journal_base.specs.View.{IsWithin}
@@ -8,13 +8,16 @@ use Rattle.target_codec.specs.Request.{size_of, start_of}
 use Rattle.chain_core.specs.Answers.{IsOutside}
 use Rattle.chain_core.specs.declared.error.Error.TheVariants.{Journal, Volume}
 use Rattle.witness_store.specs.Witnesses.{witnesses_of}
+use Rattle.witness_store.specs.declared.witness.Witness.{Witness}
 use Rattle.compact_db.specs.DbView.{DbView, seen_log}
 use Rattle.compact_db.specs.Rebuild.{rebuild_answer}
-use Rattle.compact_db.specs.Serving.{has_size, is_kept, kept_answer, serve_answer, AnswersAs, IsDamaged, IsLogFault, IsRebuiltAt}
-use Rattle.compact_db.specs.StateOf.{IsStateOf}
+use Rattle.compact_db.specs.Serving.{has_size, is_kept, kept_answer, serve_answer, response_to, AnswersAs, IsDamaged, IsLogFault, IsRebuiltAt}
+use Rattle.compact_db.specs.StateOf.{verified_of}
+use Rattle.compact_db.specs.Verified.{IsShownOf}
 use Rattle.compact_db.specs.WitnessOf.{witness_of}
+use Rattle.compact_db.specs.declared.verified.VerifiedWitness.{VerifiedWitness}
 use Rattle.compact_db.proofs.ApplyLemmas.{one_item}
-use Rattle.compact_db.proofs.AnswerLemmas.{serve_is, serve_refused, serve_some, tip_kept, other_kept, memory_as, memory_alone, memory_err, tip_response, front_response}
+use Rattle.compact_db.proofs.AnswerLemmas.{serve_is, serve_refused, serve_some, tip_kept, other_kept, memory_as, memory_alone, memory_err, tip_response}
 use Rattle.compact_db.proofs.DbLemmas.{size_of_list}
 use Rattle.compact_db.proofs.ServingLemmas.{if_ok}
 use Rattle.compact_db.proofs.database.CompactDb.serve.Goals as goal
@@ -154,11 +157,13 @@ returns-clause-list g c =
     let size : c.as_u64-size.result ≡ n = c.as_u64-size.ensures ∙ c.size.ensures in
     let r = c.in-Ok-state_at.rebuilt in
     if_ok c.response.result _ _ c.response.ensures.response (λ x is told ops sizes held commit there all.
-    let state = subst (λ (k : ℕ). IsStateOf s h m (take k ops) r.tip r.merkle r.commit) size
+    let state = subst (λ (k : ℕ). IsShownOf r.0.witness r.0.proof (verified_of s h m (take k ops)) × (slice_get ops (k - 1) ≡ Some r.1)) size
     (c.in-Ok-state_at.ensures.list told ops sizes held (λ op at.
     let place = ap (λ (k : ℕ). slice_get ops (k - 1)) size in
     subst (g.O.Read.admits c.args.self.now.codec) (one_item (slice_get ops (n - 1)) commit op there (sym place ∙ at)) all)) in
-    is r.tip refl refl ∙ front_response s h m c.args.request ops n commit there r.tip r.merkle r.commit (serve_some last n at passed) state)
+    let v = verified_of {F = g.row.F.Denot} s h m (take n ops) in
+    is v state.0.1 (ap (λ (w : Witness g.row.F.Denot g.row.H-Digest.Denot). w.pinned_nodes) state.0.0)
+    ∙ ap (response_to c.args.request v) (one_item (slice_get ops (n - 1)) r.1 commit state.1 there))
 
 pub returns-clause-errors : goal.returns-clause-errors
 returns-clause-errors g c =
@@ -222,9 +227,10 @@ returns-clause-rebuilt g c =
     let state = g.V.Volume.state c.args.vol.now in
     let items = witnesses_of {F = g.row.F.Denot} g.H.Digest.Spelled.spelling (g.H.Digest.Read.admits tt) (seen_log c.args.self.now.log) state in
     let decoded = λ (bytes : List ℕ). whole (g.O.Read.reads c.args.self.now.codec bytes) in
+    let v : VerifiedWitness g.row.F.Denot g.row.H-Digest.Denot = record { witness = r.0.witness; root = g.H.Hasher.hash.digest []; proof = r.0.proof } in
     if_ok c.response.result _ _ c.response.ensures.response (λ x is other told within. (
-      r.tip,
-      r.commit,
-      subst (λ (k : ℕ). IsRebuiltAt s m decoded items k r.tip r.commit) size (c.in-Ok-state_at.ensures.rebuilt told within),
-      is r.tip refl refl,
+      v,
+      r.1,
+      subst (λ (k : ℕ). IsRebuiltAt s m decoded items k v r.1) size (c.in-Ok-state_at.ensures.rebuilt told within v refl),
+      is v refl refl,
     ))
