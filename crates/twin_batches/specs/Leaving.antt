@@ -1,8 +1,10 @@
 -- What a command that was refused leaves of the batches of a side.
-use Rattle.std.specs.Prelude.{◌≡◌, ◌⊎◌, ℕ, slice_index_or, slice_set}
+use Rattle.std.specs.Prelude.{◌≡◌, ℕ, true, false, slice_index_or, slice_set}
 use Rattle.chain_core.specs.Slots.{link_released}
 use Rattle.command_text.specs.declared.command.Command.{Command}
 use Rattle.command_text.specs.declared.command.Command.TheVariants as command
+use Rattle.log_model.specs.declared.refusal.Refusal.{Refusal}
+use Rattle.list_machine.specs.Laws.{loses_batch}
 use Rattle.twin_batches.specs.Kind.{Kind}
 use Rattle.twin_batches.specs.declared.numbers.Numbers.{Numbers}
 use Rattle.twin_batches.specs.declared.numbers.Batch.TheVariants.{Unsealed, Gone}
@@ -19,7 +21,13 @@ module _ {Db S U : Type 0} (k : Kind Db S U) where
     pub gone : new.batches.items ≡ slice_set old.batches.items b Gone
     pub released : new.pool ≡ link_released old.pool (k.parent batch)
 
-  -- A command that was refused leaves each batch; but a seal may lose its own.
-  abbrev pub LeavesBatches : Command → Numbers S U → Numbers S U → Type 0
-  LeavesBatches (command.Seal b metadata floor) old new = KeepsBatches old new ⊎ LosesBatch b old new
-  LeavesBatches _ old new = KeepsBatches old new
+  -- A seal of batch b that was refused has lost it where the reason is one that loses a batch, and else each batch is as
+  -- before.
+  pub record LeavesUnsealed (b : ℕ) (why : Refusal) (old new : Numbers S U) : Type 0 where
+    pub lost : loses_batch why ≡ true → LosesBatch b old new
+    pub kept : loses_batch why ≡ false → KeepsBatches old new
+
+  -- A command that was refused for this reason leaves each batch, but a seal its own where the reason loses it.
+  abbrev pub LeavesBatches : Command → Refusal → Numbers S U → Numbers S U → Type 0
+  LeavesBatches (command.Seal b metadata floor) why old new = LeavesUnsealed b why old new
+  LeavesBatches _ why old new = KeepsBatches old new

@@ -1,6 +1,6 @@
 -- The faults of both databases of a run, and what a volume is after a call that ends in one.
 use Rattle.std.proofs.Common.{◌≡◌, Option, Some, None, Ok, Err, refl, sym, ◌∙◌, ap, subst}
-use Rattle.std.specs.Prelude.{Result, IsErrOf, OnOk, MatchOption}
+use Rattle.std.specs.Prelude.{Result, IsErrOf, IfOk, IfErr, OnOk}
 use Rattle.log_model.specs.declared.refusal.Refusal.{Refusal}
 use Rattle.log_model.specs.declared.refusal.Refusal.TheVariants as refusal
 use Rattle.chain_core.specs.Answers.{IsOutside}
@@ -11,13 +11,13 @@ use Rattle.tree_shape.specs.declared.mmr.Mmr.{Mmr}
 use Rattle.tree_shape.specs.declared.sha256.Sha256Digest.{Sha256Digest}
 use Rattle.volume_base.specs.Volume.{State, Writes, Changes}
 use Rattle.volume_base.proofs.JoinLemmas.{writes_joins, changes_joins, went_of}
-use Rattle.twin_run.specs.Faults.{full_fault, compact_fault, error_of, fault_alone, TellsUnlike, IsCorrupt, IsOwnFault}
+use Rattle.twin_run.specs.Faults.{full_fault, compact_fault, error_of, AreAlike, TellsRefusal, TellsUnlike, IsCorrupt, IsOwnFault}
 use Rattle.twin_run.specs.declared.ending.Fault.{Fault}
 use Rattle.twin_run.specs.declared.ending.Fault.TheVariants as fault
 use Rattle.twin_run.specs.declared.ending.CorruptAt.TheVariants as at
 use Rattle.twin_run.proofs.FaultLemmas.{full_outside, compact_outside, full_own, compact_own, full_volume, compact_volume, unlike_own, unlike_volume}
 
--- ---- a refusal of one database alone
+-- ---- refusals that are unlike
 
 error_own : (why : Refusal) → IsOutside (error_of why) → ⊥
 error_own (refusal.LocationOverflow size) out = out
@@ -31,59 +31,41 @@ pub record IsToldOwn (f : Fault) : Type 0 where
   pub own : IsOwnFault f
   pub other : f ≡ fault.Volume → ⊥
 
-told_alone : (full compact : Option Refusal) (f : Fault) → fault_alone full compact ≡ Some f → IsToldOwn f
-told_alone (Some why) None f e =
-    let same : fault.Corrupt (at.Full (error_of why)) ≡ f = cc in
-    subst IsToldOwn same (record { own = error_own why; other = λ is. cc })
-told_alone None (Some why) f e =
-    let same : fault.Corrupt (at.Compact (error_of why)) ≡ f = cc in
-    subst IsToldOwn same (record { own = error_own why; other = λ is. cc })
-told_alone None None f e = absurd (cc)
-told_alone (Some why) (Some other) f e = absurd (cc)
+told_unlike : (full compact : Option Refusal) (f : Fault) → TellsRefusal full compact f → IsToldOwn f
+told_unlike None None f tells = absurd tells
+told_unlike (Some why) None f tells =
+    subst IsToldOwn (sym tells) (record { own = error_own why; other = λ is. cc })
+told_unlike full (Some why) f tells =
+    subst IsToldOwn (sym tells.1) (record { own = error_own why; other = λ is. cc })
+
+never_unlike : (full compact : Option Refusal) (f : Fault) → TellsRefusal full compact f → full ≡ compact → ⊥
+never_unlike None None f tells same = tells
+never_unlike (Some why) None f tells same = cc
+never_unlike full (Some why) f tells same = tells.0 same
 
 -- what both answer together
-module _ (full compact : Option Refusal) (r : Result (Option Refusal) Fault)
-    (checked : MatchOption (fault_alone full compact) (r ≡ Ok full) (λ f. r ≡ Err f)) where
-  abbrev IsFor : Option Fault → Type 0
-  IsFor x = MatchOption x (r ≡ Ok full) (λ f. r ≡ Err f)
+module _ (full compact : Option Refusal) (r : Result (Option Refusal) Fault) (checked : AreAlike full compact r) where
+  unlike_as : (f : Fault) → r ≡ Err f → TellsRefusal full compact f
+  unlike_as f e = subst (λ (q : Result (Option Refusal) Fault). IfErr q (TellsRefusal full compact)) e checked.unlike
 
-  alone_is : (f : Fault) → r ≡ Err f → (x : Option Fault) → IsFor x → x ≡ Some f
-  alone_is f e None ok = absurd (let both = sym ok ∙ e in cc)
-  alone_is f e (Some g) is =
-      let both = sym is ∙ e in
-      let same : g ≡ f = cc in
-      ap Some same
+  alike_as : (why : Option Refusal) → r ≡ Ok why → (why ≡ full) × (full ≡ compact)
+  alike_as why e = subst (λ (q : Result (Option Refusal) Fault).
+      IfOk q (λ refused. (refused ≡ full) × (full ≡ compact))) e checked.alike
 
-  pub refused_alone : (f : Fault) → r ≡ Err f → IsToldOwn f
-  refused_alone f e = told_alone full compact f (alone_is f e (fault_alone full compact) checked)
-
-  full_is : (why : Option Refusal) → r ≡ Ok why → (x : Option Fault) → IsFor x → full ≡ why
-  full_is why e None ok =
-      let both = sym ok ∙ e in
-      cc
-  full_is why e (Some g) is = absurd (let both = sym is ∙ e in cc)
+  pub refused_unlike : (f : Fault) → r ≡ Err f → IsToldOwn f
+  refused_unlike f e = told_unlike full compact f (unlike_as f e)
 
   -- it is the full one's refusal
   pub both_refuse : (why : Option Refusal) → r ≡ Ok why → full ≡ why
-  both_refuse why e = full_is why e (fault_alone full compact) checked
+  both_refuse why e = let alike = alike_as why e in sym alike.0
 
--- where both refuse alike it is no fault
-pub alike_ok : (full compact : Option Refusal) (r : Result (Option Refusal) Fault)
-    → MatchOption (fault_alone full compact) (r ≡ Ok full) (λ f. r ≡ Err f) → full ≡ compact → (f : Fault)
-    → r ≡ Err f → ⊥
-alike_ok None None r checked same f e = let both = sym checked ∙ e in cc
-alike_ok (Some why) (Some other) r checked same f e = let both = sym checked ∙ e in cc
-alike_ok None (Some why) r checked same f e = cc
-alike_ok (Some why) None r checked same f e = cc
+  -- where both refuse alike it is no fault
+  pub alike_ok : full ≡ compact → (f : Fault) → r ≡ Err f → ⊥
+  alike_ok same f e = never_unlike full compact f (unlike_as f e) same
 
--- and where neither does both may
-pub both_take : (full compact : Option Refusal) (r : Result (Option Refusal) Fault)
-    → MatchOption (fault_alone full compact) (r ≡ Ok full) (λ f. r ≡ Err f) → r ≡ Ok None
-    → (full ≡ None) × (compact ≡ None)
-both_take None None r checked ok = (refl, refl)
-both_take None (Some why) r checked ok = absurd (let both = sym checked ∙ ok in cc)
-both_take (Some why) None r checked ok = absurd (let both = sym checked ∙ ok in cc)
-both_take (Some why) (Some other) r checked ok = absurd (let both = sym checked ∙ ok in cc)
+  -- and where neither does both may
+  pub both_take : r ≡ Ok None → (full ≡ None) × (compact ≡ None)
+  both_take e = let alike = alike_as None e in (sym alike.0, sym alike.1 ∙ sym alike.0)
 
 -- ---- states that differ
 

@@ -17,3 +17,4 @@ pub mod Lowering
 pub mod FaultLemmas
 pub mod WordForms
 pub mod RealignMoments
+pub mod GeneratedRuns

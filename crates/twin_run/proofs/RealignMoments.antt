@@ -1,12 +1,11 @@
 -- What a crash leaves while both databases are opened.
-use Rattle.std.proofs.Common.{◌≡◌, ℕ, ◌≤◌, List, [], ◌∷◌, length, take, Option, Some, None, Ok, Err, sym, ◌∙◌, ap, subst, arith}
-use Rattle.std.specs.Prelude.{Result, IfOk}
+use Rattle.std.proofs.Common.{◌≡◌, ℕ, ◌≤◌, List, length, Some, None, Ok, Err, sym, ◌∙◌, ap, subst, arith}
 use Rattle.std.proofs.lemmas.List.{length-take-le}
 use Rattle.volume_base.specs.Log.{Log}
-use Rattle.volume_base.specs.Moments.{Image, EachMoment, EachNow, Keeps, LeftAt, LogHas, LogKeeps, LogLeft, NamesLeft, Now, Steps, present}
-use Rattle.volume_base.specs.Names.{Names, AreApart, NamesCall}
+use Rattle.volume_base.specs.Moments.{Image, EachMoment, EachNow, Keeps, LeftAt, LogHas, LogKeeps, LogLeft, NamesLeft, Steps, present}
+use Rattle.volume_base.specs.Names.{AreApart, NamesCall}
 use Rattle.volume_base.specs.Volume as volume
-use Rattle.volume_base.specs.Volume.{Map, OnlyLeft}
+use Rattle.volume_base.specs.Volume.{OnlyLeft}
 use Rattle.volume_base.proofs.NameLemmas.{agree_three, log_beside, names_beside, names_of_each, names_of_image}
 use Rattle.volume_base.proofs.TurnLemmas.{keeps_joins, log_back, names_back, now_after, steps_at_end, steps_of_keeps}
 use Rattle.tree_shape.specs.Mmr.{mmr}
@@ -14,7 +13,6 @@ use Rattle.tree_shape.specs.Sha256Codec.{bytes_of}
 use Rattle.tree_shape.specs.declared.mmr.Mmr.{Mmr}
 use Rattle.tree_shape.specs.declared.sha256.Sha256Digest.{Sha256Digest}
 use Rattle.chain_core.specs.declared.commitment.Commitment.{Commitment}
-use Rattle.chain_core.specs.declared.error.Error.{Error}
 use Rattle.log_model.specs.Machine.{State}
 use Rattle.log_model.specs.Stored.{CompactStands, FullStands}
 use Rattle.list_machine.specs.Config.{Config, AreNamesApart}
@@ -28,7 +26,7 @@ use Rattle.twin_batches.specs.Kind.{kept_of}
 use Rattle.twin_databases.specs.CompactKind.{CompactView, compact_kind}
 use Rattle.twin_databases.specs.FullKind.{FullView, full_kind}
 use Rattle.twin_databases.specs.Standing.{KeepStanding, NamesStandFor, OpensGood, StandNow, settled_at}
-use Rattle.twin_run.specs.Standing.{Stands, TakesTo}
+use Rattle.twin_run.specs.Standing.{Stands}
 use Rattle.twin_run.specs.Twins.{AreOpenedAs}
 use Rattle.twin_run.proofs.HeldLog.{log_held, tree_held, witnesses_held}
 

@@ -1,5 +1,5 @@
 -- Which fault an error of a database is, and which one it is where both databases of a run differ.
-use Rattle.std.specs.Prelude.{◌≡◌, ◌≢◌, ◌⊎◌, ℕ, Option, Some, None}
+use Rattle.std.specs.Prelude.{◌≡◌, ◌≢◌, ◌⊎◌, ℕ, Option, Some, None, Result, IfOk, IfErr, MatchOption}
 use Rattle.chain_core.specs.Answers.{IsOutside}
 use Rattle.chain_core.specs.declared.commitment.Commitment.{Commitment}
 use Rattle.chain_core.specs.declared.error.Error.{Error}
@@ -64,12 +64,17 @@ error_of (refusal.FloorBeyondSize floor location) = error.FloorBeyondSize floor 
 error_of (refusal.PruneBeyondMinRequired location floor) = error.PruneBeyondMinRequired location floor
 error_of _ = error.StaleBatch
 
--- The fault where one database refuses, and the other doesn't.
-abbrev pub fault_alone : (full compact : Option Refusal) → Option Fault
-fault_alone (Some why) None = Some (Corrupt (Full (error_of why)))
-fault_alone None (Some why) = Some (Corrupt (Compact (error_of why)))
-fault_alone None None = None
-fault_alone (Some why) (Some other) = None
+-- A fault tells of two answers that refuse unlike, one alone or each for a reason of its own: it is the compact
+-- database's refusal where there is one, and else the full one's.
+abbrev pub TellsRefusal : (full compact : Option Refusal) → Fault → Type 0
+TellsRefusal full compact fault =
+    MatchOption compact (MatchOption full ⊥ (λ why. fault ≡ Corrupt (Full (error_of why))))
+    (λ why. (full ≢ Some why) × (fault ≡ Corrupt (Compact (error_of why))))
+
+-- What both databases refuse: the same, or nothing; or a fault tells that they refuse unlike.
+pub record AreAlike (full compact : Option Refusal) (r : Result (Option Refusal) Fault) : Type 0 where
+  pub alike : IfOk r (λ refused. (refused ≡ full) × (full ≡ compact))
+  pub unlike : IfErr r (TellsRefusal full compact)
 
 -- A fault tells of two states that their sizes differ, or where these are one their roots.
 abbrev pub TellsUnlike : (full compact : Commitment Mmr Sha256Digest) → Fault → Type 0

@@ -5,3 +5,4 @@ pub mod Twins
 pub mod Words
 pub mod Outcome
 pub mod Report
+pub mod Generated

@@ -5,6 +5,7 @@ use Rattle.volume_base.specs.Names.{Names, AreApart, joined}
 use Rattle.volume_base.specs.Volume as volume
 use Rattle.log_model.specs.Good.{AnyList}
 use Rattle.log_model.specs.Machine.{State}
+use Rattle.log_model.specs.declared.refusal.Refusal.{Refusal}
 use Rattle.command_text.specs.declared.command.Answer.{Answer}
 use Rattle.command_text.specs.declared.command.Answer.TheVariants as answer
 use Rattle.command_text.specs.declared.command.Command.{Command}
@@ -119,10 +120,10 @@ pub record AreKept (old new : Twins) : Type 0 where
   pub full : new.full.db ≡ old.full.db
   pub compact : new.compact.db ≡ old.compact.db
 
--- A command that was refused leaves each batch of both; but a seal may lose its own.
-pub record LeaveBatches (c : Command) (old new : Twins) : Type 0 where
-  pub full : LeavesBatches full_kind c old.full.numbers new.full.numbers
-  pub compact : LeavesBatches compact_kind c old.compact.numbers new.compact.numbers
+-- A command that was refused for this reason leaves each batch of both, but a seal its own where the reason loses it.
+pub record LeaveBatches (c : Command) (why : Refusal) (old new : Twins) : Type 0 where
+  pub full : LeavesBatches full_kind c why old.full.numbers new.full.numbers
+  pub compact : LeavesBatches compact_kind c why old.compact.numbers new.compact.numbers
 
 -- What is durable on a volume after a command that was done: the operations and the witnesses, and by a sync the nodes
 -- too.

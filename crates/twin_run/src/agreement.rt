@@ -1,13 +1,14 @@
 //! Whether both databases of a run answer alike, and the fault where they don't.
-ghost use Rattle.std.specs.Prelude.{◌≡◌, None, Ok, Err, IsOk, IfOk, IfErr, OnOk, IsErrOf, MatchOption};
+ghost use Rattle.std.specs.Prelude.{◌≡◌, IsOk, IfOk, IfErr, OnOk, IsErrOf};
 ghost use Rattle.log_model.specs.declared.refusal.Refusal.{Refusal};
 ghost use Rattle.command_text.specs.declared.command.Answer.TheVariants as answer;
 ghost use Rattle.list_machine.specs.Step.{refusal_in};
-ghost use Rattle.twin_run.specs.Faults.{IsOwnFault, error_of, fault_alone, TellsUnlike};
+ghost use Rattle.twin_run.specs.Faults.{AreAlike, IsOwnFault, error_of, TellsUnlike};
 
 use crate::ending::{CorruptAt, Fault};
 use chain_core::{Commitment, Error};
 use command_text::{Answer, Refusal};
+use log_model::equality_law;
 use tree_shape::{Location, Mmr, Sha256Digest};
 
 /// The error of a database that a refusal is.
@@ -31,17 +32,26 @@ fn error_of(refusal: Refusal) -> Error<Mmr>
     }
 }
 
-/// The refusal of both databases, or nothing where neither refuses. What one refuses alone is that database's fault.
+/// The refusal of both databases, or nothing where neither refuses. What one refuses alone is that database's fault, and
+/// where each refuses for a reason of its own it is the compact one's.
 pub(crate) fn refusal_of_both(
     full: Option<Refusal>,
     compact: Option<Refusal>,
 ) -> Result<Option<Refusal>, Fault>
-    ensures { MatchOption (fault_alone full compact) (result ≡ Ok full) (λ fault. result ≡ Err fault) }
+    ensures { AreAlike full compact result }
 {
+    equality_law();
     match (full, compact) {
+        (None, None) => Ok(None),
         (Some(refusal), None) => Err(Fault::Corrupt(CorruptAt::Full(error_of(refusal)))),
         (None, Some(refusal)) => Err(Fault::Corrupt(CorruptAt::Compact(error_of(refusal)))),
-        (None, None) | (Some(_), Some(_)) => Ok(full),
+        (Some(refusal), Some(other)) => {
+            if refusal == other {
+                Ok(Some(refusal))
+            } else {
+                Err(Fault::Corrupt(CorruptAt::Compact(error_of(other))))
+            }
+        }
     }
 }
 
@@ -73,12 +83,12 @@ fn refusal_in(answer: &Answer) -> Option<Refusal>
     }
 }
 
-/// The answer of both databases to a command on batches: the full one's. It is a fault where one refuses alone, or both
+/// The answer of both databases to a command on batches: the full one's. It is a fault where they don't refuse alike, or
 /// sealed batches of different states.
 pub(crate) fn agreed(full: Answer, compact: &Answer) -> Result<Answer, Fault>
     ensures full { IfOk result (λ answer. answer ≡ full) }
-    // Neither refuses alone.
-    ensures both { IfOk result (λ a. fault_alone (refusal_in full) (refusal_in compact.now) ≡ None) }
+    // Both refuse alike.
+    ensures both { IfOk result (λ a. refusal_in full ≡ refusal_in compact.now) }
     ensures same { full ≡ compact.now → IsOk result }
     ensures own { IfErr result IsOwnFault }
     ensures unfailed { IsErrOf result Fault.Volume → ⊥ }

@@ -55,9 +55,9 @@ impl Twins {
         ensures shaped { IfOk result (λ a. AreShaped self.new) }
         ensures goes_on { IfOk result (λ a. GoOn self.old self.new) }
         ensures kept { IfOk result (λ a. AreKept self.old self.new) }
-        // Over any contents a refusal leaves each batch of both, but a seal's own.
+        // Over any contents a refusal leaves each batch of both, but a seal its own where the reason loses it.
         ensures refused { IfOk result (λ a. (why : Refusal) → a ≡ answer.Refused why →
-            LeaveBatches command.now self.old self.new) }
+            LeaveBatches command.now why self.old self.new) }
         ensures corrupt { IfErr result (λ fault. (config : Config) (image : Image) (s : State Operation) → IsTold s →
             IsTwinsOf config image self.old s → IsCorrupt fault → ⊥) }
         ensures own { IfErr result IsOwnFault }
@@ -278,7 +278,7 @@ impl Twins {
         ensures refused { IfOk result (λ r. (why : Refusal) → r.1 ≡ answer.Refused why → AreKept self r.0
             × StaysStill V.tells (V.state volume.old) (V.state volume.new)) }
         ensures left { IfOk result (λ r. (why : Refusal) → r.1 ≡ answer.Refused why →
-            LeaveBatches command.now self r.0) }
+            LeaveBatches command.now why self r.0) }
         ensures no_item { NeedsNoItem command.now → (V.state volume.new).reads ≡ (V.state volume.old).reads }
         // Whatever a crash leaves at a moment stands for the state before, or for that which the list machine leaves.
         ensures images { V.tells → (config : Config) (s : State Operation) → IsTold s →

@@ -13,6 +13,7 @@ ghost use Rattle.list_machine.specs.Config.{standard_config};
 ghost use Rattle.list_machine.specs.Starts.{OfEachStart, twin_names};
 ghost use Rattle.twin_run.specs.Outcome.{IsValid, IsWhole, IsInput, Runs, AreToRun, IsAnswered, IsCutOff, IsStopped};
 ghost use Rattle.twin_run.specs.Outcome.{IsEarly, IsReadStatus, IsRunStatus, fault_status, output_of};
+ghost use Rattle.twin_run.specs.Generated.{IsSummedUp, OfFreshRun};
 ghost use Rattle.twin_run.specs.Words.{WordsSay, HaveNoForm, texts_of};
 
 use crate::ending::{Fault, Status};
@@ -216,6 +217,15 @@ pub fn twins_main<I: Source, O: Sink, V: Volume>(
         (Rose (O.faults output.old) (O.faults output.new) → ⊥) →
         (Rose (V.state volume.old).faults (V.state volume.new).faults → ⊥) → (result ≡ Status.Done) ⊎
         (result ≡ Status.Memory)) }
+
+    // So are generated commands on a volume that holds nothing; and then the summary is of the size that the rounds
+    // count, of none refused, and of the list's root.
+    ensures fresh { OfFreshRun (texts_of words.now) V.tells (present (V.state volume.old)) (λ number count.
+        (Rose (O.faults output.old) (O.faults output.new) → ⊥) →
+        (Rose (V.state volume.old).faults (V.state volume.new).faults → ⊥) → (result ≡ Status.Done) ⊎
+        (result ≡ Status.Memory)) }
+    ensures summed { OfFreshRun (texts_of words.now) V.tells (present (V.state volume.old)) (λ number count.
+        result ≡ Status.Done → IsSummedUp number count (O.written output.old) (O.written output.new)) }
 {
     let Some(task) = parse_words(words) else {
         return Status::BadWords;

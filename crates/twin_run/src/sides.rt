@@ -129,8 +129,8 @@ impl Twins {
     }
 
     /// One step. No count passes its type's end, since each is at most that of the steps. It fails with `Corrupt` where
-    /// one side alone refuses, or both come to different states, or what is read can't stand there, with `Volume` where
-    /// a call of the volume failed, and with `Memory`; then there are no databases any more.
+    /// the sides don't refuse alike, or come to different states, or what is read can't stand there, with `Volume` where a
+    /// call of the volume failed, and with `Memory`; then there are no databases any more.
     pub fn step<V: Volume>(
         mut self,
         volume: &mut V,
@@ -169,9 +169,9 @@ impl Twins {
         ensures kept { IfOk result (λ r. IsQuiet command.now → AreKept self r.0) }
         ensures refused { IfOk result (λ r. (why : Refusal) → r.1.answer ≡ answer.Refused why → AreKept self r.0
             × StaysStill V.tells (V.state volume.old) (V.state volume.new)) }
-        // And what is refused leaves each batch of both; but a seal may lose its own.
+        // And what is refused leaves each batch of both, but a seal its own where the reason loses it.
         ensures left { IfOk result (λ r. (why : Refusal) → r.1.answer ≡ answer.Refused why →
-            LeaveBatches command.now self r.0) }
+            LeaveBatches command.now why self r.0) }
         ensures no_item { NeedsNoItem command.now → (V.state volume.new).reads ≡ (V.state volume.old).reads }
         ensures of { IfOk result (λ r. (config : Config) → AreOf config self → AreOf config r.0) }
         // It touches the logs and the maps of both databases alone, which are their configuration's.

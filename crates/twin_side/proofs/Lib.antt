@@ -5,3 +5,4 @@ pub mod ReadAnswers
 pub mod ProvingLemmas
 pub mod CompactProving
 pub mod SideImages
+pub mod LostSeals

@@ -35,9 +35,9 @@ impl<D: Database> Side<D> {
         requires about { about_of command.now ≡ topic.Batches }
         ensures ok { IfOk result (λ a. (c : Config) → c.value_limit ≡ self.old.limit →
             Answers D.kind IsTold (λ s. step c s command.now) self.old.db self.old.numbers self.new.numbers a) }
-        // Over any contents a refusal leaves each batch, but a seal's own.
+        // Over any contents a refusal leaves each batch, but a seal its own where the reason loses it.
         ensures refused { IfOk result (λ a. (why : Refusal) → a ≡ answer.Refused why →
-            LeavesBatches D.kind command.now self.old.numbers self.new.numbers) }
+            LeavesBatches D.kind command.now why self.old.numbers self.new.numbers) }
         ensures db { self.new.db ≡ self.old.db }
         ensures limit { self.new.limit ≡ self.old.limit }
         ensures taken { self.new.numbers.taken ≡ self.old.numbers.taken }

@@ -1,5 +1,5 @@
 //! One side of the run: a database, and the batches of the run's numbers.
-ghost use Rattle.std.specs.Prelude.{◌≡◌, ◌⊎◌, ◌<◌, ◌≤◌, [], length, slice_index_or, None, IfOk, IfErr, IsOkUnless};
+ghost use Rattle.std.specs.Prelude.{◌≡◌, ◌<◌, ◌≤◌, [], length, slice_index_or, None, IfOk, IfErr, IsOkUnless};
 ghost use Rattle.log_model.specs.StateBatches as batches;
 ghost use Rattle.log_model.specs.Good.{IsGoodLog};
 ghost use Rattle.log_model.specs.Machine.{State, batch_at, with_batch};
@@ -14,7 +14,7 @@ ghost use Rattle.list_machine.specs.Operation.{Operation, meaning};
 ghost use Rattle.list_machine.specs.Step.{refusal_in, begin, append_to, metadata_length, seal, apply, hold, release, snapshot, size, metadata};
 ghost use Rattle.list_machine.specs.Told.{IsTold};
 ghost use Rattle.twin_batches.specs.Kind.{kept_of};
-ghost use Rattle.twin_batches.specs.Leaving.{KeepsBatches, LosesBatch};
+ghost use Rattle.twin_batches.specs.Leaving.{KeepsBatches, LeavesUnsealed};
 ghost use Rattle.twin_batches.specs.Standing.{KeepsTo};
 ghost use Rattle.twin_batches.specs.StateOf.{IsShaped, HasRoom, IsStateOf, AnyState, Answers, Takes};
 ghost use Rattle.twin_batches.specs.declared.numbers.Batch.TheVariants.{Unsealed, Gone};
@@ -136,9 +136,9 @@ impl<D: Database> Side<D> {
         ensures ok { IfOk result
             (λ a. Answers D.kind IsTold (λ s. seal self.old.limit s b metadata floor (batch_at s b)) self.old.db
             self.old.numbers self.new.numbers a) }
-        // Over any contents a refusal leaves each batch, or this one alone is lost.
+        // Over any contents a refusal leaves each batch, or this one alone is lost, by its reason.
         ensures refused { IfOk result (λ a. (why : Refusal) → a ≡ answer.Refused why →
-            KeepsBatches self.old.numbers self.new.numbers ⊎ LosesBatch D.kind b self.old.numbers self.new.numbers) }
+            LeavesUnsealed D.kind b why self.old.numbers self.new.numbers) }
         ensures db { self.new.db ≡ self.old.db }
         ensures limit { self.new.limit ≡ self.old.limit }
         ensures taken { self.new.numbers.taken ≡ self.old.numbers.taken }
@@ -176,9 +176,9 @@ impl<D: Database> Side<D> {
         ensures ok { IfOk result
             (λ a. Answers D.kind IsTold (λ s. seal self.old.limit s b metadata.now floor (batch_at s b)) self.old.db
             self.old.numbers self.new.numbers a) }
-        // Over any contents a refusal leaves each batch, or this one alone is lost.
+        // Over any contents a refusal leaves each batch, or this one alone is lost, by its reason.
         ensures refused { IfOk result (λ a. (why : Refusal) → a ≡ answer.Refused why →
-            KeepsBatches self.old.numbers self.new.numbers ⊎ LosesBatch D.kind b self.old.numbers self.new.numbers) }
+            LeavesUnsealed D.kind b why self.old.numbers self.new.numbers) }
         ensures db { self.new.db ≡ self.old.db }
         ensures limit { self.new.limit ≡ self.old.limit }
         ensures taken { self.new.numbers.taken ≡ self.old.numbers.taken }

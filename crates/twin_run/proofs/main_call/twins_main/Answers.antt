@@ -1,14 +1,18 @@
-use Rattle.std.proofs.Common.{inl, inr, subst, sym}
+use Rattle.std.proofs.Common.{◌≡◌, ◌∙◌, ap, inl, inr, subst, sym}
 use Rattle.std.specs.Prelude.{List}
+use Rattle.std.specs.Io.KnownBytes.{Appends}
 use Rattle.command_text.specs.declared.command.Command.{Command}
+use Rattle.command_text.specs.declared.command.Reply.{Reply}
 use Rattle.volume_base.specs.Moments.{present}
 use Rattle.list_machine.specs.Config.{standard_config}
+use Rattle.list_machine.specs.Generator.{generated, summary_of}
 use Rattle.list_machine.specs.Starts.{opened_from}
-use Rattle.list_machine.specs.Trace.{HasNoClash}
+use Rattle.list_machine.specs.Trace.{HasNoClash, fresh_state, trace}
 use Rattle.twin_run.specs.Outcome.{AreToRun}
 use Rattle.twin_run.specs.declared.words.Task.{Task}
 use Rattle.twin_run.specs.declared.words.Task.TheVariants.{Generate}
 use Rattle.twin_run.proofs.Endings.{early_reads, never_corrupt, never_short, not_early, valid_run, valid_task}
+use Rattle.twin_run.proofs.GeneratedRuns.{of_fresh, summed_up}
 use Rattle.twin_run.proofs.RunLemmas.{not_risen}
 use Rattle.twin_run.proofs.WordForms.{few_rounds, one_task}
 use Rattle.twin_run.proofs.main_call.twins_main.Goals as goal
@@ -21,6 +25,12 @@ returns-in_default-clause-generates g c = λ number count said. absurd (c.in_def
 
 pub returns-in_default-clause-valid : goal.returns-in_default-clause-valid
 returns-in_default-clause-valid g c = λ commands valid. absurd (c.in_default.ensures valid.task valid.said)
+
+pub returns-in_default-clause-fresh : goal.returns-in_default-clause-fresh
+returns-in_default-clause-fresh g c = λ number count said. absurd (c.in_default.ensures (Generate number count) said)
+
+pub returns-in_default-clause-summed : goal.returns-in_default-clause-summed
+returns-in_default-clause-summed g c = λ number count said. absurd (c.in_default.ensures (Generate number count) said)
 
 -- ---- where the commands are run
 
@@ -141,6 +151,33 @@ returns-in-Ok-clause-valid g c = λ commands valid told s start clear source sin
     (λ e. let run = rw e at c.run_and_write.ensures.run in (rw c.deref.ensures.value at run.0) told s start here) sink
     volume
 
+pub returns-in-Ok-clause-fresh : goal.returns-in-Ok-clause-fresh
+returns-in-Ok-clause-fresh g c = λ number count said told empty clear sink volume.
+    let task = one_task _ c.in-Some.task (Generate number count) c.in-Some.ensures said in
+    let cs = c.in-Ok.commands.items in
+    let same : cs ≡ generated number count = (rw task at c.in-Ok.ensures.runs).1 in
+    let image = present (g.V.Volume.state c.args.volume.now) in
+    let here = subst (λ (cs : List Command). HasNoClash standard_config fresh_state cs) (sym same) clear in
+    valid_run _ _ _ _ _ _ _ _ _ c.run_and_write.result c.run_and_write.ensures.run
+    (λ e. let run = rw e at c.run_and_write.ensures.run in
+    of_fresh image cs (λ now. ⊥) ((rw c.deref.ensures.value at run.0) told) empty here)
+    sink volume
+
+pub returns-in-Ok-clause-summed : goal.returns-in-Ok-clause-summed
+returns-in-Ok-clause-summed g c = λ number count said told empty clear e.
+    let task = one_task _ c.in-Some.task (Generate number count) c.in-Some.ensures said in
+    let run = rw e at c.run_and_write.ensures.run in
+    let ran = rw c.deref.ensures.value at run.1 in
+    let cs = c.in-Ok.commands.items in
+    let same : cs ≡ generated number count = (rw task at c.in-Ok.ensures.runs).1 in
+    let here = subst (λ (cs : List Command). HasNoClash standard_config fresh_state cs) (sym same) clear in
+    let replies = of_fresh (present (g.V.Volume.state c.args.volume.now)) cs (λ now. run.0 ≡ trace standard_config now cs)
+    (ran.replies.told told) empty here in
+    let is = replies ∙ ap (λ (cs : List Command). trace standard_config fresh_state cs) same in
+    let wrote = rw task at run.2 in
+    summed_up number count _ _ (few_rounds _ _ number count c.in-Some.ensures task)
+    (subst (λ (rs : List Reply). Appends (g.O.Sink.written c.args.output.now) (g.O.Sink.written c.run_and_write.new.output) (summary_of count rs)) is wrote)
+
 -- ---- where there are none
 
 pub returns-in-Err-clause-words : goal.returns-in-Err-clause-words
@@ -163,3 +200,11 @@ returns-in-Err-clause-valid g c = λ commands valid told s start clear source si
     valid_task _ c.in-Some.task _ _ _ _ c.in-Err.status commands c.in-Some.ensures c.in-Err.ensures.early
     c.in-Err.ensures.memory to_run
     source
+
+pub returns-in-Err-clause-fresh : goal.returns-in-Err-clause-fresh
+returns-in-Err-clause-fresh g c = λ number count said told empty clear sink volume.
+    inr (c.in-Err.ensures.memory number count (one_task _ c.in-Some.task (Generate number count) c.in-Some.ensures said))
+
+pub returns-in-Err-clause-summed : goal.returns-in-Err-clause-summed
+returns-in-Err-clause-summed g c = λ number count said told empty clear e.
+    let early = c.in-Err.ensures.early in absurd (rw e at early)

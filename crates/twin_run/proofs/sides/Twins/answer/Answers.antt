@@ -98,7 +98,8 @@ returns-in-Apply-clause-refused g c = IfOk-weaker c.apply.result _ _ (λ r kept 
 
 pub returns-in-Apply-clause-left : goal.returns-in-Apply-clause-left
 returns-in-Apply-clause-left g c = IfOk-weaker c.apply.result _ _ (λ r kept why is.
-    both_left c.args.command.now c.args.self r.0 (kept why is).0) c.apply.ensures.refused
+    both_left c.args.command.now why c.args.self r.0
+    (λ e. let both = sym (sym c.topic_of.ensures ∙ c.in-Apply.is) ∙ e in cc) (kept why is).0) c.apply.ensures.refused
 
 pub returns-in-Apply-clause-no_item : goal.returns-in-Apply-clause-no_item
 returns-in-Apply-clause-no_item g c = λ none. c.apply.ensures.writes.reads
@@ -144,7 +145,8 @@ returns-in-Ok-ask-clause-refused g c = λ why is. (
 )
 
 pub returns-in-Ok-ask-clause-left : goal.returns-in-Ok-ask-clause-left
-returns-in-Ok-ask-clause-left g c = λ why is. both_left c.args.command.now c.args.self c.args.self refl
+returns-in-Ok-ask-clause-left g c = λ why is. both_left c.args.command.now why c.args.self c.args.self
+    (λ e. let both = sym (sym c.topic_of.ensures ∙ c.in-Question.is) ∙ e in cc) refl
 
 pub returns-in-Ok-ask-clause-names : goal.returns-in-Ok-ask-clause-names
 returns-in-Ok-ask-clause-names g c = λ told.
@@ -216,7 +218,8 @@ returns-in-Ok-prove_commit-clause-refused g c = λ why is. (
 
 pub returns-in-Ok-prove_commit-clause-left : goal.returns-in-Ok-prove_commit-clause-left
 returns-in-Ok-prove_commit-clause-left g c = λ why is.
-    both_left c.args.command.now c.args.self c.args.self refl
+    both_left c.args.command.now why c.args.self c.args.self
+    (λ e. let both = sym (sym c.topic_of.ensures ∙ c.in-CommitProof.is) ∙ e in cc) refl
 
 pub returns-in-Ok-prove_commit-clause-no_item : goal.returns-in-Ok-prove_commit-clause-no_item
 returns-in-Ok-prove_commit-clause-no_item g c = λ none. absurd (proof_reads c.args.command.now c.in-CommitProof.n
@@ -347,7 +350,8 @@ returns-in-Prune-clause-refused g c = IfOk-weaker c.prune.result _ _ (λ r kept 
 
 pub returns-in-Prune-clause-left : goal.returns-in-Prune-clause-left
 returns-in-Prune-clause-left g c = IfOk-weaker c.prune.result _ _ (λ r kept why is.
-    both_left c.args.command.now c.args.self r.0 (kept why is).0) c.prune.ensures.refused
+    both_left c.args.command.now why c.args.self r.0
+    (λ e. let both = sym (sym c.topic_of.ensures ∙ c.in-Prune.is) ∙ e in cc) (kept why is).0) c.prune.ensures.refused
 
 pub returns-in-Prune-clause-no_item : goal.returns-in-Prune-clause-no_item
 returns-in-Prune-clause-no_item g c = λ none. absurd (prune_reads c.args.command.now c.in-Prune.location

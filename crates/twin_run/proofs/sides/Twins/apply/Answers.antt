@@ -5,7 +5,7 @@ use Rattle.volume_base.proofs.CallLemmas.{names_call_none}
 use Rattle.list_machine.specs.Step.{apply}
 use Rattle.twin_batches.proofs.Quiet.{apply_kept, apply_done}
 use Rattle.twin_batches.proofs.Writing.{writes_ok, writes_err, writes_nothing, writes_none}
-use Rattle.twin_run.proofs.BothFaults.{refused_alone, both_refuse, alike_ok, both_take}
+use Rattle.twin_run.proofs.BothFaults.{refused_unlike, both_refuse, alike_ok, both_take}
 use Rattle.twin_run.proofs.BothSides.{on_same, refused_meet}
 use Rattle.twin_run.proofs.BothMoments.{takes_ok, takes_err, takes_here, takes_nothing}
 use Rattle.twin_run.proofs.BothStates.{stands_same}
@@ -54,14 +54,14 @@ returns-in-Err-clause-corrupt g c = λ told config s lists of is.
     ∙ sym (c.apply_refusal.ensures.machine _ s lists of.compact)) c.in-Err.fault c.in-Err.is
 
 pub returns-in-Err-clause-own : goal.returns-in-Err-clause-own
-returns-in-Err-clause-own g c = (refused_alone _ _ _ c.refusal_of_both.ensures c.in-Err.fault c.in-Err.is).own
+returns-in-Err-clause-own g c = (refused_unlike _ _ _ c.refusal_of_both.ensures c.in-Err.fault c.in-Err.is).own
 
 pub returns-in-Err-clause-names : goal.returns-in-Err-clause-names
 returns-in-Err-clause-names g c = λ told. names_call_none _ _
 
 pub returns-in-Err-clause-writes : goal.returns-in-Err-clause-writes
 returns-in-Err-clause-writes g c = writes_none _ _ _ _
-    (refused_alone _ _ _ c.refusal_of_both.ensures c.in-Err.fault c.in-Err.is).other
+    (refused_unlike _ _ _ c.refusal_of_both.ensures c.in-Err.fault c.in-Err.is).other
 
 pub returns-in-Ok-clause-images : goal.returns-in-Ok-clause-images
 returns-in-Ok-clause-images g c = λ told config s lists of.

@@ -7,7 +7,7 @@ use Rattle.volume_base.proofs.JoinLemmas.{went_none}
 use Rattle.list_machine.specs.Step.{prune}
 use Rattle.twin_batches.proofs.Quiet.{prune_kept}
 use Rattle.twin_databases.proofs.WentLemmas.{changes_ok, changes_err}
-use Rattle.twin_run.proofs.BothFaults.{refused_alone, both_refuse, alike_ok, both_take}
+use Rattle.twin_run.proofs.BothFaults.{refused_unlike, both_refuse, alike_ok, both_take}
 use Rattle.twin_run.proofs.BothSides.{on_same, on_settled, shaped_settled, refused_meet, named_meet, prune_unrefused, low_where}
 use Rattle.twin_run.proofs.BothMoments.{takes_ok, takes_err, takes_here, takes_named, takes_nothing}
 use Rattle.twin_run.proofs.BothStates.{stands_same}
@@ -67,14 +67,14 @@ returns-in-Err-clause-corrupt g c = λ told config s lists of is.
     ∙ sym (c.prune_refusal.ensures.machine _ s of.compact)) c.in-Err.fault c.in-Err.is
 
 pub returns-in-Err-clause-own : goal.returns-in-Err-clause-own
-returns-in-Err-clause-own g c = (refused_alone _ _ _ c.refusal_of_both.ensures c.in-Err.fault c.in-Err.is).own
+returns-in-Err-clause-own g c = (refused_unlike _ _ _ c.refusal_of_both.ensures c.in-Err.fault c.in-Err.is).own
 
 pub returns-in-Err-clause-names : goal.returns-in-Err-clause-names
 returns-in-Err-clause-names g c = λ told. names_call_none _ _
 
 pub returns-in-Err-clause-changes : goal.returns-in-Err-clause-changes
 returns-in-Err-clause-changes g c = changes_err _ _ _ _ _
-    (refused_alone _ _ _ c.refusal_of_both.ensures c.in-Err.fault c.in-Err.is).other (went_none _ _)
+    (refused_unlike _ _ _ c.refusal_of_both.ensures c.in-Err.fault c.in-Err.is).other (went_none _ _)
 
 pub returns-in-Err-cut-clause-corrupt : goal.returns-in-Err-cut-clause-corrupt
 returns-in-Err-cut-clause-corrupt g c = λ told config s lists of. c.in-Err-cut.ensures.corrupt told config s of

@@ -86,9 +86,9 @@ pub returns-in-Ok-clause-left : goal.returns-in-Ok-clause-left
 returns-in-Ok-clause-left g c = λ why is.
     let left = c.in-Ok.ensures.left why (sym (ap (λ r. r.answer) c.reply-reply.ensures) ∙ is) in record {
       full = left_behind full_kind c.args.self.full.numbers c.count.new.self c.in-Ok.twins.full.numbers
-          c.count.ensures.batches c.count.ensures.pool c.args.command.now left.full;
+          c.count.ensures.batches c.count.ensures.pool c.args.command.now why left.full;
       compact = left_behind compact_kind c.args.self.compact.numbers c.count-2.new.self c.in-Ok.twins.compact.numbers
-          c.count-2.ensures.batches c.count-2.ensures.pool c.args.command.now left.compact;
+          c.count-2.ensures.batches c.count-2.ensures.pool c.args.command.now why left.compact;
     }
 
 pub returns-in-Ok-clause-of : goal.returns-in-Ok-clause-of

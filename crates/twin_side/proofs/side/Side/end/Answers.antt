@@ -1,4 +1,4 @@
-use Rattle.std.proofs.Common.{inr, set, refl, sym, ◌∙◌, ap, arith}
+use Rattle.std.proofs.Common.{set, refl, sym, ◌∙◌, ap, arith}
 use Rattle.std.proofs.lemmas.List.{set-set}
 use Rattle.chain_core.specs.declared.bounds.Bounds.{Bounds}
 use Rattle.tree_shape.specs.declared.mmr.Mmr.{Mmr}
@@ -9,8 +9,10 @@ use Rattle.twin_batches.specs.declared.numbers.Holding.{Holding}
 use Rattle.twin_batches.specs.declared.numbers.Numbers.{Numbers}
 use Rattle.twin_batches.specs.StateOf.{same_lists}
 use Rattle.twin_batches.proofs.Matching.{read_at, unsealed_there}
+use Rattle.twin_batches.proofs.LeftBatches.{unsealed_lost}
 use Rattle.twin_batches.proofs.Handlers.{lost_shape, lost_state}
 use Rattle.twin_batches.proofs.Sealing.{parent_lives, made_alive, made_item, why_refused, why_memory, ended_meets, sealed_shape, sealed_meets, lost_meets}
+use Rattle.twin_side.proofs.LostSeals.{refusal_loses}
 use Rattle.twin_side.proofs.side.Side.end.Goals as goal
 
 pub seal-requires-clause-parent : goal.seal-requires-clause-parent
@@ -76,7 +78,8 @@ pub returns-in-Some-clause-refused : goal.returns-in-Some-clause-refused
 returns-in-Some-clause-refused g c = λ why is.
     let n = c.args.self.now.numbers in
     let b = c.args.b in
-    inr (record {
+    unsealed_lost g.D.Database.kind b n _ c.in-Some.refusal why
+    (refusal_loses c.in-Err.error c.in-Some.refusal (sym c.in-Some.ensures)) is (record {
       batch = c.in-Unsealed.batch;
       was = read_at n.batches.items b c.index_mut.result.now c.requires.there c.index_mut.ensures.value
           ∙ sym c.in-Unsealed.ensures.value;
