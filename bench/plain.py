@@ -4,7 +4,8 @@
     plain.py FOLDER NUMBER COUNT            prints the four lines that the program does
     plain.py FOLDER NUMBER COUNT writes     makes the same writes and syncs alone, which were computed before, and prints their seconds
 
-It proves nothing, verifies nothing, and keeps one tree where the program keeps those of two databases. The folder must not be there.
+It proves nothing, verifies nothing, and keeps one tree where the program keeps those of two databases. Its writes and syncs are those
+of the program, in the same order. The folder must not be there.
 """
 import os
 import sys
@@ -16,6 +17,7 @@ from machine import append, bytes_of, commit, inactive_peaks, varint  # noqa: E4
 from trees import Grown, Mmr, number, peaks  # noqa: E402
 
 BLOBS = {"log": 64, "nodes": 128, "witness": 64}
+COPIED = 8192                   # how many bytes are copied by one write
 FLAGS = os.O_RDWR | os.O_CREAT | os.O_APPEND
 
 
@@ -41,11 +43,12 @@ class Folder:
     def sync(self, name):
         os.fsync(self.files[name])
 
-    def replace(self, name, data):
-        """Puts a file with these bytes in the place of the one of this name, durably."""
+    def replace(self, name, *pieces):
+        """Puts a file with the bytes of these pieces, a write for each, in the place of the one of this name, durably."""
         path = f"{self.path}/{name}"
         made = os.open(path + ".new", FLAGS, 0o644)
-        os.write(made, data)
+        for piece in pieces:
+            os.write(made, piece)
         os.fsync(made)
         os.rename(path + ".new", path)
         if name in self.files:
@@ -79,73 +82,97 @@ class Recorded:
 
 
 class Log:
-    """A log in a file: its start, and behind it its items, each behind its length."""
+    """A log in a file, which is made with its first items: its start, and behind it its items, each behind its length."""
 
     def __init__(self, folder, name):
-        self.folder, self.file, self.blob, self.start, self.items = folder, name + ".log", BLOBS[name], 0, []
-        folder.write(self.file, number(0))
+        self.folder, self.file, self.blob, self.start, self.items, self.is_named = folder, name + ".log", BLOBS[name], 0, [], False
 
     def extend(self, items):
+        data = b"".join(map(part, items))
+        if not self.items:
+            data, self.is_named = number(0) + data, False
         self.items += items
-        self.folder.write(self.file, b"".join(map(part, items)))
+        self.folder.write(self.file, data)
 
     def sync(self):
-        self.folder.sync(self.file)
+        """Makes the items durable, and the file's name, or that there is no file."""
+        if self.items:
+            self.folder.sync(self.file)
+        if not self.is_named:
+            self.folder.sync("")
+            self.is_named = True
 
     def prune(self, least):
-        """Drops the whole blobs below a position."""
+        """Drops the whole blobs below a position, and never all items."""
         start = least // self.blob * self.blob
         if start > self.start:
             del self.items[:start - self.start]
             self.start = start
-            self.folder.replace(self.file, number(start) + b"".join(map(part, self.items)))
+            kept = b"".join(map(part, self.items))
+            self.folder.replace(self.file, number(start), *(kept[at:at + COPIED] for at in range(0, len(kept), COPIED)))
 
 
 class Plain:
-    """The log, its tree, and a witness of each applied size."""
+    """The log, its tree, and a witness of each applied size. Each call makes durable what the program does, as often."""
 
     def __init__(self, folder):
         self.folder, self.tree, self.size, self.sizes, self.written, self.pairs = folder, Grown(), 0, [], 0, {}
         self.log, self.nodes, self.witnesses = (Log(folder, name) for name in BLOBS)
-        self.root = self.applied([commit(None, 0)], 0)
+        self.add([commit(None, 0)])
         self.sync()
-        folder.sync("")
+        self.witnesses.sync()
+        self.root = self.witnessed(0)
+        self.witnesses.sync()
 
     def pins(self, leaves):
         return [(Mmr.position(*peak), self.tree.nodes[Mmr.position(*peak)]) for peak in peaks(Mmr, leaves)]
 
-    def applied(self, operations, floor):
-        """Adds operations, the last of which is a commit; the root behind them."""
+    def add(self, operations):
+        """Adds operations, the last of which is a commit."""
         texts = [operation.text for operation in operations]
         for text in texts:
             self.tree.append(text)
         self.size += len(texts)
         self.sizes.append(self.size)
         self.log.extend(texts)
+        self.last = texts[-1]
+
+    def witnessed(self, floor):
+        """Adds the witness of the last commit, whose floor this is; the root behind it."""
         pins = [one for _, one in self.pins(self.size - 1)]
-        self.witnesses.extend([varint(len(texts[-1])) + texts[-1] + varint(self.size) + varint(len(pins)) + b"".join(pins)])
+        self.witnesses.extend([varint(len(self.last)) + self.last + varint(self.size) + varint(len(pins)) + b"".join(pins)])
         return self.tree.root(self.size, inactive_peaks(self.size, floor))
 
-    def commit(self):
+    def write_nodes(self):
+        """Makes the operations durable, and writes their nodes."""
         self.log.sync()
         if self.written < len(self.tree.nodes):
             self.nodes.extend(self.tree.nodes[self.written:])
             self.written = len(self.tree.nodes)
+
+    def commit(self):
+        self.write_nodes()
         self.witnesses.sync()
 
     def sync(self):
-        self.commit()
+        """Makes operations and nodes durable."""
+        self.write_nodes()
         self.nodes.sync()
 
     def prune(self, location):
-        """Makes all durable, and drops what stands below this location, as far as whole blobs do."""
+        """Makes all durable, and drops what stands below this location, as far as whole blobs do: of the log, whose start is then made
+        durable, and with it the nodes once more, of the nodes behind the map, and of the witnesses."""
+        self.commit()
         self.sync()
         self.log.prune(location)
+        self.log.sync()
+        self.nodes.sync()
         self.pairs.update((b"\0" + number(position), one) for position, one in self.pins(self.log.start))
         self.pairs[b"\1" + bytes(8)] = number(self.log.start)
         self.folder.replace("metadata.map", b"".join(part(key) + part(self.pairs[key]) for key in sorted(self.pairs)))
         self.nodes.prune(Mmr.size(self.log.start))
         self.witnesses.prune(next(i for i, size in enumerate(self.sizes) if size >= location))
+        self.witnesses.sync()
 
     def run(self, seed, count):
         operations = []
@@ -154,7 +181,8 @@ class Plain:
             if name == "append":
                 operations.append(append(bytes_of(words[1])))
             elif name == "seal":
-                self.root = self.applied(operations + [commit(None, int(words[2]))], int(words[2]))
+                self.add(operations + [commit(None, int(words[2]))])
+                self.root = self.witnessed(int(words[2]))
                 operations = []
             elif name == "commit":
                 self.commit()

@@ -26,6 +26,7 @@ from machine import append, bytes_of, commit, varint  # noqa: E402
 from trees import Mmr  # noqa: E402
 
 RUNS, NUMBER, COUNTS = 3, 7, (100, 1000, 10000)
+COUNTED = (1000, 10000)         # the rounds whose instructions are counted
 TMPFS = "/dev/shm"
 PLAIN = os.path.join(os.path.dirname(os.path.abspath(__file__)), "plain.py")
 HEAD, PART = 8, 4               # bytes before the items of a log's file, and before each item
@@ -85,13 +86,15 @@ def instructions(command):
     return int(re.search(r"Collected : (\d+)", done.stderr)[1])
 
 
-def count_instructions(program, hashes, scratch, count):
-    """The line on the instructions of generated rounds beside those of their hash calls, which no other work on the machine changes."""
+def count_instructions(program, hashes, scratch):
+    """The lines on the instructions of generated rounds beside those of their hash calls, which no other work on the machine changes."""
     def of(rounds):
         return instructions([program, f"{scratch}/{rounds}", "--gen", str(NUMBER), str(rounds)])
 
-    ratio = (of(count) - of(0)) / (2 * blocks_of(Rounds(count).sizes) * a_block(hashes, 1000, instructions))
-    print(f"{count} rounds: {ratio:.3f} times the instructions of the hash calls")
+    none, block = of(0), a_block(hashes, 1000, instructions)
+    for count in COUNTED:
+        ratio = (of(count) - none) / (2 * blocks_of(Rounds(count).sizes) * block)
+        print(f"{count} rounds: {ratio:.3f} times the instructions of the hash calls")
 
 
 # ---- what is generated, and the bytes that its files need
@@ -131,31 +134,37 @@ def bytes_in(folder):
     return sum(entry.stat().st_size for entry in os.scandir(folder))
 
 
+def plainly(folder, count, *alone):
+    """The command by which a plain program in Python keeps the log of so many rounds in a folder."""
+    return [sys.executable, PLAIN, folder, str(NUMBER), str(count), *alone]
+
+
+def writes_alone(folder, count):
+    """The seconds of the writes and syncs of so many rounds, which are the program's."""
+    seconds = []
+    for _ in range(RUNS):
+        shutil.rmtree(folder, ignore_errors=True)
+        done = subprocess.run(plainly(folder, count, "writes"), capture_output=True, check=True)
+        seconds.append(float(done.stdout))
+    return statistics.median(seconds)
+
+
 def beside(count, there, start):
-    """The seconds of a plain program in Python that keeps the same log, without those of its start, and those of its writes and syncs
-    alone. Its files must be the program's, which stand in the folder `there`."""
+    """The seconds of a plain program in Python that keeps the same log, and of its writes and syncs alone, each without those of its
+    start. Its files must be the program's, which stand in the folder `there`."""
     folder = there + "-plain"
-
-    def took(rounds):
-        return Measured([sys.executable, PLAIN, folder, str(NUMBER), str(rounds)], folder=folder).seconds
-
-    plain = took(count) - start
+    plain = Measured(plainly(folder, count), folder=folder).seconds - start
     if plain <= 0:
         plain = None            # the start takes longer at times than all the rest
     if filecmp.cmpfiles(there, folder, os.listdir(there), shallow=False)[0] != os.listdir(there):
         sys.exit(f"the files of {count} rounds aren't those of the plain program")
-    writes = []
-    for _ in range(RUNS):
-        shutil.rmtree(folder)
-        done = subprocess.run([sys.executable, PLAIN, folder, str(NUMBER), str(count), "writes"], capture_output=True, check=True)
-        writes.append(float(done.stdout))
-    return plain, statistics.median(writes)
+    return plain, writes_alone(folder, count) - writes_alone(folder, 0)
 
 
-def measure_rounds(program, place, block, start):
+def measure_rounds(program, place, block):
     """The lines on generated rounds in a folder in this place."""
     title, folder, first = ("tmpfs" if place == TMPFS else "disk"), tempfile.mkdtemp(dir=place) + "/folder", None
-    empty = Measured([sys.executable, PLAIN, folder, str(NUMBER), "0"], folder=folder).seconds
+    start, empty = Measured([program, folder], folder=folder), Measured(plainly(folder, 0), folder=folder).seconds
     for count in COUNTS:
         rounds = Rounds(count)
         ours = Measured([program, folder, "--gen", str(NUMBER), str(count)], folder=folder)
@@ -215,10 +224,10 @@ def main(program, hashes, disk):
         print(f"start-up on a folder that isn't there: {start.seconds * 1000:.1f} ms, {start.memory()}; "
               f"a block of SHA-256 {block * 1000000:.3f} us")
         for place in dict.fromkeys([memory, disk]):
-            measure_rounds(program, place, block, start)
+            measure_rounds(program, place, block)
         measure_inputs(program, scratch, block, start)
         if shutil.which("valgrind"):
-            count_instructions(program, hashes, scratch, 1000)
+            count_instructions(program, hashes, scratch)
 
 
 if __name__ == "__main__":

@@ -12,6 +12,7 @@ Everything is made from hashlib's SHA-256 and the rules in docs/MODEL.md. Nothin
 """
 import re
 import sys
+from functools import partial
 from pathlib import Path
 
 import machine
@@ -78,7 +79,7 @@ COMMAND = re.compile(f"new( {NUMBER})?|append {NUMBER} {BYTES}|seal {NUMBER} (-|
                      f"|(apply|hold|release|get|commit-proof|prune) {NUMBER}|batch-get {NUMBER} {NUMBER}"
                      f"|(get-many|batch-get-many {NUMBER})( {NUMBER})*|proof {NUMBER} {NUMBER} {COUNT}"
                      "|snapshot|size|metadata|commit|sync|start-sync")
-LOG_BLOB, WITNESS_BLOB = 7, 3   # of the runs that aren't those of the program
+LOG_BLOB, NODE_BLOB, WITNESS_BLOB = 7, 11, 3    # of the runs that aren't under the program's configuration
 OPENING_CALLS = 16 + 6          # calls of the volume with which the full and the compact database are opened on a fresh one
 STATUSES = {0: "", 2: "twins: usage: twins [FOLDER] [--gen NUMBER COUNT]", 3: "twins: line {}: not a command",
             4: "twins: cannot read input", 5: "twins: cannot write output", 6: "twins: volume failed", 7: "twins: volume holds no valid state"}
@@ -120,6 +121,8 @@ def commands(lines):
 
 
 def machine_of(settings):
+    if settings.get("config") == "standard":
+        return Machine()
     return Machine(int(settings["limit"]), int(settings.get("blob", LOG_BLOB)), WITNESS_BLOB)
 
 
@@ -141,58 +144,88 @@ def calls_volume(machine, line, reply, start, size):
     return name in ("get", "commit", "sync", "start-sync", "prune") or name == "get-many" and words != []
 
 
+class Log:
+    """A log of the volume: where it begins and ends, where it may begin behind a crash, at first, and where it may end, at least."""
+
+    def __init__(self):
+        self.first = self.start = self.least = self.end = 0
+
+    def extend(self, end):
+        self.end = end
+
+    def sync(self):
+        self.first, self.least = self.start, self.end
+
+    def prune(self, start):
+        assert self.least == self.end   # all is durable before
+        self.start = max(self.start, start)
+
+    def parts(self):
+        """The bounds of each part that a crash may leave, those of the whole log last. What begins before the log does ends where it ended
+        at the prune."""
+        earlier = [(start, self.least) for start in range(self.first, self.start)]
+        return earlier + [(self.start, end) for end in range(self.least, self.end + 1)]
+
+
 class Stops:
-    """Where a run stops with each call of the volume failing in turn: after how many replies, the bounds of both logs then, and where
-    each log ends at least. The full database writes first, and what it does is durable before the compact one begins."""
+    """Where a run stops with each call of the volume failing in turn: after how many replies, what no crash undoes then, and which parts of
+    the three logs one may leave. The full database writes first, and what it does is durable before the compact one begins."""
 
     def __init__(self, lines, machine):
-        self.machine, self.found = machine, []
+        self.machine, self.found, self.durable = machine, [], 0
+        self.log, self.nodes, self.witnesses = self.logs = Log(), Log(), Log()
         machine.opened()
-        self.at(0, Left(0, 0, 0, 0), 0, 0)
-        self.at(0, Left(0, 1, 0, 0), 0, 0)
-        self.at(0, Left(0, 1, 0, 0), 1, 0)
-        self.at(0, Left(0, 1, 0, 1), 1, 0)
+        first = [step for one in self.logs for step in (partial(one.extend, 1), one.sync)]
+        self.calls(0, *first)
         for count, line in enumerate(commands(lines), 1):
-            before, start, size = (machine.left(), self.durable()), machine.start, len(machine.whole)
+            self.durable, start, size = machine.durable, machine.start, len(machine.whole)
             if calls_volume(machine, line, machine.answer(line), start, size):
-                self.command(count, line.split(" ")[0], *before)
+                self.calls(count, *self.steps(line.split(" ")[0]))
+        self.durable = machine.durable
+        self.at(None)
 
-    def durable(self):
-        """How many operations and how many witnesses no crash undoes."""
-        machine = self.machine
-        return machine.durable, machine.first_at_least(machine.durable) + 1
+    def at(self, count):
+        self.found.append((count, self.durable, *(one.parts() for one in self.logs)))
 
-    def at(self, count, left, end, wend):
-        least = left._replace(end=max(end, left.start), wend=max(wend, left.wstart))
-        self.found.append((count, left, self.machine.opens_at(left), self.machine.opens_at(least)))
+    def calls(self, count, *steps):
+        """Where the run stops before each of these steps, which are then made."""
+        for step in steps:
+            self.at(count)
+            step()
 
-    def command(self, count, name, left, durable):
-        after, now = self.machine.left(), self.durable()
-        self.at(count, left, *durable)
-        if name == "apply":
-            self.at(count, left._replace(end=after.end), *durable)
-        elif now != durable or name in ("commit", "sync", "start-sync", "prune"):
-            self.at(count, left, now[0], durable[1])
-            if name == "prune":
-                self.at(count, left, *now)
-                self.at(count, left._replace(start=after.start), *now)
-                self.at(count, after, *now)
+    def steps(self, name):
+        """What a command makes of the logs, step by step; of one that reads, nothing."""
+        size, applied = len(self.machine.whole), len(self.machine.sizes)
+        items, witnesses = partial(self.log.extend, size), partial(self.witnesses.extend, applied)
+        written = [self.log.sync, partial(self.nodes.extend, Mmr.size(size))]
+        commit, sync = written + [self.witnesses.sync], written + [self.nodes.sync]
+        start, wstart = self.machine.start, self.machine.wstart
+        nodes = partial(self.nodes.prune, Mmr.size(start) // NODE_BLOB * NODE_BLOB)
+        prune = [partial(self.log.prune, start), self.log.sync, nodes, partial(self.witnesses.prune, wstart), self.witnesses.sync]
+        synced = sync + [self.witnesses.sync]
+        made = {"apply": [items, witnesses], "commit": commit, "sync": synced, "start-sync": synced, "prune": commit + sync + prune}
+        return made.get(name, [lambda: None])
 
-    def distinct(self):
-        return [one for one, before in zip(self.found, [None] + self.found) if one != before]
+    def ends(self, durable, log, nodes, witnesses):
+        """The bounds of what is left of the logs, and at which size it is opened, and each image that a crash may leave. No image is opened
+        below what no crash undoes."""
+        sizes = sorted({self.machine.opens_at(Left(*one, *other)) for one in log for other in witnesses})
+        assert sizes[0] >= durable
+        left = [f"{name} {parts[-1][0]} to {parts[-1][1]}" for name, parts in
+                (("log", log), ("nodes", nodes), ("witnesses", witnesses))]
+        opens, images = self.machine.opens_at(Left(*log[-1], *witnesses[-1])), len(log) * len(nodes) * len(witnesses)
+        return f"{', '.join(left)}; opens at {opens}, {images} images at {' '.join(map(str, sizes))}\n"
 
-
-def ends(left, opens, least):
-    return f"log {left.start} to {left.end}, witnesses {left.wstart} to {left.wend}; opens at {opens}, of the least at {least}\n"
+    def text(self):
+        """A line for each stop, of those alike and one after another for the first alone, and one for the end."""
+        told = [f"stopped Volume after {count} replies, {self.ends(*at)}" for count, *at in self.found[:-1]]
+        told.append(f"done, {self.ends(*self.found[-1][1:])}")
+        return "".join(one for one, before in zip(told, [None] + told) if one != before)
 
 
 def failing(settings, lines):
     """The run, and where it stops with each call of the volume failing in turn; then where it ends."""
-    machine = machine_of(settings)
-    replies, stops = run(lines, machine), Stops(lines, machine_of(settings))
-    table = [f"stopped Volume after {count} replies, {ends(*at)}" for count, *at in stops.distinct()]
-    stops.at(None, machine.left(), *stops.durable())
-    return "".join([replies, *table, f"done, {ends(*stops.found[-1][1:])}"])
+    return run(lines, machine_of(settings)) + Stops(lines, machine_of(settings)).text()
 
 
 def ended(settings, lines, made):

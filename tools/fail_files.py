@@ -16,7 +16,7 @@ import sys
 from pathlib import Path
 
 import faults
-from kill_runs import opened_again, states_of
+from kill_runs import opened_again, told_of
 from machine import Machine, run
 from runs import Failed, text_of
 from scripts import Script
@@ -80,8 +80,8 @@ def check(path, top):
             wrong.append(f"call {failing} of {count}: {ending}, {len(output)} bytes written")
         machine = begun_machine()
         try:
-            states = states_of(machine, second_lines())
-            opened_again(program.path, program.folder, machine, Script(random.Random(failing), machine), states)
+            states, _ = told_of(machine, second_lines())
+            opened_again(program.path, program.folder, machine, Script(random.Random(failing), machine), states, ending == DONE)
         except Failed as failed:
             wrong.append(f"call {failing} of {count}: {failed}")
     return f"{count} failing calls on the files of a run, {count - stopped} of them not needed", wrong

@@ -6,11 +6,13 @@ usage: tools/kill_runs.py PROGRAM [COUNT] [SEED] [PLACE]
 A long run over a folder, of batches with commits, syncs and prunes among them, is ended from outside at a random moment, by SIGKILL.
 So many runs are killed, ten after one another on one folder, which is made in PLACE, or where the system has such files. After each
 
+- the run has written nothing, or, where it was done with its last line, a front of its replies;
 - the files stand for a state of the killed run, one behind some step of it or that before its opening;
 - the next run opens at an applied size of the killed run that isn't below the durable size of the last run that ended, the greatest
   one that the log of operations reaches and whose witness is kept;
 - its replies to a random script are those of the list machine from there, byte for byte.
 """
+import os
 import random
 import shutil
 import signal
@@ -47,17 +49,17 @@ def long_lines(chance, machine):
     return lines
 
 
-def states_of(machine, lines):
-    """The states of a run: before its opening, behind it, and behind each line."""
+def told_of(machine, lines):
+    """The states of a run, before its opening, behind it, and behind each line, and the text of its replies."""
     before = machine.marks()
-    machine.opened()
+    replies = [machine.opened()]
     states = [before, machine.marks()]
     for line in lines:
-        reply = machine.answer(line)
-        if reply.startswith("refused"):
-            raise Failed(f"refuses a line of a long run: {line}: {reply}")
+        replies.append(machine.answer(line))
+        if replies[-1].startswith("refused"):
+            raise Failed(f"refuses a line of a long run: {line}: {replies[-1]}")
         states.append(machine.marks())
-    return states
+    return states, "".join(replies).encode()
 
 
 def seconds_a_line(program, top):
@@ -70,18 +72,26 @@ def seconds_a_line(program, top):
 
 
 def kill(program, folder, lines, seconds):
-    """Begins a run, and kills it after this time; says whether it was still running."""
-    run = subprocess.Popen([program, folder], stdin=subprocess.PIPE, stdout=subprocess.DEVNULL)
+    """Begins a run, and kills it after this time; says whether it was still running, and what it has written."""
+    run = subprocess.Popen([program, folder], stdin=subprocess.PIPE, stdout=subprocess.PIPE)
     try:
-        run.communicate(text_of(lines), timeout=seconds)
+        written, _ = run.communicate(text_of(lines), timeout=seconds)
     except subprocess.TimeoutExpired:
         run.send_signal(signal.SIGKILL)
-    run.communicate()
-    return run.returncode == -signal.SIGKILL
+        written, _ = run.communicate()
+    return run.returncode == -signal.SIGKILL, written
 
 
-def opened_again(program, folder, machine, script, states):
-    """Compares what is left with the killed run's states, and the next run with the machine's; answers the size at which it opens."""
+def check_written(was_killed, written, replies):
+    """Refuses what a run has written that isn't its replies, or, where it was killed, a front of these."""
+    if written != replies and not (was_killed and replies.startswith(written)):
+        end, at = "is killed" if was_killed else "ends", len(os.path.commonprefix([written, replies]))
+        raise Failed(f"{end}, and has written what aren't its replies, from byte {at} on: {written[at:at + 80]!r}")
+
+
+def opened_again(program, folder, machine, script, states, has_written):
+    """Compares what is left with the killed run's states, and the next run with the machine's; answers the size at which it opens. Where
+    the run has written a reply, that is its last size."""
     found = Found(folder)
     why = why_not(found, machine.whole, machine.sizes, states)
     if why:
@@ -91,6 +101,8 @@ def opened_again(program, folder, machine, script, states):
     size = len(machine.whole)
     if size < states[0].durable:
         raise Failed(f"opens at {size}, below the durable size {states[0].durable}")
+    if has_written and size < states[-1].size:
+        raise Failed(f"has written replies, and opens at {size}, below its last size {states[-1].size}")
     lines, answers = script.run(NEXT_LINES)
     try:
         compare_replies(program, folder, lines, [opened] + answers)
@@ -103,15 +115,18 @@ class Tally:
     """What came of the runs so far."""
 
     def __init__(self):
-        self.runs, self.killed, self.between = 0, 0, 0
+        self.runs, self.killed, self.written, self.between = 0, 0, 0, 0
 
     def go(self, program, folder, machine, chance, line_seconds):
         """One long run, which is killed, and the next."""
         lines = long_lines(chance, machine)
-        states = states_of(machine, lines)
+        states, replies = told_of(machine, lines)
         self.runs += 1
-        self.killed += kill(program, folder, lines, chance.random() * line_seconds * len(lines))
-        size = opened_again(program, folder, machine, Script(chance, machine), states)
+        was_killed, written = kill(program, folder, lines, chance.random() * line_seconds * len(lines))
+        check_written(was_killed, written, replies)
+        self.killed += was_killed
+        self.written += was_killed and written != b""
+        size = opened_again(program, folder, machine, Script(chance, machine), states, written != b"")
         self.between += states[1].size < size < states[-1].size
 
 
@@ -132,8 +147,9 @@ def main(words):
             except Failed as failed:
                 print(f"kill_runs: run {tally.runs} of seed {seed} {failed}")
                 return 1
-    print(f"kill_runs: {tally.killed} of {tally.runs} runs were killed, and {tally.between} of these opened again between "
-          "their first and their last size; each opens where it should, and is answered as the list machine does from there")
+    print(f"kill_runs: {tally.killed} of {tally.runs} runs were killed, {tally.written} of these when they had begun to write behind their "
+          f"last line, and the others had written nothing; {tally.between} opened again between their first and their last size; "
+          "each opens where it should, and is answered as the list machine does from there")
     return 0
 
 

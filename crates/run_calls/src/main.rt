@@ -1,10 +1,11 @@
 //! Makes the runs of a script, and prints what each answers. A case is a line with its kind and settings, each a name
 //! and a value, behind it the lines of its input, and then the line `end`. Between cases a line that begins with `#`
-//! is printed as it is. A `run` is that of commands under a `limit` of values, and ends with the fault that stopped
-//! it; a line of its input that begins with `/` ends one run, and the next goes on with the volume as it is (`/again`),
-//! with what a crash may leave of its logs (`/crash NAME START END ..`), with a log that begins later, as a prune of it
-//! alone leaves it (`/start NAME PLACE`), or with a log of other items (`/put NAME ITEM ..`). Of `failing`, the run is
-//! made again with each call of the volume failing in turn, and what is left is opened; a `main` is the top call with its
+//! is printed as it is. A `run` is that of commands under a `limit` of values and short blobs, or, with `config standard`,
+//! under the program's configuration, and ends with the fault that stopped it; a line of its input that begins with `/` ends
+//! one run, and the next goes on with the volume as it is (`/again`), with what a crash may leave of its logs
+//! (`/crash NAME START END ..`), with a log that begins later, as a prune of it alone leaves it (`/start NAME PLACE`), or with
+//! a log of other items (`/put NAME ITEM ..`). Of `failing`, the run is made again with each call of the volume failing in
+//! turn, and what is left is opened, and so is each image that a crash may leave of it; a `main` is the top call with its
 //! `words`, and ends with its status. Of `lines` each is an input of its own, and so of `hex`, where each is told by its
 //! bytes. A `config` is that of its settings, or why these are refused.
 #![tactic(auto)]
@@ -13,6 +14,7 @@ mod between;
 mod configs;
 mod error;
 mod failing;
+mod images;
 mod inputs;
 mod settings;
 mod top_call;

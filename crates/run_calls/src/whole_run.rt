@@ -1,7 +1,7 @@
-//! Runs of commands under a configuration of their own.
+//! Runs of commands under a configuration that their case says.
 use crate::between::change;
 use crate::error::ScriptError;
-use crate::settings::number;
+use crate::settings::{number, setting};
 use crate::volume::volume_of;
 use command_text::{Replies, parse_commands, write_replies};
 use memory_volume::MemoryVolume;
@@ -17,13 +17,12 @@ pub(crate) const NODES: &str = "nodes";
 /// The name of the log of witnesses.
 pub(crate) const WITNESS: &str = "witness";
 
-/// What the commands answer on a volume. The log of operations has blobs of 7, where `blob` doesn't say another number.
-pub(crate) fn answers(
-    alloc: Global,
-    head: &str,
-    input: &str,
-    volume: &mut MemoryVolume,
-) -> Result<Result<Replies, Stopped>, ScriptError> {
+/// The configuration of a case: the program's, where `config` is `standard`, and else one of short blobs, of 7 operations where
+/// `blob` doesn't say another number.
+fn config_of(alloc: Global, head: &str) -> Result<TwinConfig, ScriptError> {
+    if setting(head, "config") == "standard" {
+        return Ok(TwinConfig::standard(alloc)?);
+    }
     let limit = number(head, "limit");
     let blob = match number(head, "blob") {
         0 => 7,
@@ -31,6 +30,17 @@ pub(crate) fn answers(
     };
     let map = "metadata";
     let config = TwinConfig::new(alloc, LOG, NODES, map, WITNESS, blob, 11, 3, 4, limit)?;
+    Ok(config)
+}
+
+/// What the commands answer on a volume.
+pub(crate) fn answers(
+    alloc: Global,
+    head: &str,
+    input: &str,
+    volume: &mut MemoryVolume,
+) -> Result<Result<Replies, Stopped>, ScriptError> {
+    let config = config_of(alloc, head)?;
     let commands = parse_commands(alloc, input.as_bytes())?;
     Ok(run_twins(alloc, &config, volume, &commands))
 }
