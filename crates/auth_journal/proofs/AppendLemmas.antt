@@ -101,6 +101,12 @@ module _ {Codec Item : Type 0} (tells : Type 0) (spelling : Item → List ℕ) (
   appends_not shown e (Ok y) is never = absurd is
   appends_not shown e (Err d) is never = appends_none joined.Volume shown d (λ fault. never (sym is ∙ fault))
 
+  -- the error of a call that appends
+  pub appends_handed : {F S T : Type 0} (was : S → View Codec) (shown : T → View Codec) (r : Result S (Error F)) (e : Error F) (result : Result T (Error F))
+      → r ≡ Err e → IsErrAnd result (λ d. d ≡ e) → Appends tells joined.Volume spelling view was items a b r → Appends tells joined.Volume spelling view shown items a b result
+  appends_handed was shown r e (Ok y) at is did = absurd is
+  appends_handed was shown r e (Err d) at is did = appends_err joined.Volume joined.Volume was shown r d did (λ fault. at ∙ ap Err (sym is ∙ fault))
+
   -- the log's own refusal
   pub appends_below : {F S T : Type 0} (was : S → View Codec) (shown : T → View Codec) (r : Result S JournalError) (e : JournalError) (result : Result T (Error F))
       → r ≡ Err e → IsErrAnd result (λ d. d ≡ from_journal e) → Appends tells journal.Volume spelling view was items a b r → Appends tells joined.Volume spelling view shown items a b result

@@ -189,16 +189,15 @@ only_memory s t c i _ fits why = absurd why
 pub added : {D : Type 0} (s : Shape) (h : Hashing D) (all : List D) (b : Unsealed D) (more : List D) → IsUnsealedOf s h all b → IsUnsealedOf s h all (with_digests b more)
 added s h all b more of = record { batch = record { linked = of.batch.linked; before = of.batch.before; boundary = of.batch.boundary }; base = of.base }
 
--- the leaf of one item more
-pub added_next : {D Item : Type 0} (s : Shape) (h : Hashing D) (spelling : Item → List ℕ) (b now next : Unsealed D) (xs : List Item) (i : ℕ) (x : Item)
-    → now ≡ with_digests b (leaves_from s h (leaf_count b) (map spelling (take i xs))) → slice_get xs i ≡ Some x → next ≡ with_digests now (leaf s h (leaf_count now) (spelling x) ∷ [])
-    → next ≡ with_digests b (leaves_from s h (leaf_count b) (map spelling (take (suc i) xs)))
-added_next {D = D} s h spelling b now next xs i x so_far at is =
-    let front = map spelling (take i xs) in
+-- one leaf more
+pub added_next : {D : Type 0} (s : Shape) (h : Hashing D) (b now next : Unsealed D) (xs : List (List ℕ)) (i : ℕ) (x : List ℕ)
+    → now ≡ with_digests b (leaves_from s h (leaf_count b) (take i xs)) → slice_get xs i ≡ Some x → next ≡ with_digests now (leaf s h (leaf_count now) x ∷ [])
+    → next ≡ with_digests b (leaves_from s h (leaf_count b) (take (suc i) xs))
+added_next {D = D} s h b now next xs i x so_far at is =
+    let front = take i xs in
     let ds : List D = leaves_from s h (leaf_count b) front in
     let count : leaf_count now ≡ leaf_count b + length front = ap leaf_count so_far ∙ omega (arith, length-append b.digests ds, length-leaves_from s h (leaf_count b) front) in
-    let last : ds ++ leaf s h (leaf_count now) (spelling x) ∷ [] ≡ leaves_from s h (leaf_count b) (map spelling (take (suc i) xs)) =
-    ap (λ (n : ℕ). ds ++ leaf s h n (spelling x) ∷ []) count ∙ sym (leaves_push s h (leaf_count b) front (spelling x))
-    ∙ ap (leaves_from s h (leaf_count b)) (sym (map-append spelling (take i xs) (x ∷ [])) ∙ ap (map spelling) (sym (take-next xs i x at))) in
-    is ∙ ap (λ (u : Unsealed D). with_digests u (leaf s h (leaf_count now) (spelling x) ∷ [])) so_far
-    ∙ ap (λ (es : List D). record b { digests = es }) (append_assoc b.digests ds (leaf s h (leaf_count now) (spelling x) ∷ [])) ∙ ap (with_digests b) last
+    let last : ds ++ leaf s h (leaf_count now) x ∷ [] ≡ leaves_from s h (leaf_count b) (take (suc i) xs) =
+    ap (λ (n : ℕ). ds ++ leaf s h n x ∷ []) count ∙ sym (leaves_push s h (leaf_count b) front x) ∙ ap (leaves_from s h (leaf_count b)) (sym (take-next xs i x at)) in
+    is ∙ ap (λ (u : Unsealed D). with_digests u (leaf s h (leaf_count now) x ∷ [])) so_far
+    ∙ ap (λ (es : List D). record b { digests = es }) (append_assoc b.digests ds (leaf s h (leaf_count now) x ∷ [])) ∙ ap (with_digests b) last

@@ -123,3 +123,8 @@ log_outside F (journal.Corruption p) o = absurd cc
 log_outside F journal.SizeOverflow o = absurd cc
 log_outside F journal.EmptyAppend o = absurd cc
 log_outside F (journal.Tree cause) o = absurd cc
+
+-- the error that a call handed on
+pub handed_error : {T E : Type 0} (result : Result T E) (e d : E) → IsErrAnd result (λ x. x ≡ e) → IsErrOf result d → e ≡ d
+handed_error (Ok y) e d is at = absurd is
+handed_error (Err x) e d is at = let same : x ≡ d = cc in sym is ∙ same

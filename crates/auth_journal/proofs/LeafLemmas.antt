@@ -39,6 +39,12 @@ length-leaves_of s h spelling list = length-leaves s h (map spelling list) ∙ l
 pub leaves_push : {D : Type 0} (s : Shape) (h : Hashing D) (n : ℕ) (xs : List (List ℕ)) (x : List ℕ) → leaves_from s h n (xs ++ x ∷ []) ≡ leaves_from s h n xs ++ leaf s h (n + length xs) x ∷ []
 leaves_push s h n xs x = from_join (λ p. leaf s h p.0 p.1) n xs (x ∷ [])
 
+-- the leaves of some elements and of others behind them
+pub digests_more : {D : Type 0} (s : Shape) (h : Hashing D) (xs ys : List (List ℕ)) → leaf_digests s h (xs ++ ys) ≡ leaf_digests s h xs ++ leaves_from s h (length xs) ys
+digests_more {D = D} s h xs ys =
+    from_join (λ p. leaf s h p.0 p.1) 0 xs ys
+    ∙ ap (λ (n : ℕ). leaf_digests s h xs ++ leaves_from s h n ys) (let e : 0 + length xs ≡ length xs = omega arith in e)
+
 -- the leaves of a list and of items behind it
 pub leaves_more : {D Item : Type 0} (s : Shape) (h : Hashing D) (spelling : Item → List ℕ) (list items : List Item)
     → leaves_of s h spelling (list ++ items) ≡ leaves_of s h spelling list ++ leaves_from s h (length list) (map spelling items)

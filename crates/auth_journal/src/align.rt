@@ -21,7 +21,7 @@ use journal_base::Contiguous;
 use merkle_full::Merkle;
 use std::alloc::Global;
 use std::num::NonZeroU64;
-use tree_core::{Family, Feed, Hasher, Standard};
+use tree_core::{Family, Hasher, Standard};
 use volume_base::{JournalError, Volume};
 
 /// The tree with a leaf for each item of the log from its own leaves up to an end. The items are read so many at a
@@ -35,8 +35,6 @@ pub(crate) fn align<F: Family, C: Contiguous, H: Hasher, V: Volume>(
     end: u64,
     apply_batch: NonZeroU64,
 ) -> Result<Merkle<F, H::Digest>, Error<F>>
-where
-    C::Item: Feed,
     requires few { end ≤ 2 ^ 62 }
     ensures beside { IfOk result (λ t. IsBeside merkle t) }
     ensures longer { IfOk result (λ t. IsLonger F.shape (max merkle.tree.leaves end) merkle.tree t.tree) }
@@ -60,7 +58,7 @@ where
     while leaves < end {
         let next = leaves + apply_batch.get().min(end - leaves);
         let items = read_range(alloc, journal, vol, leaves, next)?;
-        merkle = with_leaves(merkle, hasher, &items)?;
+        merkle = with_leaves(alloc, merkle, hasher, &items)?;
         leaves = next;
     }
     Ok(merkle)
@@ -78,8 +76,6 @@ pub(crate) fn catch_up<F: Family, C: Contiguous, H: Hasher, V: Volume>(
     end: u64,
     apply_batch: NonZeroU64,
 ) -> Result<Merkle<F, H::Digest>, Error<F>>
-where
-    C::Item: Feed,
     requires few { end ≤ 2 ^ 62 }
     requires fresh { merkle.log.failed ≡ false }
     ensures aligned { IfOk result (λ t. IsAligned merkle (max merkle.tree.leaves end) t) }

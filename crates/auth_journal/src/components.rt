@@ -5,7 +5,7 @@ use journal_base::Backing;
 use merkle_full::Merkle;
 use std::alloc::Global;
 use std::num::NonZeroU64;
-use tree_core::{Family, Feed, Hasher, Location, MAX_LEAVES, Standard};
+use tree_core::{Family, Hasher, Location, MAX_LEAVES, Standard};
 use volume_base::{JournalError, Volume};
 
 impl<F: Family, C: Backing, H: Hasher> Journal<F, C, H> {
@@ -38,8 +38,6 @@ impl<F: Family, C: Backing, H: Hasher> Journal<F, C, H> {
         hasher: Standard<H>,
         apply_batch: NonZeroU64,
     ) -> Result<Self, Error<F>>
-    where
-        C::Item: Feed,
         requires apart { (C.view journal).name ≢ merkle.log.name }
         ensures kept { ((C.view journal).failed ≡ true) ⊎ (merkle.log.failed ≡ true) →
             (result ≡ Err Error.Volume) × (vol.new ≡ vol.old) }

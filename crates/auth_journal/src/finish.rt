@@ -2,7 +2,7 @@
 use crate::align::catch_up;
 use crate::{Error, Journal, Recovery};
 use journal_base::{Backing, BackingRecovery};
-use tree_core::{Family, Feed, Hasher};
+use tree_core::{Family, Hasher};
 use volume_base::Volume;
 
 impl<F: Family, C: Backing, H: Hasher> Recovery<F, C, H> {
@@ -29,8 +29,6 @@ impl<F: Family, C: Backing, H: Hasher> Recovery<F, C, H> {
     /// `read`. Where the log is cut to another number of items than the tree gets leaves, which no volume that tells its
     /// contents brings about, it refuses with `Corruption` of the tree's leaves, under `Journal`.
     pub fn finish<V: Volume>(self, vol: &mut V) -> Result<Journal<F, C, H>, Error<F>>
-    where
-        C::Item: Feed,
         ensures from { IfOk result (λ t. IsOpenedFrom self t) }
         ensures reached { IfOk result (λ t. V.tells → IsReadyIn self (V.state vol.old) →
             (t.items.end ≡ self.end) × (t.tree.tree.leaves ≡ self.end)) }

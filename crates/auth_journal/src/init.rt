@@ -4,7 +4,7 @@ use journal_base::Backing;
 use merkle_full::Config;
 use std::alloc::Global;
 use std::num::NonZeroU64;
-use tree_core::{Bagging, Family, Feed, Hasher};
+use tree_core::{Bagging, Family, Hasher};
 use volume_base::Volume;
 
 impl<F: Family, C: Backing, H: Hasher> Journal<F, C, H> {
@@ -39,8 +39,6 @@ impl<F: Family, C: Backing, H: Hasher> Journal<F, C, H> {
         bagging: Bagging,
         apply_batch: NonZeroU64,
     ) -> Result<Self, Error<F>>
-    where
-        C::Item: Feed,
         requires callable { P.IsAlwaysCallable predicate }
         requires apart { (C.config journal_cfg).name ≢ string_bytes merkle_cfg.nodes }
         ensures named { IfOk result (λ t. SameButBounds (C.config journal_cfg) t.items × (t.bagging ≡ bagging)
@@ -149,8 +147,6 @@ impl<F: Family, C: Backing, H: Hasher> Journal<F, C, H> {
         bagging: Bagging,
         apply_batch: NonZeroU64,
     ) -> Result<Self, Error<F>>
-    where
-        C::Item: Feed,
         requires callable { P.IsAlwaysCallable predicate }
         requires apart { (C.config journal_cfg).name ≢ string_bytes merkle_cfg.nodes }
         ensures named { IfOk result (λ t. SameButBounds (C.config journal_cfg) t.items × (t.bagging ≡ bagging)
@@ -258,8 +254,6 @@ impl<F: Family, C: Backing, H: Hasher> Journal<F, C, H> {
         bagging: Bagging,
         apply_batch: NonZeroU64,
     ) -> Result<Self, Error<F>>
-    where
-        C::Item: Feed,
         requires callable { P.IsAlwaysCallable predicate }
         requires apart { (C.config journal_cfg).name ≢ string_bytes merkle_cfg.nodes }
         ensures named { IfOk result (λ t. SameButBounds (C.config journal_cfg) t.items × (t.bagging ≡ bagging)

@@ -1,6 +1,6 @@
 use crate::lift::lift;
+use crate::segment::Segment;
 use crate::{Error, MerkleizedBatch, UnmerkleizedBatch};
-use codec_base::ListOf;
 use journal_base::{Backing, Contiguous};
 use merkle_full::Merkle;
 use std::alloc::Global;
@@ -73,7 +73,12 @@ impl<F: Family, C: Backing, H: Hasher> Journal<F, C, H> {
     {
         let nodes = self.merkle.new_batch()?;
         let hasher = Standard::new(self.hasher.root_bagging());
-        Ok(UnmerkleizedBatch::begin(nodes, hasher, Vec::new(self.alloc), Vec::new(self.alloc)))
+        Ok(UnmerkleizedBatch::begin(
+            nodes,
+            hasher,
+            Vec::new(self.alloc),
+            Segment::new(self.alloc),
+        ))
     }
 
     /// An empty sealed batch of this journal.
@@ -92,7 +97,7 @@ impl<F: Family, C: Backing, H: Hasher> Journal<F, C, H> {
         // Its leaves tell that it is sound.
         let _leaves = nodes.leaves();
         let mut items = Vec::new(self.alloc);
-        items.push(Rc::new(self.alloc, ListOf::new(self.alloc))?)?;
+        items.push(Rc::new(self.alloc, Segment::new(self.alloc))?)?;
         Ok(MerkleizedBatch {
             nodes,
             bagging: self.hasher.root_bagging(),

@@ -25,6 +25,7 @@ mod recovery;
 mod removal;
 mod sealed;
 mod search;
+mod segment;
 mod unsealed;
 
 pub use error::Error;

@@ -4,7 +4,7 @@ ghost use Rattle.std.specs.Prelude.{◌↔◌, ◌⊎◌, ◌<◌, IsTrue};
 use crate::Journal;
 use crate::lower::lower;
 use journal_base::{Backing, Contiguous, Mutable, SyncTicket};
-use tree_core::{Family, Feed, Hasher, Location};
+use tree_core::{Family, Hasher, Location};
 use volume_base::{JournalError, Volume};
 
 /// Whether a start or a boundary has moved.
@@ -14,10 +14,7 @@ fn has_moved(start: u64, later: u64, boundary: u64, next: u64) -> bool
     start < later || boundary < next
 }
 
-impl<F: Family, C: Backing, H: Hasher> Mutable for Journal<F, C, H>
-where
-    C::Item: Feed,
-{
+impl<F: Family, C: Backing, H: Hasher> Mutable for Journal<F, C, H> {
     ghost use Rattle.std.specs.Prelude.{◌≡◌, ◌+◌, ◌≤◌, ◌-◌, ◌^◌, ℕ, List, [], ◌∷◌, ◌++◌, map, length, true, false, Err, IfOk, IfErr, OnOk, IsErrOf};
     ghost use Rattle.std.specs.FinMap as finmap;
     ghost use Rattle.codec_base.specs.Causes.{Rose};

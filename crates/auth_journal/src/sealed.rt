@@ -1,7 +1,8 @@
 use crate::items::{count_of, item_of, share_all};
 use crate::lift::lift;
+use crate::segment::Segment;
 use crate::{Error, UnmerkleizedBatch};
-use codec_base::{ListOf, Write};
+use codec_base::Write;
 use std::marker::Model;
 use std::rc::Rc;
 use tree_core::{
@@ -11,13 +12,13 @@ use tree_core::{
 /// A sealed batch of items: its nodes, how their peaks are folded, and a list of items for each segment of the nodes, its own
 /// the last.
 #[derive(Drop)]
-pub struct MerkleizedBatch<F: Family, D: Digest, Item: Drop> {
+pub struct MerkleizedBatch<F: Family, D: Digest, Item: Write + Drop> {
     pub(crate) nodes: tree_core::MerkleizedBatch<F, D>,
     pub(crate) bagging: Bagging,
-    pub(crate) items: Vec<Rc<ListOf<Item>>>,
+    pub(crate) items: Vec<Rc<Segment<Item>>>,
 }
 
-impl<F: Family, D: Digest, Item: Drop> Model for MerkleizedBatch<F, D, Item> {
+impl<F: Family, D: Digest, Item: Write + Drop> Model for MerkleizedBatch<F, D, Item> {
     ghost use Rattle.std.specs.Prelude.{List, map};
     ghost use Rattle.auth_journal.specs.Batched.{SealedItems, AreCounted};
 
@@ -28,7 +29,7 @@ impl<F: Family, D: Digest, Item: Drop> Model for MerkleizedBatch<F, D, Item> {
     ghost invariant = { λ b. AreCounted b.nodes.links (map {B = List Item} (λ l. l.value) b.items.items) };
 }
 
-impl<F: Family, D: Digest, Item: Drop> MerkleizedBatch<F, D, Item> {
+impl<F: Family, D: Digest, Item: Write + Drop> MerkleizedBatch<F, D, Item> {
     ghost use Rattle.std.specs.Prelude.{◌≡◌, ◌+◌, ◌-◌, ◌≤◌, ◌^◌, List, length, reverse, slice_get, Some, IsOk, IfOk, IsOkUnless};
     ghost use Rattle.std.specs.Option.{option_copied};
     ghost use Rattle.tree_shape.specs.Hashing.{Hashing};
@@ -56,7 +57,7 @@ impl<F: Family, D: Digest, Item: Drop> MerkleizedBatch<F, D, Item> {
         ensures within { length result.now ≤ self.now.nodes.leaves }
     {
         let _sound = self.nodes.leaves();
-        self.items[self.items.len() - 1].as_slice()
+        self.items[self.items.len() - 1].items()
     }
 
     /// The item at a position, where the batch has it, or an ancestor whose items are kept.
@@ -123,8 +124,6 @@ impl<F: Family, D: Digest, Item: Drop> MerkleizedBatch<F, D, Item> {
     pub fn new_batch<H: Hasher<Digest = D>>(
         &self,
     ) -> Result<UnmerkleizedBatch<F, H, Item>, Error<F>>
-    where
-        Item: Write,
         ensures child { IfOk result (λ b. AreChildOf self.now b) }
         ensures behind { IfOk result (λ b. StandsBehind F.shape self.now.nodes.links b.nodes.base b.nodes.base_peaks) }
         ensures batch { IfOk result (λ b. (list : List Item) →
@@ -135,11 +134,16 @@ impl<F: Family, D: Digest, Item: Drop> MerkleizedBatch<F, D, Item> {
         let alloc = *self.items.allocator();
         let nodes = self.nodes.new_batch()?;
         let kept = share_all(alloc, &self.items)?;
-        Ok(UnmerkleizedBatch::begin(nodes, Standard::new(self.bagging), kept, Vec::new(alloc)))
+        Ok(UnmerkleizedBatch::begin(
+            nodes,
+            Standard::new(self.bagging),
+            kept,
+            Segment::new(alloc),
+        ))
     }
 }
 
-impl<F: Family, D: Digest, Item: Drop> Readable for MerkleizedBatch<F, D, Item> {
+impl<F: Family, D: Digest, Item: Write + Drop> Readable for MerkleizedBatch<F, D, Item> {
     ghost use Rattle.std.specs.Prelude.{◌≡◌};
     ghost use Rattle.tree_core.specs.Batches.{sealed_node};
 

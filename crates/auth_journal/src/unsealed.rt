@@ -1,19 +1,20 @@
 use crate::items::keep_from;
+use crate::segment::Segment;
 use crate::{Error, MerkleizedBatch};
-use codec_base::{ListOf, Write};
+use codec_base::{Write, encode};
 use std::alloc::Global;
 use std::marker::Model;
 use std::rc::Rc;
-use tree_core::{Family, Feed, Hasher, Location, MAX_LEAVES, Standard};
+use tree_core::{Family, Hasher, Location, MAX_LEAVES, Position, Standard};
 
-/// A batch that still takes items: its nodes, how leaves are hashed and peaks folded, the lists of its kept ancestors,
-/// and its own items.
+/// A batch that still takes items: its nodes, how leaves are hashed and peaks folded, the lists of its kept ancestors, and its own
+/// items.
 #[derive(Drop)]
 pub struct UnmerkleizedBatch<F: Family, H: Hasher, Item: Write + Drop> {
     nodes: tree_core::UnmerkleizedBatch<F, H::Digest>,
     hasher: Standard<H>,
-    kept: Vec<Rc<ListOf<Item>>>,
-    items: Vec<Item>,
+    kept: Vec<Rc<Segment<Item>>>,
+    own: Segment<Item>,
 }
 
 impl<F: Family, H: Hasher, Item: Write + Drop> Model for UnmerkleizedBatch<F, H, Item> {
@@ -26,14 +27,14 @@ impl<F: Family, H: Hasher, Item: Write + Drop> Model for UnmerkleizedBatch<F, H,
       nodes = b.nodes;
       bagging = b.hasher;
       kept = map {B = List Item} (λ l. l.value) b.kept.items;
-      items = b.items.items;
+      items = b.own;
     } };
 
     ghost invariant = { λ b. IsSoundUnsealedItems F.shape H.hash Item.spelling (record {
       nodes = b.nodes;
       bagging = b.hasher;
       kept = map {B = List Item} (λ l. l.value) b.kept.items;
-      items = b.items.items;
+      items = b.own;
     }) };
 }
 
@@ -48,27 +49,27 @@ impl<F: Family, H: Hasher, Item: Write + Drop> UnmerkleizedBatch<F, H, Item> {
     pub(crate) fn begin(
         nodes: tree_core::UnmerkleizedBatch<F, H::Digest>,
         hasher: Standard<H>,
-        kept: Vec<Rc<ListOf<Item>>>,
-        items: Vec<Item>,
+        kept: Vec<Rc<Segment<Item>>>,
+        own: Segment<Item>,
     ) -> Self
         requires { IsSoundUnsealedItems F.shape H.hash Item.spelling (record {
           nodes = nodes;
           bagging = hasher;
           kept = map {B = List Item} (λ l. l.value) kept.items;
-          items = items.items;
+          items = own;
         }) }
         ensures { result ≡ record {
           nodes = nodes;
           bagging = hasher;
           kept = map {B = List Item} (λ l. l.value) kept.items;
-          items = items.items;
+          items = own;
         } }
     {
         UnmerkleizedBatch {
             nodes,
             hasher,
             kept,
-            items,
+            own,
         }
     }
 
@@ -83,29 +84,34 @@ impl<F: Family, H: Hasher, Item: Write + Drop> UnmerkleizedBatch<F, H, Item> {
     pub fn items(&self) -> &[Item]
         ensures { result.now ≡ self.now.items }
     {
-        &self.items
+        self.own.items()
     }
 
-    /// Adds an item, and its leaf, which is hashed in pieces. It refuses with `LocationOverflow` where the batch has
-    /// `MAX_LEAVES` leaves, and else only with `Memory`; the batch is then as before.
+    /// Adds an item, and its leaf. Its encoding is made for the leaf and kept for the log. It refuses with
+    /// `LocationOverflow` where the batch has `MAX_LEAVES` leaves, and else only with `Memory`; the batch is then as
+    /// before.
     pub fn add(&mut self, item: Item) -> Result<(), Error<F>>
-    where
-        Item: Feed,
         ensures ok { OnOk result (self.new ≡ with_item F.shape H.hash Item.spelling self.old item) }
         ensures err { OnErr result (self.new ≡ self.old) }
         ensures full { leaf_count self.old.nodes ≡ 2 ^ 62 → result ≡ Err (Error.Merkle (LocationOverflow (2 ^ 62 + 1))) }
         ensures memory { leaf_count self.old.nodes < 2 ^ 62 → IsOkUnless result Error.Memory }
     {
-        if self.nodes.leaves().as_u64() == MAX_LEAVES {
+        let place = self.nodes.leaves().as_u64();
+        if place == MAX_LEAVES {
             let past = Location::new(MAX_LEAVES + 1);
             return Err(Error::Merkle(tree_core::Error::LocationOverflow(past)));
         }
-        let leaf = self.nodes.next_leaf_digest(&self.hasher, &item);
-        self.items.push(item)?;
+        let encoding = match encode(self.own.allocator(), &item) {
+            Ok(encoding) => encoding,
+            Err(_) => return Err(Error::Memory),
+        };
+        let position = Position::<F>::new(F::position(place, 0));
+        let leaf = self.hasher.leaf_digest(position, encoding.as_slice());
+        self.own.push(item, encoding)?;
         match self.nodes.add_leaf_digest(leaf) {
             Ok(()) => Ok(()),
             Err(_) => {
-                let _ = self.items.pop();
+                self.own.pop();
                 Err(Error::Memory)
             }
         }
@@ -124,11 +130,11 @@ impl<F: Family, H: Hasher, Item: Write + Drop> UnmerkleizedBatch<F, H, Item> {
             nodes,
             hasher,
             mut kept,
-            items,
+            own,
         } = self;
         let place = kept.len() - reached as usize;
         keep_from(&mut kept, place);
-        let own = Rc::new(*items.allocator(), ListOf::from_vec(items))?;
+        let own = Rc::new(own.allocator(), own)?;
         kept.push(own)?;
         match nodes.merkleize(&hasher, reached) {
             Ok(nodes) => {

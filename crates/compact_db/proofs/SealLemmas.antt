@@ -13,6 +13,8 @@ use Rattle.log_model.specs.Good.{EndsWithCommit}
 use Rattle.log_model.specs.Refusals.{commit_refusal}
 use Rattle.log_model.specs.Machine.{max_leaves}
 use Rattle.log_model.specs.declared.refusal.Refusal.{Refusal}
+use Rattle.chain_core.specs.declared.bounds.Bounds.{Bounds}
+use Rattle.compact_db.specs.Batches.{AreLastBytes, IsSoundMerkleized}
 use Rattle.log_model.proofs.OperationLemmas.{leaves_from-append, length-leaves_from, floor_of_append}
 
 -- ---- the tree of a batch
@@ -76,3 +78,21 @@ module _ {Op V : Type 0} (m : Meaning Op V) where
 
   pub floor_last : (xs : List Op) (op : Op) (floor : ℕ) → m.floor op ≡ Some floor → floor_of m (xs ++ (op ∷ [])) ≡ floor
   floor_last xs op floor is = floor_of_append m xs (op ∷ []) (omega arith) ∙ rw is refl
+
+-- ---- the parts of a batch
+
+-- behind what was collected a commit: the batch is sound, with the bytes of its last operation
+pub sound_ended : {F D Op : Type 0} (spelling : Op → List ℕ) (tree : Sealed D) (pending : List Op) (commit : Op) (ops : List Op)
+    (bytes : List ℕ) (bounds : Bounds F D) → ops ≡ pending ++ (commit ∷ []) → tree.leaves ≡ bounds.base.size + length ops
+    → bounds.tip.size ≡ bounds.base.size + length pending + 1 → AreLastBytes spelling ops bytes
+    → IsSoundMerkleized spelling tree ops bytes bounds
+sound_ended spelling tree pending commit ops bytes bounds ended leaves tip last =
+    let all = ap length ended in
+    let count = length-append pending (commit ∷ []) in
+    record {
+      tip = omega (arith, leaves, tip, all, count);
+      own = omega (arith, tip, all, count);
+      snapshot_db = λ none. absurd (omega (arith, none, all, count));
+      snapshot_ancestors = λ none. absurd (omega (arith, none, all, count));
+      bytes = last;
+    }

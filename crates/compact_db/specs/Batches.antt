@@ -1,5 +1,5 @@
 -- Batches of a compact database, as contracts see them, and the lists that they are of.
-use Rattle.std.specs.Prelude.{◌≡◌, ℕ, ◌+◌, ◌^◌, ◌≤◌, List, [], ◌∷◌, ◌++◌, length, map, Option, Some}
+use Rattle.std.specs.Prelude.{◌≡◌, ℕ, ◌+◌, ◌-◌, ◌^◌, ◌≤◌, List, [], ◌∷◌, ◌++◌, length, map, slice_get, Option, Some}
 use Rattle.std.specs.List.{AllByRecursion}
 use Rattle.tree_shape.specs.Hashing.{Hashing}
 use Rattle.tree_shape.specs.Shape.{Shape}
@@ -36,13 +36,19 @@ pub record IsSoundUnmerkleized {D : Type 0} (tree : Unsealed D) (base count : �
   pub base_is : tree.base ≡ base
   pub few : base + count ≤ 2 ^ 62
 
--- The tree ends at the tip, behind the batch's own operations; and a batch without any is one of a database's own
--- state.
-pub record IsSoundMerkleized {F D : Type 0} (tree : Sealed D) (count : ℕ) (bounds : Bounds F D) : Type 0 where
+-- These bytes are the spelling of the last of these operations, where there are any.
+abbrev pub AreLastBytes : {Op : Type 0} → (Op → List ℕ) → List Op → List ℕ → Type 0
+AreLastBytes spelling ops bytes = (op : _) → slice_get ops (length ops - 1) ≡ Some op → bytes ≡ spelling op
+
+-- The tree ends at the tip, behind the batch's own operations; a batch without any is one of a database's own state;
+-- and the bytes are those of the last operation.
+pub record IsSoundMerkleized {F D Op : Type 0} (spelling : Op → List ℕ) (tree : Sealed D) (operations : List Op)
+    (commit_bytes : List ℕ) (bounds : Bounds F D) : Type 0 where
   pub tip : tree.leaves ≡ bounds.tip.size
-  pub own : bounds.tip.size ≡ bounds.base.size + count
-  pub snapshot_db : count ≡ 0 → bounds.db ≡ bounds.tip
-  pub snapshot_ancestors : count ≡ 0 → bounds.ancestors ≡ []
+  pub own : bounds.tip.size ≡ bounds.base.size + length operations
+  pub snapshot_db : length operations ≡ 0 → bounds.db ≡ bounds.tip
+  pub snapshot_ancestors : length operations ≡ 0 → bounds.ancestors ≡ []
+  pub bytes : AreLastBytes spelling operations commit_bytes
 
 abbrev pub bounds_of : {F D Op : Type 0} → MerkleizedView F D Op → Bounds F D
 bounds_of b = b.bounds

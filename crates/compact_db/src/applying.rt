@@ -12,7 +12,7 @@ ghost use Rattle.compact_db.specs.Verified.{root_under};
 use crate::verified::witness_under;
 use crate::{CompactOperation, VerifiedWitness};
 use chain_core::Error;
-use codec_base::encode;
+use codec_base::Bytes;
 use merkle_compact::Merkle;
 use std::alloc::Global;
 use tree_core::{Family, Hasher, Location, MerkleizedBatch};
@@ -28,16 +28,19 @@ fn as_stale<F>(error: tree_core::Error<F>) -> Error<F>
     }
 }
 
-/// The tree with what a batch has behind it, which this commit ends, and what is derived of it under the batch's root,
-/// which isn't hashed again. It refuses with `StaleBatch` where the tree takes the batch at no mark, and with `Memory`.
+/// The tree with what a batch has behind it, which this commit of these bytes ends, and what is derived of it under the
+/// batch's root, which isn't hashed again. It refuses with `StaleBatch` where the tree takes the batch at no mark, and
+/// with `Memory`.
 pub(crate) fn applied<F: Family, O: CompactOperation, H: Hasher>(
     alloc: Global,
     mut merkle: Merkle<F, H::Digest>,
     batch: &MerkleizedBatch<F, H::Digest>,
     root: H::Digest,
     commit: &O,
+    op_bytes: Bytes,
 ) -> Result<(VerifiedWitness<F, H::Digest>, Merkle<F, H::Digest>), Error<F>>
     requires longer { merkle.leaves < batch.now.leaves }
+    requires bytes { op_bytes ≡ O.spelling commit.now }
     ensures leaves { IfOk result (λ r. r.1.leaves ≡ batch.now.leaves) }
     ensures size { IfOk result (λ r. r.0.witness.size ≡ batch.now.leaves) }
     ensures root { IfOk result (λ r. r.0.root ≡ root) }
@@ -54,9 +57,6 @@ pub(crate) fn applied<F: Family, O: CompactOperation, H: Hasher>(
         (i : ℕ) → Fits F.shape H.hash all merkle.leaves batch.now i → ⊥ }
     ensures errors { IfErr result (λ e. (e ≡ Error.StaleBatch) ⊎ (e ≡ Error.Memory)) }
 {
-    let Ok(op_bytes) = encode(alloc, commit) else {
-        return Err(Error::Memory);
-    };
     // Its length tells that it is one of 64 bits.
     let _short = op_bytes.len();
     // Its leaves tell that the tree is sound.

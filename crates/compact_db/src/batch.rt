@@ -1,7 +1,7 @@
 //! Batches of a compact database.
 use crate::CompactOperation;
 use chain_core::{BatchId, Bounds, Chained, Commitment, Error, Pool};
-use codec_base::ListOf;
+use codec_base::{Bytes, ListOf};
 use std::marker::Model;
 use tree_core::{Digest, Family, Hasher, Location};
 
@@ -31,18 +31,19 @@ impl<F: Family, O: CompactOperation, H: Hasher> Model for UnmerkleizedBatch<F, O
 pub struct MerkleizedBatch<F: Family, O: CompactOperation, D: Digest> {
     pub(crate) tree: tree_core::MerkleizedBatch<F, D>,
     pub(crate) operations: ListOf<O>,
+    /// The encoding of its commit, which is its last operation; empty where it has none, as of a database's own state.
+    pub(crate) commit_bytes: Bytes,
     pub(crate) bounds: Bounds<F, D>,
 }
 
 impl<F: Family, O: CompactOperation, D: Digest> Model for MerkleizedBatch<F, O, D> {
-    ghost use Rattle.std.specs.Prelude.{length};
     ghost use Rattle.compact_db.specs.Batches.{MerkleizedView, IsSoundMerkleized};
 
     ghost Value = { MerkleizedView F D O };
 
     ghost view = { λ b. record { tree = b.tree; operations = b.operations; bounds = b.bounds } };
 
-    ghost invariant = { λ b. IsSoundMerkleized b.tree (length b.operations) b.bounds };
+    ghost invariant = { λ b. IsSoundMerkleized O.spelling b.tree b.operations b.commit_bytes b.bounds };
 }
 
 impl<F: Family, O: CompactOperation, D: Digest> Chained<F, D> for MerkleizedBatch<F, O, D> {

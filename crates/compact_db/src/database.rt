@@ -1,7 +1,7 @@
 //! The compact database.
 use crate::{CompactOperation, MerkleizedBatch, UnmerkleizedBatch, VerifiedWitness};
 use chain_core::{BatchId, Bounds, Commitment, Error, Pool};
-use codec_base::ListOf;
+use codec_base::{Bytes, ListOf};
 use journal_base::JournalConfig;
 use merkle_compact::Merkle;
 use op_codec::CompactTarget;
@@ -148,6 +148,7 @@ impl<F: Family, O: CompactOperation, H: Hasher> CompactDb<F, O, H> {
         let batch = MerkleizedBatch {
             tree,
             operations: ListOf::new(self.alloc),
+            commit_bytes: Bytes::new(self.alloc),
             bounds,
         };
         match pool.insert(batch, None) {

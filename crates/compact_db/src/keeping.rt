@@ -25,20 +25,23 @@ use crate::applying::applied;
 use crate::durable::{extended, opened};
 use crate::{CompactDb, CompactOperation, MerkleizedBatch, WitnessLog};
 use chain_core::{BatchId, Error, Pool};
+use codec_base::{Bytes, Duplicate};
 use tree_core::{Family, Hasher};
 use volume_base::Volume;
 
 impl<F: Family, O: CompactOperation, H: Hasher> CompactDb<F, O, H> {
-    /// The database with what a batch has behind it, which this commit ends, under the batch's root, and one more
-    /// witness.
+    /// The database with what a batch has behind it, which this commit of these bytes ends, under the batch's root, and
+    /// one more witness.
     pub(crate) fn grown<V: Volume>(
         self,
         vol: &mut V,
         batch: &tree_core::MerkleizedBatch<F, H::Digest>,
         root: H::Digest,
         commit: O,
+        op_bytes: Bytes,
     ) -> Result<Self, Error<F>>
         requires longer { self.tree.leaves < batch.now.leaves }
+        requires bytes { op_bytes ≡ O.spelling commit }
         ensures state { IfOk result (λ made. commitment_in made ≡ record { size = batch.now.leaves; root = root }) }
         ensures commit { IfOk result (λ made. made.commit ≡ commit) }
         ensures bytes { IfOk result (λ made. made.tip.witness.op_bytes ≡ O.spelling made.commit) }
@@ -114,7 +117,7 @@ impl<F: Family, O: CompactOperation, H: Hasher> CompactDb<F, O, H> {
             last_commit: _,
             codec,
         } = self;
-        let (tip, merkle) = applied::<F, O, H>(alloc, merkle, batch, root, &commit)?;
+        let (tip, merkle) = applied::<F, O, H>(alloc, merkle, batch, root, &commit, op_bytes)?;
         let store = extended(log, vol, &tip.witness)?;
         Ok(CompactDb {
             alloc,
@@ -309,6 +312,9 @@ impl<F: Family, O: CompactOperation, H: Hasher> CompactDb<F, O, H> {
         let Ok(commit) = commit.duplicate() else {
             return Err(Error::Memory);
         };
-        self.grown(vol, &batch.tree, batch.bounds.tip.root, commit)
+        let Ok(op_bytes) = batch.commit_bytes.duplicate() else {
+            return Err(Error::Memory);
+        };
+        self.grown(vol, &batch.tree, batch.bounds.tip.root, commit, op_bytes)
     }
 }

@@ -15,6 +15,11 @@ pub spells_appended : {A : Type 0} (spelling : A → List ℕ) (list items : Lis
 spells_appended spelling list items log run =
     subst (λ (l : List (List ℕ)). IsRunOf l (appended log (map spelling items))) (sym (map-append spelling list items)) (run_appended (map spelling list) (map spelling items) log run)
 
+-- the same where the encodings of the items are at hand
+pub spells_encoded : {A : Type 0} (spelling : A → List ℕ) (list items : List A) (texts : List (List ℕ)) (log : Log) → map spelling items ≡ texts → Spells spelling list log → Spells spelling (list ++ items) (appended log texts)
+spells_encoded spelling list items texts log same run =
+    subst (λ (ts : List (List ℕ)). Spells spelling (list ++ items) (appended log ts)) same (spells_appended spelling list items log run)
+
 pub spells_pruned : {A : Type 0} (spelling : A → List ℕ) (list : List A) (log : Log) (to : ℕ) → to ≤ length list → Spells spelling list log → Spells spelling list (pruned_to log to)
 spells_pruned spelling list log to le run = record {
   items = ap (drop (to - log.start)) run.items ∙ drop-drop (to - log.start) log.start (map spelling list) ∙ ap (λ (n : ℕ). drop n (map spelling list)) (omega arith);

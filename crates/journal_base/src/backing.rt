@@ -1,16 +1,16 @@
-ghost use Rattle.std.specs.Prelude.{◌≡◌, ◌⊎◌, ◌+◌, ◌-◌, ◌<◌, ◌≤◌, ◌^◌, ℕ, List, Some, false, min, take, IfOk, IfErr, OnOk, IsErrOf};
+ghost use Rattle.std.specs.Prelude.{◌≡◌, ◌⊎◌, ◌+◌, ◌-◌, ◌<◌, ◌≤◌, ◌^◌, ◌++◌, ℕ, List, Some, false, length, map, min, take, IsOk, IfOk, IfErr, OnOk, IsErrOf};
 ghost use Rattle.std.specs.Fn.{FnReturnsAt};
-ghost use Rattle.journal_base.specs.Answers.{IsOfVolume, IsOfStart, IsOfRead, IsRefusedAt, RefusesUnwritten};
+ghost use Rattle.journal_base.specs.Answers.{IsOfVolume, IsOfSize, IsOfStart, IsOfRead, IsRefusedAt, RefusesUnwritten};
 ghost use Rattle.journal_base.specs.Clears.{Clears};
 ghost use Rattle.journal_base.specs.Items.{items_of, Holds, IsCorrupt, GivesListed, Spells};
 ghost use Rattle.journal_base.specs.Matches.{IsLastMatch, NoneMatches};
 ghost use Rattle.journal_base.specs.View.{View, log_of, at_bounds, capped, SameButBounds, IsDurable, IsHeld, IsWithin};
-ghost use Rattle.volume_base.specs.Log.{end_of, cut_to, Shrinks};
-ghost use Rattle.volume_base.specs.Volume.{WritesLog, Reads};
-ghost use Rattle.volume_base.specs.declared.error.JournalError.TheVariants.{ItemPruned, ItemOutOfRange, Corruption, Volume};
+ghost use Rattle.volume_base.specs.Log.{end_of, cut_to, appended, Grows, Shrinks};
+ghost use Rattle.volume_base.specs.Volume.{LogCall, Writes, WritesLog, Reads};
+ghost use Rattle.volume_base.specs.declared.error.JournalError.TheVariants.{ItemPruned, ItemOutOfRange, SizeOverflow, Corruption, Volume};
 
 use crate::Mutable;
-use codec_base::{Duplicate, EncodeSize, Read, Write};
+use codec_base::{Bytes, Duplicate, EncodeSize, Read, Write};
 use volume_base::{JournalError, Volume};
 
 /// A log that is being opened, seen up to an end.
@@ -182,6 +182,40 @@ pub trait Backing: Mutable {
         ensures errors { IfErr result IsOfVolume }
         ensures answers { Reads V.tells Volume (V.state vol.old) (V.state vol.new) result }
         ensures reads { (V.state vol.new).reads ≡ (V.state vol.old).reads };
+
+    /// Puts items of which these are the encodings behind the end, by one append, and answers where the first of them
+    /// stands; of none nothing is written. It refuses with `SizeOverflow` where the end would pass 2^64 - 1.
+    fn append_encoded<V: Volume>(
+        self,
+        vol: &mut V,
+        encodings: &[Bytes],
+    ) -> Result<(Self, u64), JournalError>
+        ensures none { length encodings.now ≡ 0 →
+            IsOk result × IfOk result (λ made. made.0 ≡ self) × (vol.new ≡ vol.old) }
+        ensures overflow { let end = end_of (log_of (Self.view self) (V.state vol.old)) in
+            V.tells → IsErrOf result SizeOverflow → (end ≤ 2 ^ 64 - 1) × (2 ^ 64 - 1 < end + length encodings.now) }
+        ensures fits { let end = end_of (log_of (Self.view self) (V.state vol.old)) in
+            OnOk result (V.tells → 0 < length encodings.now → end + length encodings.now ≤ 2 ^ 64 - 1) }
+        ensures position { let end = end_of (log_of (Self.view self) (V.state vol.old)) in
+            IfOk result (λ made. V.tells → 0 < length encodings.now → made.1 ≡ end) }
+        // Whatever the volume tells, the last of them has a position.
+        ensures room { IfOk result (λ made. 0 < length encodings.now →
+            made.1 + length encodings.now ≤ 2 ^ 64 - 1) }
+        ensures made { IfOk result (λ made. SameButBounds (Self.view self) (Self.view made.0)) }
+        ensures held { IfOk result (λ made. V.tells →
+            (0 < length encodings.now) ⊎ IsHeld (Self.view self) (V.state vol.old) →
+            IsHeld (Self.view made.0) (V.state vol.new)) }
+        ensures appended { let log = log_of (Self.view self) (V.state vol.old) in
+            OnOk result (V.tells → log_of (Self.view self) (V.state vol.new) ≡ appended log encodings.now) }
+        ensures listed { OnOk result (V.tells → (list items : List Self.Item) →
+            map Self.Item.spelling items ≡ encodings.now →
+            Spells Self.Item.spelling list (log_of (Self.view self) (V.state vol.old)) →
+            Spells Self.Item.spelling (list ++ items) (log_of (Self.view self) (V.state vol.new))) }
+        ensures log { let step = Grows (log_of (Self.view self) (V.state vol.old)) encodings.now in
+            V.tells → LogCall (Self.view self).name step (V.state vol.old) (V.state vol.new) }
+        ensures refused { RefusesUnwritten (V.state vol.old) (V.state vol.new) result }
+        ensures errors { IfErr result IsOfSize }
+        ensures writes { Writes V.tells Volume (V.state vol.old) (V.state vol.new) result };
 
     /// It is one log alone.
     ghost is_one_log: { Self.one_log };

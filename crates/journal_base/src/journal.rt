@@ -1,13 +1,12 @@
-ghost use Rattle.std.specs.Prelude.{◌≡◌, ◌≤◌, map, false, IfOk, IsOkUnless};
+ghost use Rattle.std.specs.Prelude.{◌≡◌, ◌≤◌, map, false, IfOk};
 ghost use Rattle.std.specs.NonZero.{non_zero_u64_get};
 ghost use Rattle.journal_base.specs.Blobs.{blob_start};
 ghost use Rattle.journal_base.specs.Clears.{Clears};
 ghost use Rattle.journal_base.specs.View.{view_of, config_of, at_bounds};
 
+use crate::encodings::{encode_all, encode_one};
 use crate::{Contiguous, Mutable, SyncTicket};
-use codec_base::{
-    Bytes, CodecError, Duplicate, EncodeSize, FixedSize, Read, Write, decode, encode,
-};
+use codec_base::{Bytes, CodecError, Duplicate, EncodeSize, FixedSize, Read, Write, decode};
 use std::alloc::Global;
 use std::marker::PhantomData;
 use std::num::NonZeroU64;
@@ -80,29 +79,6 @@ pub type FixedJournal<T> = Journal<T, Fixed>;
 /// A journal of items of any size.
 pub type VariableJournal<T> = Journal<T, Variable>;
 
-/// The spellings of items, in their order.
-fn encode_all<T: Write>(alloc: Global, items: &[T]) -> Result<Vec<Bytes>, JournalError>
-    ensures same { IfOk result (λ texts. texts.items ≡ map T.spelling items.now) }
-    ensures memory { IsOkUnless result JournalError.Memory }
-{
-    let mut texts = Vec::with_capacity(alloc, items.len())?;
-    for item in items {
-        texts.push(encode_one(alloc, item)?)?;
-    }
-    Ok(texts)
-}
-
-/// The spelling of an item.
-fn encode_one<T: Write>(alloc: Global, item: &T) -> Result<Bytes, JournalError>
-    ensures same { IfOk result (λ text. text ≡ T.spelling item.now) }
-    ensures memory { IsOkUnless result JournalError.Memory }
-{
-    match encode(alloc, item) {
-        Ok(text) => Ok(text),
-        Err(_) => Err(JournalError::Memory),
-    }
-}
-
 /// Where the blob of a position begins.
 pub(crate) fn start_of_blob(items_per_blob: NonZeroU64, position: u64) -> u64
     ensures start { result ≡ blob_start (non_zero_u64_get items_per_blob) position }
@@ -149,18 +125,7 @@ impl<T: Write + EncodeSize + Read + Duplicate + Drop, K: Kind<T>> Mutable for Jo
 
     fn append<V: Volume>(self, vol: &mut V, item: &T) -> Result<(Self, u64), JournalError> {
         let text = encode_one(*self.name.allocator(), item)?;
-        let name = self.name.as_str();
-        let (start, end) = vol.log_bounds(name)?;
-        if end == u64::MAX {
-            return Err(JournalError::SizeOverflow);
-        }
-        vol.log_append(name, &[text])?;
-        let journal = Journal {
-            start,
-            end: end + 1,
-            ..self
-        };
-        Ok((journal, end))
+        self.put(vol, &[text])
     }
 
     fn append_many<V: Volume>(self, vol: &mut V, items: &[T]) -> Result<(Self, u64), JournalError> {
@@ -168,19 +133,8 @@ impl<T: Write + EncodeSize + Read + Duplicate + Drop, K: Kind<T>> Mutable for Jo
             return Err(JournalError::EmptyAppend);
         }
         let texts = encode_all(*self.name.allocator(), items)?;
-        let name = self.name.as_str();
-        let (start, end) = vol.log_bounds(name)?;
-        let count = texts.len() as u64;
-        if u64::MAX - end < count {
-            return Err(JournalError::SizeOverflow);
-        }
-        vol.log_append(name, &texts)?;
-        let journal = Journal {
-            start,
-            end: end + count,
-            ..self
-        };
-        Ok((journal, end + (count - 1)))
+        let (journal, first) = self.put(vol, &texts)?;
+        Ok((journal, first + (texts.len() as u64 - 1)))
     }
 
     fn commit<V: Volume>(self, vol: &mut V) -> Result<Self, JournalError> {
@@ -240,6 +194,57 @@ impl<T: Write + EncodeSize + Read + Duplicate + Drop, K: Kind<T>> Mutable for Jo
 }
 
 impl<T: Write + EncodeSize + Read + Duplicate + Drop, K: Kind<T>> Journal<T, K> {
+    ghost use Rattle.std.specs.Prelude.{◌+◌, ◌-◌, ◌<◌, ◌^◌, ◌++◌, List, length, OnOk, IfErr, IsErrOf};
+    ghost use Rattle.journal_base.specs.Answers.{IsOfSize, RefusesUnwritten};
+    ghost use Rattle.journal_base.specs.Items.{Spells};
+    ghost use Rattle.journal_base.specs.View.{log_of, SameButBounds, IsHeld};
+    ghost use Rattle.volume_base.specs.Log.{end_of, appended, Grows};
+    ghost use Rattle.volume_base.specs.Volume.{LogCall, Writes};
+    ghost use Rattle.volume_base.specs.declared.error.JournalError.TheVariants.{SizeOverflow, Volume};
+
+    /// Puts these byte lists, of which there are some, behind the end, by one append, and answers where the first of
+    /// them stands. It refuses with `SizeOverflow` where the end would pass 2^64 - 1.
+    pub(crate) fn put<V: Volume>(
+        self,
+        vol: &mut V,
+        texts: &[Bytes],
+    ) -> Result<(Self, u64), JournalError>
+        requires some { 0 < length texts.now }
+        ensures overflow { let end = end_of (log_of (view_of self) (V.state vol.old)) in
+            V.tells → IsErrOf result SizeOverflow → (end ≤ 2 ^ 64 - 1) × (2 ^ 64 - 1 < end + length texts.now) }
+        ensures fits { let end = end_of (log_of (view_of self) (V.state vol.old)) in
+            OnOk result (V.tells → end + length texts.now ≤ 2 ^ 64 - 1) }
+        ensures position { let end = end_of (log_of (view_of self) (V.state vol.old)) in
+            IfOk result (λ made. V.tells → made.1 ≡ end) }
+        ensures room { IfOk result (λ made. made.1 + length texts.now ≤ 2 ^ 64 - 1) }
+        ensures made { IfOk result (λ made. SameButBounds (view_of self) (view_of made.0)) }
+        ensures held { IfOk result (λ made. V.tells → IsHeld (view_of made.0) (V.state vol.new)) }
+        ensures appended { let log = log_of (view_of self) (V.state vol.old) in
+            OnOk result (V.tells → log_of (view_of self) (V.state vol.new) ≡ appended log texts.now) }
+        ensures listed { OnOk result (V.tells → (list items : List T) → map T.spelling items ≡ texts.now →
+            Spells T.spelling list (log_of (view_of self) (V.state vol.old)) →
+            Spells T.spelling (list ++ items) (log_of (view_of self) (V.state vol.new))) }
+        ensures log { let step = Grows (log_of (view_of self) (V.state vol.old)) texts.now in
+            V.tells → LogCall (view_of self).name step (V.state vol.old) (V.state vol.new) }
+        ensures refused { RefusesUnwritten (V.state vol.old) (V.state vol.new) result }
+        ensures errors { IfErr result IsOfSize }
+        ensures writes { Writes V.tells Volume (V.state vol.old) (V.state vol.new) result }
+    {
+        let name = self.name.as_str();
+        let (start, end) = vol.log_bounds(name)?;
+        let count = texts.len() as u64;
+        if u64::MAX - end < count {
+            return Err(JournalError::SizeOverflow);
+        }
+        vol.log_append(name, texts)?;
+        let journal = Journal {
+            start,
+            end: end + count,
+            ..self
+        };
+        Ok((journal, end))
+    }
+
     /// The journal of a configuration over an empty log at a position. It refuses 2^64 - 1 with `SizeOverflow`.
     pub fn cleared<V: Volume>(
         vol: &mut V,

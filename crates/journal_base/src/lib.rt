@@ -4,6 +4,7 @@
 mod append;
 mod backing;
 mod contiguous;
+mod encodings;
 mod journal;
 mod laws;
 mod matching;
@@ -15,6 +16,7 @@ mod ticket;
 pub use append::append_all;
 pub use backing::{Backing, BackingRecovery};
 pub use contiguous::Contiguous;
+pub use encodings::encode_all;
 pub use journal::{Fixed, FixedJournal, Journal, JournalConfig, Kind, Variable, VariableJournal};
 pub use laws::{backing_laws, run_laws};
 pub use mutable::Mutable;

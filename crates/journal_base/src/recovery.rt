@@ -9,7 +9,7 @@ ghost use Rattle.volume_base.specs.declared.error.JournalError.TheVariants.{Item
 use crate::journal::start_of_blob;
 use crate::matching::match_below;
 use crate::{Backing, BackingRecovery, Contiguous, Journal, JournalConfig, Kind, Variable};
-use codec_base::{Duplicate, EncodeSize, Read, Write};
+use codec_base::{Bytes, Duplicate, EncodeSize, Read, Write};
 use volume_base::{JournalError, Volume};
 
 /// A journal that is being opened. It ends where the view ends.
@@ -260,5 +260,17 @@ impl<T: Write + EncodeSize + Read + Duplicate + Drop, K: Kind<T>> Backing for Jo
     ) -> Result<(u64, u64), JournalError> {
         let bounds = vol.log_bounds(cfg.name.as_str())?;
         Ok(bounds)
+    }
+
+    fn append_encoded<V: Volume>(
+        self,
+        vol: &mut V,
+        encodings: &[Bytes],
+    ) -> Result<(Self, u64), JournalError> {
+        if encodings.is_empty() {
+            let end = self.end;
+            return Ok((self, end));
+        }
+        self.put(vol, encodings)
     }
 }

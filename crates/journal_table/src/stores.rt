@@ -9,12 +9,12 @@ use memory_volume::MemoryVolume;
 use merkle_full::{Config, Merkle};
 use std::alloc::Global;
 use std::num::NonZeroU64;
-use tree_core::{Bagging, Family, Feed, Location, Mem, Sha256Digest, Sha256Hasher, Standard};
+use tree_core::{Bagging, Family, Location, Mem, Sha256Digest, Sha256Hasher, Standard};
 
 pub(crate) type Opened<F, C> = Result<Journal<F, C, Sha256Hasher>, Error<F>>;
 
 /// A log of items, of which every third matches unless it is said which do.
-pub(crate) trait Store: Backing<Item: Feed> {
+pub(crate) trait Store: Backing {
     /// Two items a blob.
     fn settings(alloc: Global) -> Result<Self::Config, TableError>
         ensures { IfOk result (λ cfg. (Self.config cfg).name ≡ codes "items") };

@@ -4,6 +4,7 @@ ghost use Rattle.log_model.specs.Operations.{root_of};
 
 use crate::KeylessOperation;
 use chain_core::Error;
+use codec_base::encode;
 use std::alloc::Global;
 use tree_core::{Bagging, Family, Hasher, Location, Mem, Standard};
 
@@ -15,14 +16,16 @@ pub fn initial_root<F: Family, O: KeylessOperation, H: Hasher>(
     ensures memory { IsOkUnless result Error.Memory }
 {
     let hasher = Standard::<H>::new(Bagging::ForwardFold);
+    let Ok(text) = encode(alloc, &O::commit(None, 0)) else {
+        return Err(Error::Memory);
+    };
     let Ok(tree) = Mem::<F, H::Digest>::new(alloc) else {
         return Err(Error::Memory);
     };
     let Ok(mut batch) = tree.new_batch() else {
         return Err(Error::Memory);
     };
-    let leaf = batch.next_leaf_digest(&hasher, &O::commit(None, 0));
-    let Ok(()) = batch.add_leaf_digest(leaf) else {
+    let Ok(()) = batch.add(&hasher, text.as_slice()) else {
         return Err(Error::Memory);
     };
     let Ok(sealed) = batch.merkleize(&hasher, 0) else {

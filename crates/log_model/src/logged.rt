@@ -2,10 +2,9 @@ ghost use Rattle.std.specs.Prelude.{◌≡◌, ℕ, List};
 ghost use Rattle.log_model.specs.Meaning.{Meaning};
 
 use codec_base::Write;
-use tree_shape::Feed;
 
 /// An operation that a log can hold: what it means there. That two operations are one is no part of it.
-pub trait Logged: Write + Feed {
+pub trait Logged: Write {
     type Value;
 
     /// Its bytes, its floor where it is a commit, and its value.

@@ -1,15 +1,14 @@
 //! A commit's metadata and floor, in both encodings.
-ghost use Rattle.std.specs.Prelude.{◌≡◌, ℕ, List, ◌+◌, ◌-◌, ◌<◌, ◌^◌, ◌++◌, length, OnOk, OnErr, IsOkUnless};
+ghost use Rattle.std.specs.Prelude.{◌≡◌, ◌+◌, ◌-◌, ◌<◌, ◌^◌, ◌++◌, length, OnOk, OnErr, IsOkUnless};
 ghost use Rattle.codec_base.specs.Codec.{Takes, held};
 ghost use Rattle.op_codec.specs.Commits.{variable_commit, variable_commit_at, floor_at, filled, filled_at, fixed_commit, fixed_commit_at, wide_floor_at};
 
-use crate::KnownSize;
 use codec_base::{
     Bytes, CodecError, Cursor, EncodeSize, FixedSize, InvalidAt, Read, Write, read_varint,
     read_zeros, undo_on_err, varint_size, write_varint, write_zeros,
 };
 use std::alloc::Global;
-use tree_shape::{Feed, Hasher, Location, feed_varint, feed_zeros, update_number};
+use tree_shape::Location;
 
 /// Adds the metadata, and the floor as a varint.
 pub fn write_commit_variable<F, V: Write>(
@@ -24,19 +23,6 @@ pub fn write_commit_variable<F, V: Write>(
     let length = out.len();
     metadata.write(out)?;
     undo_on_err(write_varint(floor.as_u64(), out), length, out)
-}
-
-/// Adds the metadata, and the floor as a varint, to a hasher's message. It takes no memory.
-pub fn feed_commit_variable<F, V: Feed, H: Hasher>(
-    metadata: &Option<V>,
-    floor: &Location<F>,
-    hasher: &mut H,
-)
-    ensures { (m : List ℕ) → H.holds hasher.old m →
-        H.holds hasher.new (m ++ variable_commit V.spelling (metadata.now, floor.now)) }
-{
-    metadata.feed(hasher);
-    feed_varint(floor.as_u64(), hasher);
 }
 
 /// The length of the metadata and of the floor as a varint.
@@ -106,37 +92,6 @@ fn write_filled<V: Write + FixedSize>(
         Some(value) => {
             out.push(1)?;
             undo_on_err(value.write(out), length, out)
-        }
-    }
-}
-
-/// Adds the metadata or zeros in its place, and the floor in eight bytes, to a hasher's message. It takes no memory.
-#[tactic(auto, unfolding(tree_shape::specs::Hashing::number))]
-pub fn feed_commit_fixed<F, V: Feed + KnownSize, H: Hasher>(
-    metadata: &Option<V>,
-    floor: &Location<F>,
-    hasher: &mut H,
-)
-    ensures { (m : List ℕ) → H.holds hasher.old m →
-        H.holds hasher.new (m ++ fixed_commit V.width V.spelling (metadata.now, floor.now)) }
-{
-    feed_filled(metadata, hasher);
-    update_number(hasher, floor.as_u64());
-}
-
-/// Adds a value, or zeros in its place, to a hasher's message.
-fn feed_filled<V: Feed + KnownSize, H: Hasher>(metadata: &Option<V>, hasher: &mut H)
-    ensures { (m : List ℕ) → H.holds hasher.old m →
-        H.holds hasher.new (m ++ filled V.width V.spelling metadata.now) }
-{
-    match metadata {
-        None => {
-            hasher.update(&[0]);
-            feed_zeros(V::size(), hasher);
-        }
-        Some(value) => {
-            hasher.update(&[1]);
-            value.feed(hasher);
         }
     }
 }

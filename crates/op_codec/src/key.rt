@@ -3,10 +3,9 @@ ghost use Rattle.std.proofs.Common.{inl, inr, refl};
 ghost use Rattle.codec_base.specs.Parts.{byte_list};
 
 use codec_base::{Bytes, Duplicate, EncodeSize, Read, U64, Write};
-use tree_shape::Feed;
 
 /// What can be a key.
-pub trait Key: Ord + Write + Feed + EncodeSize + Read + Duplicate + Drop {
+pub trait Key: Ord + Write + EncodeSize + Read + Duplicate + Drop {
     /// The raw bytes.
     ghost raw: { Self → List ℕ };
 

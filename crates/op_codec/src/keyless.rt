@@ -13,7 +13,7 @@ use crate::{Committable, Floored, ValueEncoding};
 use codec_base::{Bytes, CodecError, Cursor, Duplicate, EncodeSize, Read, Spelled, Write};
 pub use laws::{equality_laws, fixed_laws, hash_laws, order_laws, variable_laws};
 use std::alloc::Global;
-use tree_shape::{Family, Feed, Hasher, Location};
+use tree_shape::{Family, Location};
 
 /// The tag of a commit.
 pub const COMMIT_CONTEXT: u8 = 0;
@@ -53,10 +53,6 @@ pub trait Codec: ValueEncoding + Sized {
         ensures ok { OnOk result (out.new ≡ out.old ++ spelling (parts op.now)) }
         ensures err { OnErr result (out.new ≡ out.old) }
         ensures memory { IsOkUnless result CodecError.Memory };
-
-    /// Adds the spelling to a hasher's message, piece by piece. It takes no memory.
-    fn feed_operation<F: Family, H: Hasher>(op: &Operation<F, Self>, hasher: &mut H)
-        ensures { (m : List ℕ) → H.holds hasher.old m → H.holds hasher.new (m ++ spelling (parts op.now)) };
 
     /// The length of the spelling, held at 2^64 - 1.
     fn operation_size<F: Family>(op: &Operation<F, Self>) -> u64
@@ -135,12 +131,6 @@ impl<F: Family, V: Codec> Spelled for Operation<F, V> {
 impl<F: Family, V: Codec> Write for Operation<F, V> {
     fn write(&self, out: &mut Bytes) -> Result<(), CodecError> {
         V::write_operation(self, out)
-    }
-}
-
-impl<F: Family, V: Codec> Feed for Operation<F, V> {
-    fn feed<H: Hasher>(&self, hasher: &mut H) {
-        V::feed_operation(self, hasher);
     }
 }
 

@@ -10,7 +10,7 @@ mod same;
 mod text;
 mod traits;
 
-pub use encoding::{FixedEncoding, KnownSize, ValueEncoding, VariableEncoding};
+pub use encoding::{FixedEncoding, ValueEncoding, VariableEncoding};
 pub use key::Key;
 pub use same::Same;
 pub use target_codec::{

@@ -19,9 +19,9 @@ pub use mem::Mem;
 pub use sealed::MerkleizedBatch;
 pub use tree_proof::{Proof, verify};
 pub use tree_shape::{
-    Bagging, Digest, Family, Feed, Hasher, Location, MAX_LEAVES, Mmb, Mmr, Pins, Position,
-    Sha256Digest, Sha256Hasher, Standard, inactive_law, needed_nodes, slow_node, slow_peaks,
-    slow_root, table_laws,
+    Bagging, Digest, Family, Hasher, Location, MAX_LEAVES, Mmb, Mmr, Pins, Position, Sha256Digest,
+    Sha256Hasher, Standard, inactive_law, needed_nodes, slow_node, slow_peaks, slow_root,
+    table_laws,
 };
 pub use tree_store::{Error, Readable, Storage, TreeData};
 pub use unsealed::UnmerkleizedBatch;

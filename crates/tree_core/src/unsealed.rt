@@ -5,7 +5,7 @@ use crate::{Error, MerkleizedBatch};
 use std::alloc::Global;
 use std::marker::Model;
 use std::rc::Rc;
-use tree_shape::{Digest, Family, Feed, Hasher, Location, MAX_LEAVES, Position, Standard};
+use tree_shape::{Digest, Family, Hasher, Location, MAX_LEAVES, Position, Standard};
 
 /// A batch that still takes leaves: where its chain began, the ancestors that are kept, the mark that it stands on.
 #[derive(Drop)]
@@ -182,27 +182,8 @@ impl<F: Family, D: Digest> UnmerkleizedBatch<F, D> {
         ensures full { leaf_count self.old ≡ 2 ^ 62 → result ≡ Err (Error.LocationOverflow (2 ^ 62 + 1)) }
         ensures memory { leaf_count self.old < 2 ^ 62 → IsOkUnless result Error.Memory }
     {
-        let place = self.next_place();
-        self.add_leaf_digest(hasher.leaf_digest(place, element))
-    }
-
-    /// The digest of a value's spelling as the next leaf, also where there is room for none, hashed in pieces. It takes
-    /// no memory.
-    pub fn next_leaf_digest<H: Hasher<Digest = D>, T: Feed>(
-        &self,
-        hasher: &Standard<H>,
-        value: &T,
-    ) -> D
-        ensures { result ≡ leaf F.shape H.hash (leaf_count self.now) (T.spelling value.now) }
-    {
-        hasher.leaf_digest_of(self.next_place(), value)
-    }
-
-    /// Where the next leaf stands.
-    fn next_place(&self) -> Position<F>
-        ensures { result ≡ F.shape.position (leaf_count self.now) 0 }
-    {
         let leaves = self.leaves();
-        Position::new(F::size(leaves.as_u64()))
+        let place = Position::<F>::new(F::size(leaves.as_u64()));
+        self.add_leaf_digest(hasher.leaf_digest(place, element))
     }
 }

@@ -4,7 +4,6 @@
 mod bagging;
 mod digest;
 mod family;
-mod feed;
 mod hasher;
 mod inactive;
 mod location_codec;
@@ -26,7 +25,6 @@ mod widths;
 pub use bagging::Bagging;
 pub use digest::Digest;
 pub use family::Family;
-pub use feed::{Feed, feed_varint, feed_zeros};
 pub use hasher::Hasher;
 pub use inactive::inactive_law;
 pub use mmb::Mmb;

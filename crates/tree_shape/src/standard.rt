@@ -1,7 +1,7 @@
 ghost use Rattle.std.specs.Prelude.{◌≡◌, ℕ, List, [], ◌∷◌, ◌++◌};
 ghost use Rattle.tree_shape.specs.Hashing.{number, leaf_input, node_input, fold_input};
 
-use crate::{Bagging, Digest, Feed, Hasher, Position};
+use crate::{Bagging, Digest, Hasher, Position};
 use std::marker::{Model, PhantomData};
 
 /// A hasher that holds one byte.
@@ -19,15 +19,6 @@ pub fn update_number<H: Hasher>(hasher: &mut H, n: u64)
     ensures { (m : List ℕ) → H.holds hasher.old m → H.holds hasher.new (m ++ number n) }
 {
     hasher.update(&n.to_be_bytes());
-}
-
-/// A hasher that holds what stands before a leaf's element.
-fn begin_leaf<F, H: Hasher>(pos: Position<F>) -> H
-    ensures { H.holds result (0 ∷ number pos) }
-{
-    let mut hasher = begin::<H>(0);
-    update_number(&mut hasher, pos.as_u64());
-    hasher
 }
 
 /// The digests of leaves, nodes and folds. It remembers no message; contracts see it as its bagging.
@@ -69,18 +60,9 @@ impl<H: Hasher> Standard<H> {
     pub fn leaf_digest<F>(&self, pos: Position<F>, element: &[u8]) -> H::Digest
         ensures { result ≡ H.hash.digest (leaf_input pos element.now) }
     {
-        let mut hasher = begin_leaf::<F, H>(pos);
+        let mut hasher = begin::<H>(0);
+        update_number(&mut hasher, pos.as_u64());
         hasher.update(element);
-        hasher.finish()
-    }
-
-    /// The digest of the leaf at a position whose element is the spelling of a value, hashed in pieces. It takes no
-    /// memory.
-    pub fn leaf_digest_of<F, T: Feed>(&self, pos: Position<F>, value: &T) -> H::Digest
-        ensures { result ≡ H.hash.digest (leaf_input pos (T.spelling value.now)) }
-    {
-        let mut hasher = begin_leaf::<F, H>(pos);
-        value.feed(&mut hasher);
         hasher.finish()
     }
 

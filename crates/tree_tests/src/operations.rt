@@ -1,8 +1,7 @@
 //! Operations: examples written out by hand, and each call that takes memory once.
-use crate::spelled::{is_fed, refusal, spells, third_leaf};
+use crate::spelled::{refusal, spells};
 use codec_base::{
-    Bytes, CodecError, Duplicate, EncodeSize, FixedSize, InvalidAt, LengthCfg, ListOf, Read, U64,
-    Write,
+    Bytes, CodecError, Duplicate, EncodeSize, FixedSize, InvalidAt, LengthCfg, Read, U64, Write,
 };
 use op_codec::{
     Committable, FixedEncoding, Floored, Key, OperationTrait, VariableEncoding, immutable, keyless,
@@ -10,7 +9,7 @@ use op_codec::{
 use std::alloc::Global;
 use std::hash::{DefaultHasher, Hash, Hasher};
 use std::test::Fail;
-use tree_shape::{Digest, Feed, Location, Mmb, Mmr};
+use tree_shape::{Location, Mmb, Mmr};
 
 type Words = keyless::Operation<Mmr, VariableEncoding<Bytes>>;
 
@@ -28,7 +27,7 @@ fn word(alloc: Global) -> Result<Bytes, CodecError> {
 }
 
 /// Whether a copy of a value is spelled by these bytes.
-fn copy_spells<T: Write + Feed + EncodeSize + Read + Duplicate + PartialEq + Drop>(
+fn copy_spells<T: Write + EncodeSize + Read + Duplicate + PartialEq + Drop>(
     alloc: Global,
     value: T,
     cfg: &T::Cfg,
@@ -88,31 +87,6 @@ fn each_variant_of_one_size_has_its_spelling(rt: HostRuntime) -> Result<(), Fail
     let set = KeyedNumbers::Set(U64::new(1), U64::new(2));
     let bytes = [0, 0, 0, 0, 0, 0, 0, 0, 1, 0, 0, 0, 0, 0, 0, 0, 2, 0];
     assert!(rt; spells(rt.alloc(), set, &((), ()), &bytes)?);
-    Ok(())
-}
-
-/// The digest of 200 letters, appended as the third leaf of an MMR.
-const LONG_LEAF: &str = "450548a99da7f36e194e61f61bf85a2f6462848baaec71b5df9ccfeda2dd902f";
-
-#[test]
-fn a_value_whose_length_takes_two_bytes_is_hashed(rt: HostRuntime) -> Result<(), Fail> {
-    let alloc = rt.alloc();
-    let long = Words::Append(Bytes::from_slice(alloc, &[b'a'; 200])?);
-    let leaf = third_leaf(&long);
-    assert_eq!(rt; hex::encode(alloc, leaf.as_slice())?.as_str(), LONG_LEAF);
-    Ok(())
-}
-
-#[test]
-fn values_are_hashed_as_they_are_spelled(rt: HostRuntime) -> Result<(), Fail> {
-    let alloc = rt.alloc();
-    let digest = third_leaf(&7u8);
-    assert!(rt; is_fed(&digest, digest.as_slice()));
-    assert!(rt; is_fed(&258u64, &[0, 0, 0, 0, 0, 0, 1, 2]));
-    assert!(rt; is_fed(&Location::<Mmr>::new(300), &[0xac, 2]));
-    let mut list = ListOf::new(alloc);
-    list.push(U64::new(1))?;
-    assert!(rt; is_fed(&list, &[1, 0, 0, 0, 0, 0, 0, 0, 1]));
     Ok(())
 }
 

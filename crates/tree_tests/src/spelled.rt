@@ -1,7 +1,6 @@
 //! How a value is spelled, and why bytes are no value.
 use codec_base::{CodecError, EncodeSize, Read, Write, decode, encode};
 use std::alloc::Global;
-use tree_shape::{Bagging, Feed, Mmr, Position, Sha256Digest, Sha256Hasher, Standard};
 
 /// Whether a value is written in these bytes.
 fn is_written<T: Write + EncodeSize>(
@@ -32,26 +31,14 @@ pub(crate) fn is_spelled<T: Write + EncodeSize + Read + PartialEq + Drop>(
     Ok(is_written(alloc, value, bytes)? && is_read(alloc, value, cfg, bytes)?)
 }
 
-/// The digest of a value as the third leaf, hashed in pieces.
-pub(crate) fn third_leaf<T: Feed>(value: &T) -> Sha256Digest {
-    let hasher = Standard::<Sha256Hasher>::new(Bagging::ForwardFold);
-    hasher.leaf_digest_of(Position::<Mmr>::new(3), value)
-}
-
-/// Whether a value is hashed as these bytes.
-pub(crate) fn is_fed<T: Feed>(value: &T, bytes: &[u8]) -> bool {
-    let hasher = Standard::<Sha256Hasher>::new(Bagging::ForwardFold);
-    third_leaf(value) == hasher.leaf_digest(Position::<Mmr>::new(3), bytes)
-}
-
-/// Whether a value that is needed no more is written in these bytes, hashed as these, and read from them.
-pub(crate) fn spells<T: Write + Feed + EncodeSize + Read + PartialEq + Drop>(
+/// The same of a value that is needed no more.
+pub(crate) fn spells<T: Write + EncodeSize + Read + PartialEq + Drop>(
     alloc: Global,
     value: T,
     cfg: &T::Cfg,
     bytes: &[u8],
 ) -> Result<bool, CodecError> {
-    Ok(is_spelled(alloc, &value, cfg, bytes)? && is_fed(&value, bytes))
+    is_spelled(alloc, &value, cfg, bytes)
 }
 
 /// Why bytes are no value.

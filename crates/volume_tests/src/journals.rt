@@ -3,7 +3,7 @@
 use codec_base::{Bytes, LengthCfg, U64};
 use journal_base::{
     Backing, BackingRecovery, Contiguous, Fixed, FixedJournal, JournalConfig, Mutable, Recovery,
-    VariableJournal, append_all, backing_laws, run_laws,
+    VariableJournal, append_all, backing_laws, encode_all, run_laws,
 };
 use memory_volume::{LogChoice, MemoryVolume};
 use std::alloc::Global;
@@ -279,6 +279,34 @@ fn each_call_answers_at_items_of_several_sizes(rt: HostRuntime) {
     let given = gives_words(rt.alloc(), &mut vol);
     let found = finds_word(rt.alloc(), &mut vol);
     assert!(rt; (given, found) == (Ok(true), Ok(true)));
+}
+
+/// A journal that begins at 3, with items that are put there by their encodings, and where the first of them stands.
+fn put_encoded<J: Backing>(
+    alloc: Global,
+    vol: &mut MemoryVolume,
+    cfg: J::Config,
+    items: &[J::Item],
+) -> Result<(J, u64), JournalError> {
+    let journal = J::clear(vol, cfg, 3)?.finish(vol, 3)?;
+    journal.append_encoded(vol, &encode_all(alloc, items)?)
+}
+
+#[test]
+fn encodings_are_read_as_items(rt: HostRuntime) -> Result<(), Fail> {
+    let alloc = rt.alloc();
+    let mut vol = MemoryVolume::new(alloc);
+    let items = words(alloc, &[b"seven", b"two"])?;
+    let (journal, first): (VariableJournal<Bytes>, u64) = put_encoded(
+        alloc,
+        &mut vol,
+        words_config(alloc)?,
+        &items,
+    )?;
+    let given = gives(alloc, &mut vol, &journal, &[3, 4], &items)?;
+    let (journal, _) = journal.append_encoded(&mut vol, &[])?;
+    assert!(rt; (first, given, journal.bounds()) == (3, true, (3, 5)));
+    Ok(())
 }
 
 /// Whether the numbers that are left are read.

@@ -5,21 +5,20 @@ ghost use Rattle.op_codec.specs.Commits.{padded_at, fixed_commit_at};
 ghost use Rattle.op_codec.specs.Immutable.{parts, set_padding, commit_padding, fixed_width, fixed_spelling, fixed_admits, fixed_at, fixed_lawful, fixed_length};
 
 use super::{COMMIT_CONTEXT, Codec, Operation, SET_CONTEXT};
-use crate::commit::{commit_fixed_size, feed_commit_fixed, read_commit_fixed, write_commit_fixed};
-use crate::{FixedEncoding, Key, KnownSize};
+use crate::commit::{commit_fixed_size, read_commit_fixed, write_commit_fixed};
+use crate::{FixedEncoding, Key};
 use codec_base::{
     Bytes, CodecError, Cursor, Duplicate, EncodeSize, FixedSize, Read, Write, read_zeros,
     undo_on_err, write_zeros,
 };
 use std::alloc::Global;
-use tree_shape::{Family, Feed, Hasher, Location, feed_zeros};
+use tree_shape::{Family, Location};
 
 /// What a commit has besides its tag and metadata: an option byte and a floor.
 const OPTION_AND_FLOOR: u64 = 9;
 
-impl<K: Key + KnownSize, V: Write + Feed + EncodeSize + KnownSize + Read + Duplicate + Drop> Codec<
-    K,
-> for FixedEncoding<V> {
+impl<K: Key + FixedSize, V: Write + EncodeSize + FixedSize + Read + Duplicate + Drop> Codec<K>
+    for FixedEncoding<V> {
     type ReadCfg = (K::Cfg, V::Cfg);
 
     ghost spelling = { fixed_spelling K.width V.width K.spelling V.spelling };
@@ -47,22 +46,6 @@ impl<K: Key + KnownSize, V: Write + Feed + EncodeSize + KnownSize + Read + Dupli
                 out.push(COMMIT_CONTEXT)?;
                 undo_on_err(write_commit_fixed(metadata, floor, out), length, out)?;
                 undo_on_err(write_zeros(behind_a_commit(K::size()), out), length, out)
-            }
-        }
-    }
-
-    fn feed_operation<F: Family, H: Hasher>(op: &Operation<F, K, Self>, hasher: &mut H) {
-        match op {
-            Operation::Set(key, value) => {
-                hasher.update(&[SET_CONTEXT]);
-                key.feed(hasher);
-                value.feed(hasher);
-                feed_zeros(behind_a_set(K::size()), hasher);
-            }
-            Operation::Commit(metadata, floor) => {
-                hasher.update(&[COMMIT_CONTEXT]);
-                feed_commit_fixed(metadata, floor, hasher);
-                feed_zeros(behind_a_commit(K::size()), hasher);
             }
         }
     }
@@ -155,8 +138,8 @@ fn padded_commit_of<F: Family, K: FixedSize, V: FixedSize + Drop>(
 
 impl<
     F: Family,
-    K: Key + KnownSize,
-    V: Write + Feed + EncodeSize + KnownSize + Read + Duplicate + Drop,
+    K: Key + FixedSize,
+    V: Write + EncodeSize + FixedSize + Read + Duplicate + Drop,
 > FixedSize for Operation<F, K, FixedEncoding<V>> {
     ghost width = { fixed_width K.width V.width };
 

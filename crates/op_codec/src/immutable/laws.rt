@@ -5,13 +5,13 @@ ghost use Rattle.op_codec.specs.Immutable.{IsAllowed};
 ghost use Rattle.op_codec.specs.ImmutableMeanings.{IsFieldwise};
 
 use super::Operation;
-use crate::{FixedEncoding, Key, KnownSize, ValueEncoding, VariableEncoding};
-use codec_base::{Duplicate, EncodeSize, Read, Spelled, Write};
+use crate::{FixedEncoding, Key, ValueEncoding, VariableEncoding};
+use codec_base::{Duplicate, EncodeSize, FixedSize, Read, Spelled, Write};
 use std::hash::Hash;
-use tree_shape::{Family, Feed};
+use tree_shape::Family;
 
 /// An operation of any length is decoded from its encoding, and nothing is from any other byte string.
-pub fn variable_laws<F: Family, K: Key, V: Write + Feed + EncodeSize + Read + Duplicate + Drop>(
+pub fn variable_laws<F: Family, K: Key, V: Write + EncodeSize + Read + Duplicate + Drop>(
     cfg: &(K::Cfg, V::Cfg),
 )
     ensures { IsExact (IsAllowed (K.admits cfg.now.0) (V.admits cfg.now.1))
@@ -22,8 +22,8 @@ pub fn variable_laws<F: Family, K: Key, V: Write + Feed + EncodeSize + Read + Du
 /// An operation of one length is decoded from its encoding, and nothing is from any other byte string.
 pub fn fixed_laws<
     F: Family,
-    K: Key + KnownSize,
-    V: Write + Feed + EncodeSize + KnownSize + Read + Duplicate + Drop,
+    K: Key + FixedSize,
+    V: Write + EncodeSize + FixedSize + Read + Duplicate + Drop,
 >(cfg: &(K::Cfg, V::Cfg))
     ensures { IsExact (IsAllowed (K.admits cfg.now.0) (V.admits cfg.now.1))
         (⟦<Operation<F, K, FixedEncoding<V>> as Spelled>⟧.spelling)

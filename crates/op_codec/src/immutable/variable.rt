@@ -1,16 +1,13 @@
 ghost use Rattle.op_codec.specs.Immutable.{variable_spelling, variable_admits, variable_at, variable_lawful};
 
 use super::{COMMIT_CONTEXT, Codec, Operation, SET_CONTEXT};
-use crate::commit::{
-    commit_variable_size, feed_commit_variable, read_commit_variable, write_commit_variable,
-};
+use crate::commit::{commit_variable_size, read_commit_variable, write_commit_variable};
 use crate::{Key, VariableEncoding};
 use codec_base::{Bytes, CodecError, Cursor, Duplicate, EncodeSize, Read, Write, undo_on_err};
 use std::alloc::Global;
-use tree_shape::{Family, Feed, Hasher};
+use tree_shape::Family;
 
-impl<K: Key, V: Write + Feed + EncodeSize + Read + Duplicate + Drop> Codec<K>
-    for VariableEncoding<V> {
+impl<K: Key, V: Write + EncodeSize + Read + Duplicate + Drop> Codec<K> for VariableEncoding<V> {
     type ReadCfg = (K::Cfg, V::Cfg);
 
     ghost spelling = { variable_spelling K.spelling V.spelling };
@@ -36,20 +33,6 @@ impl<K: Key, V: Write + Feed + EncodeSize + Read + Duplicate + Drop> Codec<K>
             Operation::Commit(metadata, floor) => {
                 out.push(COMMIT_CONTEXT)?;
                 undo_on_err(write_commit_variable(metadata, floor, out), length, out)
-            }
-        }
-    }
-
-    fn feed_operation<F: Family, H: Hasher>(op: &Operation<F, K, Self>, hasher: &mut H) {
-        match op {
-            Operation::Set(key, value) => {
-                hasher.update(&[SET_CONTEXT]);
-                key.feed(hasher);
-                value.feed(hasher);
-            }
-            Operation::Commit(metadata, floor) => {
-                hasher.update(&[COMMIT_CONTEXT]);
-                feed_commit_variable(metadata, floor, hasher);
             }
         }
     }

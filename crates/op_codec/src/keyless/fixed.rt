@@ -4,20 +4,19 @@ ghost use Rattle.op_codec.specs.Commits.{padded_at};
 ghost use Rattle.op_codec.specs.Keyless.{parts, fixed_width, fixed_spelling, fixed_admits, fixed_at, fixed_lawful, fixed_length};
 
 use super::{APPEND_CONTEXT, COMMIT_CONTEXT, Codec, Operation};
-use crate::commit::{commit_fixed_size, feed_commit_fixed, read_commit_fixed, write_commit_fixed};
-use crate::{FixedEncoding, KnownSize};
+use crate::FixedEncoding;
+use crate::commit::{commit_fixed_size, read_commit_fixed, write_commit_fixed};
 use codec_base::{
     Bytes, CodecError, Cursor, Duplicate, EncodeSize, FixedSize, Read, Write, read_zeros,
     undo_on_err, write_zeros,
 };
 use std::alloc::Global;
-use tree_shape::{Family, Feed, Hasher, feed_zeros};
+use tree_shape::Family;
 
 /// The zeros behind an appended value, in the place of a commit's option byte and floor.
 const PADDING: u64 = 9;
 
-impl<V: Write + Feed + EncodeSize + KnownSize + Read + Duplicate + Drop> Codec
-    for FixedEncoding<V> {
+impl<V: Write + EncodeSize + FixedSize + Read + Duplicate + Drop> Codec for FixedEncoding<V> {
     type ReadCfg = V::Cfg;
 
     ghost spelling = { fixed_spelling V.width V.spelling };
@@ -43,20 +42,6 @@ impl<V: Write + Feed + EncodeSize + KnownSize + Read + Duplicate + Drop> Codec
             Operation::Commit(metadata, floor) => {
                 out.push(COMMIT_CONTEXT)?;
                 undo_on_err(write_commit_fixed(metadata, floor, out), length, out)
-            }
-        }
-    }
-
-    fn feed_operation<F: Family, H: Hasher>(op: &Operation<F, Self>, hasher: &mut H) {
-        match op {
-            Operation::Append(value) => {
-                hasher.update(&[APPEND_CONTEXT]);
-                value.feed(hasher);
-                feed_zeros(PADDING, hasher);
-            }
-            Operation::Commit(metadata, floor) => {
-                hasher.update(&[COMMIT_CONTEXT]);
-                feed_commit_fixed(metadata, floor, hasher);
             }
         }
     }
@@ -109,7 +94,7 @@ fn padded_of<V: Read + Drop>(
     Ok(value)
 }
 
-impl<F: Family, V: Write + Feed + EncodeSize + KnownSize + Read + Duplicate + Drop> FixedSize
+impl<F: Family, V: Write + EncodeSize + FixedSize + Read + Duplicate + Drop> FixedSize
     for Operation<F, FixedEncoding<V>> {
     ghost width = { fixed_width V.width };
 

@@ -5,21 +5,19 @@ ghost use Rattle.op_codec.specs.Keyless.{IsAllowed};
 ghost use Rattle.op_codec.specs.Meanings.{IsFieldwise};
 
 use super::Operation;
-use crate::{FixedEncoding, KnownSize, ValueEncoding, VariableEncoding};
-use codec_base::{Duplicate, EncodeSize, Read, Spelled, Write};
+use crate::{FixedEncoding, ValueEncoding, VariableEncoding};
+use codec_base::{Duplicate, EncodeSize, FixedSize, Read, Spelled, Write};
 use std::hash::Hash;
-use tree_shape::{Family, Feed};
+use tree_shape::Family;
 
 /// An operation of any length is decoded from its encoding, and nothing is from any other byte string.
-pub fn variable_laws<F: Family, V: Write + Feed + EncodeSize + Read + Duplicate + Drop>(
-    cfg: &V::Cfg,
-)
+pub fn variable_laws<F: Family, V: Write + EncodeSize + Read + Duplicate + Drop>(cfg: &V::Cfg)
     ensures { IsExact (IsAllowed (V.admits cfg.now)) (⟦<Operation<F, VariableEncoding<V>> as Spelled>⟧.spelling)
         (⟦<Operation<F, VariableEncoding<V>> as Read>⟧.reads cfg.now) }
 {}
 
 /// An operation of one length is decoded from its encoding, and nothing is from any other byte string.
-pub fn fixed_laws<F: Family, V: Write + Feed + EncodeSize + KnownSize + Read + Duplicate + Drop>(
+pub fn fixed_laws<F: Family, V: Write + EncodeSize + FixedSize + Read + Duplicate + Drop>(
     cfg: &V::Cfg,
 )
     ensures { IsExact (IsAllowed (V.admits cfg.now)) (⟦<Operation<F, FixedEncoding<V>> as Spelled>⟧.spelling)

@@ -2,14 +2,12 @@ ghost use Rattle.op_codec.specs.Keyless.{variable_spelling, variable_admits, var
 
 use super::{APPEND_CONTEXT, COMMIT_CONTEXT, Codec, Operation};
 use crate::VariableEncoding;
-use crate::commit::{
-    commit_variable_size, feed_commit_variable, read_commit_variable, write_commit_variable,
-};
+use crate::commit::{commit_variable_size, read_commit_variable, write_commit_variable};
 use codec_base::{Bytes, CodecError, Cursor, Duplicate, EncodeSize, Read, Write, undo_on_err};
 use std::alloc::Global;
-use tree_shape::{Family, Feed, Hasher};
+use tree_shape::Family;
 
-impl<V: Write + Feed + EncodeSize + Read + Duplicate + Drop> Codec for VariableEncoding<V> {
+impl<V: Write + EncodeSize + Read + Duplicate + Drop> Codec for VariableEncoding<V> {
     type ReadCfg = V::Cfg;
 
     ghost spelling = { variable_spelling V.spelling };
@@ -33,19 +31,6 @@ impl<V: Write + Feed + EncodeSize + Read + Duplicate + Drop> Codec for VariableE
             Operation::Commit(metadata, floor) => {
                 out.push(COMMIT_CONTEXT)?;
                 undo_on_err(write_commit_variable(metadata, floor, out), length, out)
-            }
-        }
-    }
-
-    fn feed_operation<F: Family, H: Hasher>(op: &Operation<F, Self>, hasher: &mut H) {
-        match op {
-            Operation::Append(value) => {
-                hasher.update(&[APPEND_CONTEXT]);
-                value.feed(hasher);
-            }
-            Operation::Commit(metadata, floor) => {
-                hasher.update(&[COMMIT_CONTEXT]);
-                feed_commit_variable(metadata, floor, hasher);
             }
         }
     }

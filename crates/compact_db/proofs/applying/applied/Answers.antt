@@ -13,11 +13,11 @@ returns-clause-list g c all more of sealed rooted =
     let h = g.H.Hasher.hash in
     let grown : IsOf s h (all ++ more) c.apply_batch.new.self =
     subst (λ (ds : List g.row.H-Digest.Denot). IsOf s h (all ++ ds) c.apply_batch.new.self) (drop-append_seam all more)
-    (c.in-Ok-apply_batch.ensures.tree h all (all ++ more) of sealed) in
+    (c.in-Ok.ensures.tree h all (all ++ more) of sealed) in
     let floor = c.new-floor.ensures ∙ c.unwrap_or.ensures ∙ ap (λ o. unwrap_or o 0) c.commit_floor.ensures in (
       c.in_ok-tip.ensures.verified (all ++ more) grown (rooted ∙ ap (root_under s h (all ++ more)) (sym floor))
           ∙ ap (λ bytes. verified_leaves s h (all ++ more) bytes c.new-floor.result)
-          (c.in-Ok.ensures.spelled ∙ sym (g.met.O.Logged.spelled c.args.commit.now))
+          (c.requires.bytes ∙ sym (g.met.O.Logged.spelled c.args.commit.now))
           ∙ ap (verified_leaves s h (all ++ more) (g.O.Logged.meaning.encoding c.args.commit.now)) floor,
       c.prune_to_frontier.ensures.tree h (all ++ more) grown,
     )

@@ -1,6 +1,6 @@
 use Rattle.std.proofs.Common.{◌≡◌, ◌≢◌, ◌≤◌, Global, List, ◌++◌, length, map, drop, refl, sym, ◌∙◌, ap, subst, arith, Ok, Err}
 use Rattle.std.specs.declared.rc.Rc.{Rc}
-use Rattle.codec_base.specs.declared.list.ListOf.{ListOf}
+use Rattle.auth_journal.specs.declared.segment.Segment.{Segment}
 use Rattle.journal_base.specs.View.{log_of}
 use Rattle.std.specs.Prelude.{Result, IsErrOf}
 use Rattle.std.specs.Result.{IsErrAnd}
@@ -43,7 +43,7 @@ returns-in_err-merkle-clause-appends g c =
 
 pub returns-in_err-journal-clause-overflow : goal.returns-in_err-journal-clause-overflow
 returns-in_err-journal-clause-overflow g c e at =
-    let f : Rc (ListOf g.row.C-Item.Denot) Global → List g.row.C-Item.Denot = λ r. r.value in
+    let f : Rc (Segment g.row.C-Item.Denot) Global → List g.row.C-Item.Denot = λ r. r.value in
     let state = g.V.Volume.state c.args.vol.now in
     let b : SealedItems g.row.H-Digest.Denot g.row.C-Item.Denot = record { nodes = c.batch.inside.nodes; bagging = c.batch.inside.bagging; items = map f c.batch.inside.items.items } in
     let tree : c.mem.result.now ≡ c.args.self.tree.tree = c.mem.ensures ∙ ap (λ (j : Joined g.row.H-Digest.Denot g.row.C-Item-Cfg.Denot). j.tree.tree) c.self.view_is in
@@ -60,7 +60,7 @@ returns-in_err-journal-clause-overflow g c e at =
 
 pub returns-in_err-journal-clause-beyond : goal.returns-in_err-journal-clause-beyond
 returns-in_err-journal-clause-beyond g c e at told =
-    let f : Rc (ListOf g.row.C-Item.Denot) Global → List g.row.C-Item.Denot = λ r. r.value in
+    let f : Rc (Segment g.row.C-Item.Denot) Global → List g.row.C-Item.Denot = λ r. r.value in
     let state = g.V.Volume.state c.args.vol.now in
     let b : SealedItems g.row.H-Digest.Denot g.row.C-Item.Denot = record { nodes = c.batch.inside.nodes; bagging = c.batch.inside.bagging; items = map f c.batch.inside.items.items } in
     let tree : c.mem.result.now ≡ c.args.self.tree.tree = c.mem.ensures ∙ ap (λ (j : Joined g.row.H-Digest.Denot g.row.C-Item-Cfg.Denot). j.tree.tree) c.self.view_is in
@@ -78,7 +78,7 @@ returns-in_err-journal-clause-unwritten g c =
 
 pub returns-in_err-journal-clause-appends : goal.returns-in_err-journal-clause-appends
 returns-in_err-journal-clause-appends g c =
-    let f : Rc (ListOf g.row.C-Item.Denot) Global → List g.row.C-Item.Denot = λ r. r.value in
+    let f : Rc (Segment g.row.C-Item.Denot) Global → List g.row.C-Item.Denot = λ r. r.value in
     let tells = g.V.Volume.tells in
     let spelling = g.C.Item.Spelled.spelling in
     let old = g.V.Volume.state c.args.vol.now in
@@ -95,7 +95,7 @@ returns-in_err-journal-clause-appends g c =
 
 pub returns-clause-appends : goal.returns-clause-appends
 returns-clause-appends g c =
-    let f : Rc (ListOf g.row.C-Item.Denot) Global → List g.row.C-Item.Denot = λ r. r.value in
+    let f : Rc (Segment g.row.C-Item.Denot) Global → List g.row.C-Item.Denot = λ r. r.value in
     let tells = g.V.Volume.tells in
     let spelling = g.C.Item.Spelled.spelling in
     let old = g.V.Volume.state c.args.vol.now in
@@ -112,7 +112,7 @@ returns-clause-appends g c =
 
 pub returns-clause-joined : goal.returns-clause-joined
 returns-clause-joined g c tells list more joined of =
-    let f : Rc (ListOf g.row.C-Item.Denot) Global → List g.row.C-Item.Denot = λ r. r.value in
+    let f : Rc (Segment g.row.C-Item.Denot) Global → List g.row.C-Item.Denot = λ r. r.value in
     let s = g.F.Family.shape in
     let h = g.H.Hasher.hash in
     let digest = g.H.Digest.Spelled.spelling in

@@ -1,7 +1,7 @@
 use Rattle.std.proofs.Common.{◌≤◌, Global, List, length, map, sym, ◌∙◌, ap, subst, arith}
 use Rattle.std.proofs.lemmas.List.{drop_all}
 use Rattle.std.specs.declared.rc.Rc.{Rc}
-use Rattle.codec_base.specs.declared.list.ListOf.{ListOf}
+use Rattle.auth_journal.specs.declared.segment.Segment.{Segment}
 use Rattle.tree_core.specs.Tree.{IsOf}
 use Rattle.auth_journal.specs.Batched.{UnsealedItems, IsUnsealedOfItems, joined_items}
 use Rattle.auth_journal.specs.Joined.{Joined, leaves_of}
@@ -13,7 +13,7 @@ returns-clause-batch g c list image joined =
     let s = g.F.Family.shape in
     let h = g.H.Hasher.hash in
     let spelling = g.C.Item.Spelled.spelling in
-    let f : Rc (ListOf g.row.C-Item.Denot) Global → List g.row.C-Item.Denot = λ r. r.value in
+    let f : Rc (Segment g.row.C-Item.Denot) Global → List g.row.C-Item.Denot = λ r. r.value in
     let of : IsOf s h (leaves_of s h spelling list) c.self.inside.merkle.tree = subst (λ (j : Joined g.row.H-Digest.Denot g.row.C-Item-Cfg.Denot). IsOf s h (leaves_of s h spelling list) j.tree.tree) (sym c.self.view_is) joined.tree.tree in
     let begins = (c.in_ok-nodes.ensures {u = tt}).begins in
     let past : length list ≤ c.in_ok-nodes.nodes.first = omega (arith, begins.first, of.count, length-leaves_of s h spelling list) in

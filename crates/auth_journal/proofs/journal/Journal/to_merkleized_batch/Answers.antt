@@ -1,7 +1,7 @@
 use Rattle.std.proofs.Common.{◌≡◌, ◌≤◌, Global, List, [], ◌∷◌, ◌++◌, length, map, sym, ◌∙◌, ap, subst, arith}
 use Rattle.std.proofs.lemmas.List.{drop_all}
 use Rattle.std.specs.declared.rc.Rc.{Rc}
-use Rattle.codec_base.specs.declared.list.ListOf.{ListOf}
+use Rattle.auth_journal.specs.declared.segment.Segment.{Segment}
 use Rattle.tree_core.specs.Tree.{Tree, IsOf}
 use Rattle.auth_journal.specs.Batched.{AreCounted, joined_items}
 use Rattle.auth_journal.specs.Joined.{Joined, leaves_of}
@@ -11,7 +11,7 @@ use Rattle.auth_journal.proofs.journal.Journal.to_merkleized_batch.Goals as goal
 
 pub invariant_of-result : goal.invariant_of-result
 invariant_of-result g c =
-    let f : Rc (ListOf g.row.C-Item.Denot) Global → List g.row.C-Item.Denot = λ r. r.value in
+    let f : Rc (Segment g.row.C-Item.Denot) Global → List g.row.C-Item.Denot = λ r. r.value in
     let stands = (c.in_ok-nodes.ensures {u = tt}).stands in
     let links = c.in_ok-nodes.nodes.links in
     let sound = c.leaves-leaves.ensures.sound in
@@ -24,7 +24,7 @@ pub returns-clause-batch : goal.returns-clause-batch
 returns-clause-batch g c list image joined =
     let s = g.F.Family.shape in
     let h = g.H.Hasher.hash in
-    let f : Rc (ListOf g.row.C-Item.Denot) Global → List g.row.C-Item.Denot = λ r. r.value in
+    let f : Rc (Segment g.row.C-Item.Denot) Global → List g.row.C-Item.Denot = λ r. r.value in
     let stands = (c.in_ok-nodes.ensures {u = tt}).stands in
     let lists : map f c.push.new.self.items ≡ [] ∷ [] =
     ap (map f) ((c.in_ok-push.ensures {u = tt}).items ∙ ap (λ xs. xs ++ c.in_ok-new.field-0 ∷ []) c.new-items.ensures.items) ∙ ap (λ (l : List g.row.C-Item.Denot). l ∷ []) ((c.in_ok-new.ensures {u = tt}).ok ∙ c.new.ensures) in

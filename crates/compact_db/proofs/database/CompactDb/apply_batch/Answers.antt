@@ -227,8 +227,19 @@ unreachable-requires g c =
     let test = c.if-as_u64.false in
     omega (arith, test, left, right, here, own, old, size)
 
+pub grown-requires-clause-bytes : goal.grown-requires-clause-bytes
+grown-requires-clause-bytes g c =
+    let read = last_read c.as_slice.result.now c.batch.inside.operations 0 c.commit-item.result _ c.as_slice.ensures c.in-len1-up.len_at_least c.commit-item.is in
+    c.in-Ok-duplicate-2.ensures.same ∙ c.batch.invariant.bytes c.commit-item.result read ∙ ap g.O.Spelled.spelling (sym c.in-Ok-duplicate.ensures.same)
+
 pub returns-in_default-duplicate-clause-stale : goal.returns-in_default-duplicate-clause-stale
 returns-in_default-duplicate-clause-stale g c b at off = absurd (off (subst (λ (x : MerkleizedView g.row.F.Denot g.row.H-Digest.Denot g.row.O.Denot). Contains (x.bounds.db ∷ x.bounds.ancestors) (commitment_in c.args.self))
+    (c.batch.view_is ∙ one_item (item_at c.args.pool.now c.args.id) c.item-batch.result.now b c.item-batch.ensures at)
+    (subst (λ (k : Commitment g.row.F.Denot g.row.H-Digest.Denot). Contains (c.batch.inside.bounds.db ∷ c.batch.inside.bounds.ancestors) k)
+    c.commitment.ensures (c.in-Ok.ensures.at_boundary_or_ancestor.0 refl))))
+
+pub returns-in_default-duplicate-2-clause-stale : goal.returns-in_default-duplicate-2-clause-stale
+returns-in_default-duplicate-2-clause-stale g c b at off = absurd (off (subst (λ (x : MerkleizedView g.row.F.Denot g.row.H-Digest.Denot g.row.O.Denot). Contains (x.bounds.db ∷ x.bounds.ancestors) (commitment_in c.args.self))
     (c.batch.view_is ∙ one_item (item_at c.args.pool.now c.args.id) c.item-batch.result.now b c.item-batch.ensures at)
     (subst (λ (k : Commitment g.row.F.Denot g.row.H-Digest.Denot). Contains (c.batch.inside.bounds.db ∷ c.batch.inside.bounds.ancestors) k)
     c.commitment.ensures (c.in-Ok.ensures.at_boundary_or_ancestor.0 refl))))
@@ -323,6 +334,10 @@ pub returns-in_default-duplicate-clause-images : goal.returns-in_default-duplica
 returns-in_default-duplicate-clause-images g c told ops more sizes b greatest least at was of some has =
     images_none g.H.Digest.Spelled.spelling (seen_log c.args.self.log).name (map (witness_of {F = g.row.F.Denot} g.F.Family.shape g.H.Hasher.hash g.O.Logged.meaning ops) sizes) _ greatest least (g.V.Volume.state c.args.vol.now) has
 
+pub returns-in_default-duplicate-2-clause-images : goal.returns-in_default-duplicate-2-clause-images
+returns-in_default-duplicate-2-clause-images g c told ops more sizes b greatest least at was of some has =
+    images_none g.H.Digest.Spelled.spelling (seen_log c.args.self.log).name (map (witness_of {F = g.row.F.Denot} g.F.Family.shape g.H.Hasher.hash g.O.Logged.meaning ops) sizes) _ greatest least (g.V.Volume.state c.args.vol.now) has
+
 pub returns-then-as_u64-clause-images : goal.returns-then-as_u64-clause-images
 returns-then-as_u64-clause-images g c told ops more sizes b greatest least at was of some has =
     let same = c.batch.view_is ∙ one_item (item_at c.args.pool.now c.args.id) c.item-batch.result.now b c.item-batch.ensures at in
@@ -365,6 +380,13 @@ returns-in_default-duplicate-clause-call g c told = (
   tt,
 )
 
+pub returns-in_default-duplicate-2-clause-call : goal.returns-in_default-duplicate-2-clause-call
+returns-in_default-duplicate-2-clause-call g c told = (
+  c.args.self.tip.witness,
+  call_none g.H.Digest.Spelled.spelling c.args.self.log c.args.self.tip.witness (g.V.Volume.state c.args.vol.now),
+  tt,
+)
+
 pub returns-then-as_u64-clause-call : goal.returns-then-as_u64-clause-call
 returns-then-as_u64-clause-call g c told = (
   c.args.self.tip.witness,
@@ -380,6 +402,10 @@ returns-in-Err-clause-restarts g c waiting told ops more b at was of =
 
 pub returns-in_default-duplicate-clause-restarts : goal.returns-in_default-duplicate-clause-restarts
 returns-in_default-duplicate-clause-restarts g c waiting told ops more b at was of =
+    restarts_none g.H.Digest.Spelled.spelling c.args.self.log _ (g.V.Volume.state c.args.vol.now)
+
+pub returns-in_default-duplicate-2-clause-restarts : goal.returns-in_default-duplicate-2-clause-restarts
+returns-in_default-duplicate-2-clause-restarts g c waiting told ops more b at was of =
     restarts_none g.H.Digest.Spelled.spelling c.args.self.log _ (g.V.Volume.state c.args.vol.now)
 
 pub returns-then-as_u64-clause-restarts : goal.returns-then-as_u64-clause-restarts

@@ -1,10 +1,18 @@
-use Rattle.std.proofs.Common.{length, ◌∙◌, ap, subst, arith}
+use Rattle.std.proofs.Common.{length, sym, ◌∙◌, ap, subst, arith}
+use Rattle.std.specs.Option.{ForSome}
 use Rattle.chain_core.specs.Chains.{IsSealedAt}
+use Rattle.chain_core.specs.Slots.{IsAlive}
 use Rattle.chain_core.specs.declared.commitment.Commitment.{Commitment}
 use Rattle.chain_core.proofs.ChainLemmas.{link_below, put_is, released_count}
 use Rattle.keyless_db.specs.Batches.{UnmerkleizedView, bounds_of, sealing_of}
 use Rattle.keyless_db.specs.DbView.{floor_in}
 use Rattle.keyless_db.proofs.batch.UnmerkleizedBatch.merkleize.Goals as goal
+
+pub release_link-requires : goal.release_link-requires
+release_link-requires g c =
+    record {
+      alive = subst (λ (b : UnmerkleizedView g.row.F.Denot g.row.H-Digest.Denot g.row.O.Denot). ForSome b.parent (IsAlive c.args.pool.now)) (sym c.self.view_is) c.requires.parent;
+    }
 
 pub insert-requires-clause-after : goal.insert-requires-clause-after
 insert-requires-clause-after g c x is =
