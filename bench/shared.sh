@@ -62,11 +62,19 @@ instructions() {
     valgrind --tool=callgrind --callgrind-out-file=/dev/null "$@" 2>&1 >/dev/null | awk '/Collected/ { print $4 }'
 }
 
-# A line for this number behind the first five words of `beside`: the instructions of all, beside those of how it does alone, which
-# no other work on the machine changes. None where valgrind isn't there.
+# A line for each of the numbers behind the first five words, which are those of `beside`: the instructions of all, beside those of
+# how it does alone, which no other work on the machine changes. None where valgrind isn't there.
 counted_beside() {
     command -v valgrind >/dev/null 2>&1 || { echo 'skipped: no valgrind, so no instructions are counted' >&2; return 0; }
-    one=$(($(instructions "$program" ${3:+"$3"} "$6") - $(instructions "$program" ${3:+"$3"} 0)))
-    bare=$(($(instructions "$program" "$5" "$6") - $(instructions "$program" "$5" 0)))
-    awk -v c="$6 $2" -v o="$one" -v h="$4" -v b="$bare" 'BEGIN { printf "%s: %.3f times the instructions of %s\n", c, o / b, h }'
+    name=$2
+    word=$3
+    how=$4
+    alone=$5
+    shift 5
+    for count in "$@"; do
+        one=$(($(instructions "$program" ${word:+"$word"} "$count") - $(instructions "$program" ${word:+"$word"} 0)))
+        bare=$(($(instructions "$program" "$alone" "$count") - $(instructions "$program" "$alone" 0)))
+        awk -v c="$count $name" -v o="$one" -v h="$how" -v b="$bare" \
+            'BEGIN { printf "%s: %.3f times the instructions of %s\n", c, o / b, h }'
+    done
 }

@@ -6,7 +6,8 @@ would take is the time of as many blocks of SHA-256 by bench_keyless: for each o
 folds and the root, in both databases.
 The peak memory of a child can't be told where it is below this program's own, from which the child is made; then that is shown as a
 bound. A seal that copied the operations of its ancestors would show in the memory of a chain that isn't applied: the same bytes in
-more batches would take more. A plain program in Python beside, bench/plain.py, keeps the same log: once with hash calls, once its
+more batches would take more. Where valgrind is there it counts the instructions of generated rounds, and weighs the batches of a
+chain and their pairs. A plain program in Python beside, bench/plain.py, keeps the same log: once with hash calls, once its
 writes and syncs alone.
 """
 import filecmp
@@ -27,6 +28,7 @@ from trees import Mmr  # noqa: E402
 
 RUNS, NUMBER, COUNTS = 3, 7, (100, 1000, 10000)
 COUNTED = (1000, 10000)         # the rounds whose instructions are counted
+CHAINS = (250, 500, 1000)       # the batches of the chains that are weighed
 TMPFS = "/dev/shm"
 PLAIN = os.path.join(os.path.dirname(os.path.abspath(__file__)), "plain.py")
 HEAD, PART = 8, 4               # bytes before the items of a log's file, and before each item
@@ -195,6 +197,39 @@ def nested(batches):
     return lines
 
 
+def chain(batches):
+    """A chain of batches of one value each, each batch on the one before, and none applied."""
+    return [line for b in range(batches) for line in (f"new {b - 1}" if b else "new", f"append {b} {b:016x}", f"seal {b} - 0")]
+
+
+def heap(command, given):
+    """The greatest number of bytes that a run that refuses nothing has allocated at once, as valgrind counts them."""
+    with open(given, "rb") as source:
+        counted = ["valgrind", "--tool=dhat", "--dhat-out-file=/dev/null", *command]
+        done = subprocess.run(counted, stdin=source, capture_output=True, text=True, check=True)
+    if any(line.startswith("refused") for line in done.stdout.splitlines()):
+        sys.exit(f"a command of {given} is refused")
+    return int(re.search(r"At t-gmax: +([0-9,]+) bytes", done.stderr)[1].replace(",", ""))
+
+
+def weigh_chain(program, scratch):
+    """The line on the bytes of a chain: those for each batch, and those for each pair of a batch and one before it."""
+    def of(batches):
+        given, folder = f"{scratch}/chain", f"{scratch}/chained"
+        with open(given, "w", encoding="ascii") as out:
+            out.write("\n".join(chain(batches)) + "\n")
+        shutil.rmtree(folder, ignore_errors=True)
+        return heap([program, folder], given)
+
+    few, more, most = (of(batches) for batches in CHAINS)
+    n, m, k = CHAINS
+    each = [(more - few) / (m - n), (most - more) / (k - m)]        # a batch + a pair * (n + m - 1) / 2, and so on
+    pair = (each[1] - each[0]) / ((k - n) / 2)
+    batch_alone = each[0] - pair * (n + m - 1) / 2
+    print(f"a chain of {k} batches of one value each, none applied: {most} bytes; {batch_alone:.0f} for each batch, and {pair:.1f} for "
+          f"each pair of a batch and one before it")
+
+
 def measure_inputs(program, scratch, block, start):
     """The lines on other inputs, over a folder on tmpfs where there is one."""
     folder, given = f"{scratch}/folder", f"{scratch}/given"
@@ -228,6 +263,7 @@ def main(program, hashes, disk):
         measure_inputs(program, scratch, block, start)
         if shutil.which("valgrind"):
             count_instructions(program, hashes, scratch)
+            weigh_chain(program, scratch)
 
 
 if __name__ == "__main__":

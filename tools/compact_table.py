@@ -18,7 +18,7 @@ may be applied at the state where its chain began, and at the own state of one t
 A cap opens the greatest state within it, and where there is none, nothing. What is served of a state that is kept is
 its commit, with the proof of it in the state's tree, and beside these the peaks before it unless it is asked for as an
 operation; of another size nothing is served. What is imported of it is that state alone: nothing is pruned before it is
-written, and then it is opened and goes on as any other. An append is no commit: where it is to be imported, the answer
+written, and then it is opened, goes on as any other, and serves that state still. An append is no commit: where it is to be imported, the answer
 is where it stands.
 """
 from proofs import cover
@@ -142,6 +142,7 @@ class Database:
         print(f"  imported: {other.state(size)}")
         print(f"  opened: {other.state(size)}")
         other.print_batch(made(encoding, *LATER), LATER[1])
+        print(served, end="")
 
     def print_places(self, first):
         """Where witnesses stand from a place on: they stand in the order of the states."""

@@ -213,12 +213,6 @@ append_fails most end result joined.Memory is merkle log = record { why = inl tt
 append_fails most end result (joined.Journal d) is merkle log = record { why = inr (inl (d, refl, log d is)) }
 append_fails most end result (joined.Merkle d) is merkle log = record { why = inr (inr (merkle d is)) }
 
--- the tree is full
-pub full_error : {F T : Type 0} (result : Result T (Error F)) (d : tree_error.Error F) → IsErrOf result (joined.Merkle d)
-    → (result ≡ Err joined.Memory) ⊎ (result ≡ Err (joined.Merkle (tree.LocationOverflow (2 ^ 62 + 1)))) → joined.Merkle d ≡ joined.Merkle (tree.LocationOverflow (2 ^ 62 + 1))
-full_error result d is (inl memory) = absurd cc
-full_error result d is (inr full) = cc
-
 pub append_lowers : {F : Type 0} (most : Type 0) (end : JournalError → Type 0) (e : Error F) → ((d : JournalError) → end d → IsSome (unwrapped d)) → IsAppendFailure most end e → IsSome (lowered e)
 append_lowers most end e log fails = elim fails.why [
   | inl outside ↦ outside_lowers e outside
@@ -300,16 +294,20 @@ own_lowered most end e x log own fails is = elim fails.why [
   ]
 ]
 
+-- the error of an answer is the one that it tells
+err_of : {E T : Type 0} (x y : E) → IsErrOf {T = T} (Err x) y → x ≡ y
+err_of x y is = cc
+
 -- an append of one item, or of several, has failed
 pub one_fails : {F T : Type 0} (most : Type 0) (more : Type 0) (e : Error F) → ((d : tree_error.Error F) → IsErrOf {T = T} (Err e) (joined.Merkle d) → most)
-    → (most → (IsErrOf {T = T} (Err e) joined.Memory) ⊎ (IsErrOf {T = T} (Err e) (joined.Merkle (tree.LocationOverflow (2 ^ 62 + 1)))))
+    → (most → IsErrOf {T = T} (Err e) (joined.Merkle (tree.LocationOverflow (2 ^ 62 + 1))))
     → ((d : JournalError) → IsErrOf {T = T} (Err e) (joined.Journal d) → (d ≡ journal.SizeOverflow) × more) → IsAppendFailure most (λ d. d ≡ journal.SizeOverflow) e
 one_fails {T = T} most more joined.Volume refused full overflow = record { why = inl tt }
 one_fails {T = T} most more joined.Memory refused full overflow = record { why = inl tt }
 one_fails {T = T} most more (joined.Journal d) refused full overflow = record { why = inr (inl (d, refl, (overflow d refl).0)) }
 one_fails {T = T} most more (joined.Merkle d) refused full overflow =
     let past = refused d refl in
-    record { why = inr (inr (full_error {T = T} (Err (joined.Merkle d)) d refl (full past), past)) }
+    record { why = inr (inr (err_of {T = T} (joined.Merkle d) (joined.Merkle (tree.LocationOverflow (2 ^ 62 + 1))) (full past), past)) }
 
 pub several_fail : {F T : Type 0} (none most : Type 0) (more : Type 0) (e : Error F) → ((d : tree_error.Error F) → IsErrOf {T = T} (Err e) (joined.Merkle d) → most)
     → (most → (none → ⊥) → IsErrOf {T = T} (Err e) (joined.Merkle (tree.LocationOverflow (2 ^ 62 + 1)))) → (none → IsErrOf {T = T} (Err e) (joined.Journal journal.EmptyAppend))
@@ -318,13 +316,10 @@ pub several_fail : {F T : Type 0} (none most : Type 0) (more : Type 0) (e : Erro
 several_fail none most more joined.Volume refused full empty overflow = record { why = inl tt }
 several_fail none most more joined.Memory refused full empty overflow = record { why = inl tt }
 several_fail none most more (joined.Journal d) refused full empty overflow = record { why = inr (inl (d, refl, overflow d refl)) }
-several_fail none most more (joined.Merkle d) refused full empty overflow =
+several_fail {T = T} none most more (joined.Merkle d) refused full empty overflow =
     let past = refused d refl in
     let of = full past (λ is. let bad = empty is in cc) in
-    record { why = inr (inr (of_err (joined.Merkle d) (joined.Merkle (tree.LocationOverflow (2 ^ 62 + 1))) of, past)) }
-  where
-    of_err : {F T : Type 0} (x y : Error F) → IsErrOf {T = T} (Err x) y → x ≡ y
-    of_err x y is = cc
+    record { why = inr (inr (err_of {T = T} (joined.Merkle d) (joined.Merkle (tree.LocationOverflow (2 ^ 62 + 1))) of, past)) }
 
 pub size_some : (d : JournalError) → d ≡ journal.SizeOverflow → IsSome (unwrapped d)
 size_some d is = subst (λ x. IsSome (unwrapped x)) (sym is) refl
@@ -341,19 +336,11 @@ several_of none more d (inl empty) = (several_some none more d (inl empty), subs
 several_of none more d (inr size) = (several_some none more d (inr size), subst IsOfAppend (sym size.0) refl)
 
 -- what is answered for a tree that is full, or would be past that
-err_of : {E T : Type 0} (x y : E) → IsErrOf {T = T} (Err x) y → x ≡ y
-err_of x y is = cc
-
 some_of : {E : Type 0} (x y : E) → Some x ≡ Some y → y ≡ x
 some_of x y is = cc
 
 pub past_lowered : {F S T : Type 0} (e : Error F) (d : JournalError) → lowered e ≡ Some d → IsErrOf {T = S} (Err e) (joined.Merkle (tree.LocationOverflow (2 ^ 62 + 1))) → IsErrOf {T = T} (Err d) (journal.Tree (cause.LocationOverflow (2 ^ 62 + 1)))
 past_lowered {S = S} e d is at = ap Err (some_of (journal.Tree (cause.LocationOverflow (2 ^ 62 + 1))) d (ap lowered (sym (err_of {T = S} e (joined.Merkle (tree.LocationOverflow (2 ^ 62 + 1))) at)) ∙ is))
-
-pub full_lowered : {F S T : Type 0} (e : Error F) (d : JournalError) → lowered e ≡ Some d → (IsErrOf {T = S} (Err e) joined.Memory) ⊎ (IsErrOf {T = S} (Err e) (joined.Merkle (tree.LocationOverflow (2 ^ 62 + 1))))
-    → (IsErrOf {T = T} (Err d) journal.Memory) ⊎ (IsErrOf {T = T} (Err d) (journal.Tree (cause.LocationOverflow (2 ^ 62 + 1))))
-full_lowered {S = S} e d is (inl memory) = inl (ap Err (some_of journal.Memory d (ap lowered (sym (err_of {T = S} e joined.Memory memory)) ∙ is)))
-full_lowered {S = S} {T = T} e d is (inr past) = inr (past_lowered {S = S} {T = T} e d is past)
 
 pub own_stays : {F S T : Type 0} (e : Error F) (d x : JournalError) → unwrapped x ≡ Some x → lowered e ≡ Some d → IsErrOf {T = S} (Err e) (joined.Journal x) → IsErrOf {T = T} (Err d) x
 own_stays {S = S} e d x itself is at = ap Err (some_of x d (sym itself ∙ ap lowered (sym (err_of {T = S} e (joined.Journal x) at)) ∙ is))

@@ -13,15 +13,15 @@ use crate::items::encodings_from;
 use crate::leaves::sealed_leaves;
 use crate::segment::Segment;
 use crate::{Error, Journal, MerkleizedBatch};
-use codec_base::{Bytes, encode};
-use journal_base::{Backing, encode_all};
+use codec_base::Bytes;
+use journal_base::{Backing, encode_all, encode_one};
 use std::alloc::Global;
 use std::rc::Rc;
 use tree_core::{Family, Hasher, Location, MAX_LEAVES};
 use volume_base::{JournalError, Volume};
 
-/// The journal with the items of which these are the encodings behind its own, by one append, and where the first of them
-/// stands; of none nothing is written. It refuses with `SizeOverflow` where the end would pass 2^64 - 1.
+/// The journal with the items of which these are the encodings behind its own, by one append, and where the first of
+/// them stands; of none nothing is written. It refuses with `SizeOverflow` where the end would pass 2^64 - 1.
 fn append_to<C: Backing, V: Volume>(
     journal: C,
     vol: &mut V,
@@ -45,7 +45,8 @@ fn append_to<C: Backing, V: Volume>(
     journal.append_encoded(vol, encodings)
 }
 
-/// The same, without where they stand.
+/// The journal with the items of which these are the encodings behind its own, by one append; of none nothing is
+/// written. It refuses with `SizeOverflow` where the end would pass 2^64 - 1.
 fn appended<C: Backing, V: Volume>(
     journal: C,
     vol: &mut V,
@@ -63,8 +64,8 @@ fn appended<C: Backing, V: Volume>(
     Ok(journal)
 }
 
-/// The journal with the items of the lists from this one on behind its own, by one append; of no items nothing is written. It
-/// refuses with `SizeOverflow` where the end would pass 2^64 - 1.
+/// The journal with the items of the lists from this one on behind its own, by one append; of no items nothing is
+/// written. It refuses with `SizeOverflow` where the end would pass 2^64 - 1.
 fn append_from<C: Backing, V: Volume>(
     alloc: Global,
     journal: C,
@@ -98,10 +99,10 @@ impl<F: Family, C: Backing, H: Hasher> Journal<F, C, H> {
     ghost use Rattle.tree_store.specs.Stored.{size};
     ghost use Rattle.tree_store.specs.declared.error.Error as tree_error;
     ghost use Rattle.tree_store.specs.declared.error.Error.TheVariants.{LocationOverflow};
-    ghost use Rattle.volume_base.specs.Moments.{Image, present};
+    ghost use Rattle.volume_base.specs.Moments.{present};
     ghost use Rattle.volume_base.specs.declared.error.JournalError.TheVariants.{EmptyAppend};
     ghost use Rattle.merkle_full.specs.Full.{IsBeside, IsSeated};
-    ghost use Rattle.auth_journal.specs.Appending.{unapplied, IsNamed, NamesUnwritten};
+    ghost use Rattle.auth_journal.specs.Appending.{unapplied, NamesUnwritten};
     ghost use Rattle.auth_journal.specs.Batched.{IsSealedOfItems};
     ghost use Rattle.auth_journal.specs.Errors.{IsLifted};
     ghost use Rattle.auth_journal.specs.Joined.{IsJoinedOf, IsSameJoin};
@@ -207,10 +208,7 @@ impl<F: Family, C: Backing, H: Hasher> Journal<F, C, H> {
             self (V.state vol.old) (V.state vol.new) }
     {
         self.check_room(1)?;
-        let encoding = match encode(self.alloc, item) {
-            Ok(encoding) => encoding,
-            Err(_) => return Err(Error::Memory),
-        };
+        let encoding = encode_one(self.alloc, item)?;
         let (made, position) = self.put(vol, &[encoding])?;
         Ok((made, Location::new(position)))
     }

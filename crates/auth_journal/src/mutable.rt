@@ -15,7 +15,7 @@ fn has_moved(start: u64, later: u64, boundary: u64, next: u64) -> bool
 }
 
 impl<F: Family, C: Backing, H: Hasher> Mutable for Journal<F, C, H> {
-    ghost use Rattle.std.specs.Prelude.{◌≡◌, ◌+◌, ◌≤◌, ◌-◌, ◌^◌, ℕ, List, [], ◌∷◌, ◌++◌, map, length, true, false, Err, IfOk, IfErr, OnOk, IsErrOf};
+    ghost use Rattle.std.specs.Prelude.{◌≡◌, ◌+◌, ◌≤◌, ◌-◌, ◌^◌, List, [], ◌∷◌, ◌++◌, map, length, true, false, Err, IfOk, IfErr, OnOk, IsErrOf};
     ghost use Rattle.std.specs.FinMap as finmap;
     ghost use Rattle.codec_base.specs.Causes.{Rose};
     ghost use Rattle.journal_base.specs.Answers.{IsOfVolume, IsOfSize, IsOfAppend, RefusesUnwritten};
@@ -30,7 +30,7 @@ impl<F: Family, C: Backing, H: Hasher> Mutable for Journal<F, C, H> {
     ghost use Rattle.volume_base.specs.Names.{log_alone, NamesCall};
     ghost use Rattle.volume_base.specs.Volume.{OnlyLeft, Writes, Changes};
     ghost use Rattle.volume_base.specs.declared.error.JournalError.{JournalError};
-    ghost use Rattle.volume_base.specs.declared.error.JournalError.TheVariants.{EmptyAppend, SizeOverflow, Tree, Volume, Memory};
+    ghost use Rattle.volume_base.specs.declared.error.JournalError.TheVariants.{EmptyAppend, SizeOverflow, Tree, Volume};
     ghost use Rattle.volume_base.specs.declared.error.TreeCause.TheVariants.{LocationOverflow};
     ghost use Rattle.auth_journal.specs.Durable.{IsFlushed, IsStarted, IsPrunedTo, IsFromTree, IsJournalUnpruned};
     ghost use Rattle.auth_journal.specs.Errors.{IsLowered};
@@ -47,8 +47,8 @@ impl<F: Family, C: Backing, H: Hasher> Mutable for Journal<F, C, H> {
     fn append<V: Volume>(self, vol: &mut V, item: &C::Item) -> Result<(Self, u64), JournalError>
         ensures overflow { let end = end_of (log_of self.items (V.state vol.old)) in
             V.tells → IsErrOf result SizeOverflow → end ≡ 2 ^ 64 - 1 }
-        ensures full { self.tree.tree.leaves ≡ 2 ^ 62 → (vol.new ≡ vol.old)
-            × ((result ≡ Err Memory) ⊎ (result ≡ Err (Tree (LocationOverflow (2 ^ 62 + 1))))) }
+        ensures full { self.tree.tree.leaves ≡ 2 ^ 62 →
+            (result ≡ Err (Tree (LocationOverflow (2 ^ 62 + 1)))) × (vol.new ≡ vol.old) }
         ensures fits { OnOk result (V.tells → end_of (log_of self.items (V.state vol.old)) < 2 ^ 64 - 1) }
         ensures position { IfOk result (λ made. V.tells → made.1 ≡ end_of (log_of self.items (V.state vol.old))) }
         ensures made { IfOk result (λ made. SameButBounds (log_view self) (log_view made.0)) }

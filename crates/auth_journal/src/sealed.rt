@@ -9,8 +9,8 @@ use tree_core::{
     Bagging, Digest, Family, Hasher, Location, Mem, Position, Proof, Readable, Standard,
 };
 
-/// A sealed batch of items: its nodes, how their peaks are folded, and a list of items for each segment of the nodes, its own
-/// the last.
+/// A sealed batch of items: its nodes, how their peaks are folded, and a list of items with their encodings for each
+/// segment of the nodes, its own the last.
 #[derive(Drop)]
 pub struct MerkleizedBatch<F: Family, D: Digest, Item: Write + Drop> {
     pub(crate) nodes: tree_core::MerkleizedBatch<F, D>,

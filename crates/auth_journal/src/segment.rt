@@ -2,8 +2,8 @@ use codec_base::{Bytes, Write};
 use std::alloc::{AllocError, Global};
 use std::marker::Model;
 
-/// The items of one segment of a batch, in their order, and the encoding of each. It is made once, for the leaf, and
-/// goes into the log. Contracts see the items.
+/// The items of one segment of a batch, in their order, and the encoding of each. Each encoding is made once, for the
+/// leaf, and goes into the log. Contracts see the items.
 #[derive(Drop)]
 pub(crate) struct Segment<Item: Write + Drop> {
     items: Vec<Item>,
@@ -21,7 +21,7 @@ impl<Item: Write + Drop> Model for Segment<Item> {
 }
 
 impl<Item: Write + Drop> Segment<Item> {
-    ghost use Rattle.std.specs.Prelude.{◌≡◌, ◌<◌, ◌∷◌, [], ◌++◌, List, length, map, OnOk, OnErr};
+    ghost use Rattle.std.specs.Prelude.{◌≡◌, ◌∷◌, [], ◌++◌, List, map, OnOk, OnErr};
 
     /// A segment of no items.
     pub(crate) fn new(alloc: Global) -> Self

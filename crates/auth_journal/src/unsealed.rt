@@ -1,14 +1,15 @@
 use crate::items::keep_from;
 use crate::segment::Segment;
 use crate::{Error, MerkleizedBatch};
-use codec_base::{Write, encode};
+use codec_base::Write;
+use journal_base::encode_one;
 use std::alloc::Global;
 use std::marker::Model;
 use std::rc::Rc;
 use tree_core::{Family, Hasher, Location, MAX_LEAVES, Position, Standard};
 
-/// A batch that still takes items: its nodes, how leaves are hashed and peaks folded, the lists of its kept ancestors, and its own
-/// items.
+/// A batch that still takes items: its nodes, how leaves are hashed and peaks folded, the lists of its kept ancestors,
+/// and its own items, each list with the encodings of its items.
 #[derive(Drop)]
 pub struct UnmerkleizedBatch<F: Family, H: Hasher, Item: Write + Drop> {
     nodes: tree_core::UnmerkleizedBatch<F, H::Digest>,
@@ -101,10 +102,7 @@ impl<F: Family, H: Hasher, Item: Write + Drop> UnmerkleizedBatch<F, H, Item> {
             let past = Location::new(MAX_LEAVES + 1);
             return Err(Error::Merkle(tree_core::Error::LocationOverflow(past)));
         }
-        let encoding = match encode(self.own.allocator(), &item) {
-            Ok(encoding) => encoding,
-            Err(_) => return Err(Error::Memory),
-        };
+        let encoding = encode_one(self.own.allocator(), &item)?;
         let position = Position::<F>::new(F::position(place, 0));
         let leaf = self.hasher.leaf_digest(position, encoding.as_slice());
         self.own.push(item, encoding)?;

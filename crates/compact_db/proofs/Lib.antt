@@ -21,3 +21,4 @@ pub mod ProvingLemmas
 pub mod MarkLemmas
 pub mod SetLemmas
 pub mod ImageLemmas
+pub mod PinnedLemmas

@@ -5,8 +5,11 @@ use Rattle.std.proofs.lemmas.Bool.Decides.{nat_tests}
 use Rattle.std.proofs.lemmas.List.{length-take, length-append}
 use Rattle.codec_base.specs.declared.error.CodecError.{CodecError}
 use Rattle.tree_shape.specs.Hashing.{Hashing}
-use Rattle.tree_shape.specs.Shape.{Shape, peaks}
+use Rattle.tree_shape.specs.Shape.{Shape, IsLawful, inactive, peaks}
 use Rattle.tree_shape.specs.Slow.{leaf, node_of}
+use Rattle.tree_proof.specs.Cover.{meets}
+use Rattle.tree_proof.specs.SlowProof.{proof_of}
+use Rattle.tree_proof.specs.declared.proof.Proof.{Proof}
 use Rattle.tree_core.specs.Tree.{Tree, IsOf}
 use Rattle.log_model.specs.Meaning.{Meaning}
 use Rattle.log_model.specs.Operations.{floor_of, leaves_from}
@@ -14,13 +17,15 @@ use Rattle.log_model.specs.Good.{EndsWithCommit}
 use Rattle.log_model.specs.Witness.{last_bytes}
 use Rattle.log_model.proofs.OperationLemmas.{length-leaves_from}
 use Rattle.witness_store.specs.declared.witness.Witness.{Witness}
+use Rattle.compact_db.specs.Pinned.{ProvesCommit}
 use Rattle.compact_db.specs.Rebuild.{operation_answer, rebuild_answer}
 use Rattle.compact_db.specs.StateOf.{IsRestored, IsStateOf, verified_of}
-use Rattle.compact_db.specs.Verified.{verified_leaves}
+use Rattle.compact_db.specs.Verified.{verified_leaves, IsShownOf}
 use Rattle.compact_db.specs.WitnessOf.{witness_of}
 use Rattle.compact_db.specs.declared.verified.VerifiedWitness.{VerifiedWitness}
 use Rattle.compact_db.proofs.SealLemmas.{ends_last, floor_last}
 use Rattle.compact_db.proofs.ListLemmas.{Parted, part, leaves_ended}
+use Rattle.compact_db.proofs.WitnessLemmas.{made_is}
 
 lt_true : (m n : ℕ) → m < n → nat_lt m n ≡ true
 lt_true m n h = grind (arith, nat_tests)
@@ -76,18 +81,33 @@ module _ {F D Op V : Type 0} (s : Shape) (h : Hashing D) (m : Meaning Op V) (adm
       ap (λ bytes. leaves_from s h m 0 Before ++ (leaf s h (length (leaves_from s h m 0 Before)) bytes ∷ [])) last_is
       ∙ sym (leaves_ended s h m Before parted.last) ∙ ap (leaves_from s h m 0) (sym parted.parted)
 
+  floor_is : (commit : Op) (floor : ℕ) → commit ≡ parted.last → m.floor commit ≡ Some floor → floor ≡ floor_of m ops
+  floor_is commit floor here floored = sym (parted.floor ∙ floor_one (sym (ap m.floor here) ∙ floored))
+    where
+      floor_one : m.floor parted.last ≡ Some floor → floor_of m (parted.last ∷ []) ≡ floor
+      floor_one e = rw e refl
+
   -- what is derived of the leaves before it and of its own is derived of the list
   pub verified_is : (commit : Op) (floor : ℕ) → commit ≡ parted.last → m.floor commit ≡ Some floor
       → verified_leaves {F = F} s h (leaves_from s h m 0 Before ++ (leaf s h (length (leaves_from s h m 0 Before)) w.op_bytes ∷ [])) w.op_bytes floor ≡ verified_of s h m ops
   verified_is commit floor here floored =
       let bytes : w.op_bytes ≡ last_bytes s h m ops (length ops) = ap (λ (x : Witness F D). x.op_bytes) is in
-      let low : floor ≡ floor_of m ops = sym (parted.floor ∙ floor_one (sym (ap m.floor here) ∙ floored)) in
       ap (λ ds. verified_leaves {F = F} s h ds w.op_bytes floor) leaves_are
       ∙ ap (λ bs. verified_leaves {F = F} s h (leaves_from s h m 0 ops) bs floor) bytes
-      ∙ ap (verified_leaves {F = F} s h (leaves_from s h m 0 ops) (last_bytes s h m ops (length ops))) low
-    where
-      floor_one : m.floor parted.last ≡ Some floor → floor_of m (parted.last ∷ []) ≡ floor
-      floor_one e = rw e refl
+      ∙ ap (verified_leaves {F = F} s h (leaves_from s h m 0 ops) (last_bytes s h m ops (length ops))) (floor_is commit floor here floored)
+
+  -- and the proof of its commit is the list's
+  pub shown_is : IsLawful s → (commit : Op) (floor : ℕ) (v : Witness F D) (proof : Proof F D) → commit ≡ parted.last → m.floor commit ≡ Some floor → v ≡ w
+      → ProvesCommit s h w floor proof → IsShownOf v proof (verified_of s h m ops)
+  shown_is lawful commit floor v proof here floored same of =
+      let leaves = leaves_from s h m 0 ops in
+      let whole : w.size ≡ length leaves = size_is ∙ sym (length-leaves_from s h m 0 ops) in
+      let proves = of.proves (leaves_from s h m 0 Before) (front_count (w.size - 1) refl) (front_pins (w.size - 1) w.pinned_nodes refl refl) in (
+        same ∙ is ∙ sym (made_is s h m lawful ops),
+        proves ∙ ap (λ ds. proof_of s h ds (inactive s w.size floor) (meets (w.size - 1) w.size)) leaves_are
+            ∙ ap (λ f. proof_of s h leaves (inactive s w.size f) (meets (w.size - 1) w.size)) (floor_is commit floor here floored)
+            ∙ ap (λ n. proof_of s h leaves (inactive s n (floor_of m ops)) (meets (n - 1) n)) whole,
+      )
 
   pub commit_last : (commit : Op) → commit ≡ parted.last → slice_get ops (length ops - 1) ≡ Some commit
   commit_last commit here = parted.here ∙ ap Some (sym here)

@@ -14,3 +14,4 @@ pub mod Serving
 pub mod Opening
 pub mod Writing
 pub mod Proving
+pub mod Pinned

@@ -1,5 +1,5 @@
 //! How a batch is applied to a compact database.
-ghost use Rattle.std.specs.Prelude.{◌≡◌, ◌⊎◌, ◌<◌, ◌≤◌, ◌^◌, ◌++◌, ◌∷◌, [], ℕ, List, length, Some, true, false, Ok, IfOk, IfErr, IsErrOf, Contains};
+ghost use Rattle.std.specs.Prelude.{◌≡◌, ◌⊎◌, ◌<◌, ◌^◌, ◌++◌, ◌∷◌, [], ℕ, List, length, IfOk, IfErr, IsErrOf};
 ghost use Rattle.tree_core.specs.Applied.{FitsTree, Fits};
 ghost use Rattle.tree_core.specs.Batches.{IsSealedOf};
 ghost use Rattle.tree_core.specs.Tree.{IsOf};

@@ -86,7 +86,7 @@ impl<F: Family, O: CompactOperation, H: Hasher> UnmerkleizedBatch<F, O, H> {
 }
 
 impl<F: Family, O: CompactOperation, D: Digest> MerkleizedBatch<F, O, D> {
-    ghost use Rattle.std.specs.Prelude.{◌≡◌, ◌<◌, ◌-◌, ◌^◌, [], ◌++◌, List, Some, IfOk, OnOk, OnErr, IsOkUnless};
+    ghost use Rattle.std.specs.Prelude.{◌≡◌, ◌<◌, ◌-◌, ◌^◌, [], List, Some, IfOk, OnOk, OnErr, IsOkUnless};
     ghost use Rattle.chain_core.specs.Reached.{item_at};
     ghost use Rattle.chain_core.specs.Slots.{IsAlive, holds_of, link_held};
     ghost use Rattle.tree_core.specs.Batches.{IsChildOf};

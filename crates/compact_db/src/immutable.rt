@@ -82,7 +82,9 @@ impl<F: Family, K: Key, V: Codec<K>> CompactOperation for Operation<F, K, V> {
     }
 
     fn into_operations(pending: Sets<K, V::Value>) -> Result<Vec<Self>, CodecError> {
-        let mut operations = Vec::new(pending.alloc);
+        // With room for the commit.
+        let room = pending.values.len().saturating_add(1);
+        let mut operations = Vec::with_capacity(pending.alloc, room)?;
         for (key, value) in pending.values {
             operations.push(Operation::Set(key, value))?;
         }

@@ -1,7 +1,6 @@
 //! The compact database of a log without keys.
-ghost use Rattle.std.specs.Prelude.{◌≡◌, ◌≤◌, ◌<◌, ◌+◌, ◌^◌, ◌++◌, ◌∷◌, [], length, Some, Err, OnOk, OnErr, IsOkUnless};
+ghost use Rattle.std.specs.Prelude.{◌≡◌, ◌≤◌, ◌<◌, ◌+◌, ◌^◌, length, Some, Err, OnOk, OnErr, IsOkUnless};
 ghost use Rattle.op_codec.specs.Keyless.{floor_of, value_of};
-ghost use Rattle.op_codec.specs.declared.keyless.Operation.TheVariants.{Append};
 ghost use Rattle.tree_store.specs.declared.error.Error.TheVariants.{LocationOverflow};
 ghost use Rattle.compact_db.specs.Keyless.{with_append};
 
@@ -39,8 +38,9 @@ impl<F: Family, V: Codec> CompactOperation for Operation<F, V> {
     }
 
     fn into_operations(pending: Vec<V::Value>) -> Result<Vec<Self>, CodecError> {
-        let alloc = *pending.allocator();
-        let mut operations = Vec::new(alloc);
+        // With room for the commit.
+        let room = pending.len().saturating_add(1);
+        let mut operations = Vec::with_capacity(*pending.allocator(), room)?;
         for value in pending {
             operations.push(Operation::Append(value))?;
         }

@@ -13,6 +13,7 @@ pub mod keyless;
 mod laws;
 mod opening;
 mod operation;
+mod pinned;
 mod places;
 mod proving;
 mod pruning;

@@ -1,5 +1,5 @@
 //! The state of a database, made of its witness.
-ghost use Rattle.std.specs.Prelude.{◌≡◌, ◌+◌, ◌-◌, ◌^◌, ◌<◌, ◌≤◌, ◌++◌, ◌∷◌, [], List, length, map, slice_get, Ok, Err, Some, IfOk, IsOkUnless};
+ghost use Rattle.std.specs.Prelude.{◌≡◌, ◌+◌, ◌-◌, ◌^◌, ◌<◌, ◌≤◌, ◌++◌, ◌∷◌, [], ℕ, List, length, map, slice_get, Ok, Some, IfOk, IsOkUnless};
 ghost use Rattle.codec_base.specs.Parts.{whole};
 ghost use Rattle.tree_shape.specs.Shape.{peaks};
 ghost use Rattle.tree_shape.specs.Slow.{leaf, node_of};
@@ -7,11 +7,13 @@ ghost use Rattle.tree_core.specs.Tree.{IsOf};
 ghost use Rattle.log_model.specs.Good.{EndsWithCommit};
 ghost use Rattle.merkle_compact.specs.Frontier.{IsFrontier};
 ghost use Rattle.compact_db.specs.Derived.{ArePinsIn};
+ghost use Rattle.compact_db.specs.Pinned.{ProvesCommit};
 ghost use Rattle.compact_db.specs.Rebuild.{operation_answer, rebuild_answer, RefusedOnlyAs};
 ghost use Rattle.compact_db.specs.StateOf.{IsRestored, IsStateOf, verified_of};
 ghost use Rattle.compact_db.specs.Verified.{IsShownOf};
 ghost use Rattle.compact_db.specs.WitnessOf.{witness_of};
 
+use crate::pinned::pinned_proof;
 use crate::verified::{Shown, shown_in};
 use crate::{CompactOperation, VerifiedWitness, build_witness};
 use chain_core::{DataFault, Error};
@@ -139,6 +141,31 @@ fn commit_of<F: Family, O: CompactOperation, D: Digest>(
     Ok((commit, Location::new(floor)))
 }
 
+/// What is shown of the state of a witness whose commit has this floor. Nothing is hashed where the pins have each node
+/// that the proof takes. It refuses with `Memory` alone.
+fn shown_under<F: Family, H: Hasher>(
+    alloc: Global,
+    witness: Witness<F, H::Digest>,
+    floor: Location<F>,
+) -> Result<Shown<F, H::Digest>, Error<F>>
+    requires some { 0 < witness.size }
+    requires few { witness.size ≤ 2 ^ 62 }
+    requires counted { length witness.pinned_nodes ≡ length (F.shape.heights (witness.size - 1)) }
+    ensures witness { IfOk result (λ v. v.witness ≡ witness) }
+    ensures proof { IfOk result (λ v. ProvesCommit F.shape H.hash witness floor v.proof) }
+    ensures memory { IsOkUnless result Error.Memory }
+{
+    let below = Location::new(floor.as_u64());
+    if let Some(proof) = pinned_proof::<F, H::Digest>(alloc, &witness, below)? {
+        return Ok(Shown { witness, proof });
+    }
+    let before = witness.size.as_u64() - 1;
+    let pins = witness.pinned_nodes.into_vec();
+    let merkle = tree_with_commit::<F, H>(alloc, before, pins, &witness.op_bytes)?;
+    let shown = shown_in::<F, H>(alloc, &merkle, floor, witness.op_bytes)?;
+    Ok(shown)
+}
+
 /// What is shown of the state of a witness, and its commit. No root is folded. It refuses as `rebuild`.
 pub(crate) fn shown_of<F: Family, O: CompactOperation, H: Hasher>(
     alloc: Global,
@@ -152,6 +179,9 @@ pub(crate) fn shown_of<F: Family, O: CompactOperation, H: Hasher>(
         rebuild_answer F.shape O.meaning (λ bytes. whole (O.reads codec.now bytes)) witness in
         RefusedOnlyAs answer result }
     ensures witness { IfOk result (λ r. r.0.witness ≡ witness) }
+    // Of any witness, it is the proof of the commit by the witness's pins.
+    ensures proof { IfOk result (λ r. (floor : ℕ) → O.meaning.floor r.1 ≡ Some floor →
+        ProvesCommit F.shape H.hash witness floor r.0.proof) }
     // Of the witness of a list, whose commit is allowed, it is what is shown of the list's state.
     ensures list { IfOk result (λ r. (ops : List O) → EndsWithCommit O.meaning ops → length ops ≤ 2 ^ 62 →
         ((op : O) → slice_get ops (length ops - 1) ≡ Some op → O.admits codec.now op) →
@@ -160,10 +190,7 @@ pub(crate) fn shown_of<F: Family, O: CompactOperation, H: Hasher>(
         × (slice_get ops (length ops - 1) ≡ Some r.1)) }
 {
     let (commit, floor) = commit_of::<F, O, H::Digest>(alloc, codec, &witness)?;
-    let before = witness.size.as_u64() - 1;
-    let pins = witness.pinned_nodes.into_vec();
-    let merkle = tree_with_commit::<F, H>(alloc, before, pins, &witness.op_bytes)?;
-    let shown = shown_in::<F, H>(alloc, &merkle, floor, witness.op_bytes)?;
+    let shown = shown_under::<F, H>(alloc, witness, floor)?;
     Ok((shown, commit))
 }
 

@@ -52,6 +52,7 @@ fn leaves_of<F: Family, O: Logged, H: Hasher>(
 {
     let last = operations.len() - 1;
     let mut leaves = Vec::with_capacity(alloc, operations.len())?;
+    // This buffer is used again for each operation before the last; that of the last is kept.
     let mut buffer = Bytes::new(alloc);
     for i in 0..last {
         let place = first + i as u64;
@@ -108,7 +109,8 @@ fn hashed<F: Family, O: Logged, H: Hasher>(
         floor ≡ floor_of O.meaning (list ++ operations.now) →
         r.root ≡ root_of F.shape H.hash O.meaning (list ++ operations.now)) }
     ensures segments { IfOk result (λ r.
-        IsSealedFrom (with_digests tree (leaves_from F.shape H.hash O.meaning tree.base operations.now)) reached r.tree) }
+        IsSealedFrom (with_digests tree (leaves_from F.shape H.hash O.meaning tree.base operations.now)) reached
+        r.tree) }
     ensures bytes { IfOk result (λ r. AreLastBytes O.spelling operations.now r.commit_bytes) }
     ensures memory { IsOkUnless result Error.Memory }
 {

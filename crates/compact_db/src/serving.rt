@@ -1,20 +1,18 @@
 //! What a compact database serves: the kept states, their commits and the proofs of these.
-ghost use Rattle.std.specs.Prelude.{◌≡◌, ◌≢◌, ◌⊎◌, ◌<◌, ◌≤◌, ◌-◌, ℕ, List, [], length, drop, take, true, false, Some, None, Ok, Err, slice_get, IsOk, IfOk, IfErr, IfSome, IsErrOf, IsOkUnless};
+ghost use Rattle.std.specs.Prelude.{◌≡◌, ◌≢◌, ◌⊎◌, ◌<◌, ◌-◌, ℕ, List, [], drop, take, true, false, Some, Ok, Err, slice_get, IsOk, IfOk, IfErr, IsOkUnless};
 ghost use Rattle.codec_base.specs.Parts.{whole};
-ghost use Rattle.journal_base.specs.Answers.{IsOfRead};
-ghost use Rattle.journal_base.specs.Items.{IsCorrupt};
-ghost use Rattle.journal_base.specs.View.{IsHeld, IsWithin};
+ghost use Rattle.journal_base.specs.View.{IsWithin};
 ghost use Rattle.volume_base.specs.Volume.{Reads};
 ghost use Rattle.volume_base.specs.declared.error.JournalError.TheVariants as journal_error;
 ghost use Rattle.chain_core.specs.Answers.{IsOutside};
-ghost use Rattle.chain_core.specs.declared.error.Error.TheVariants as error;
 ghost use Rattle.target_codec.specs.Request.{size_of, start_of};
 ghost use Rattle.witness_store.specs.Searched.{IsWitnessAt, LooksFew};
-ghost use Rattle.witness_store.specs.Witnesses.{witnesses_of, Keeps, IsKept};
-ghost use Rattle.compact_db.specs.DbView.{IsOfList, seen_log, waits};
+ghost use Rattle.witness_store.specs.Witnesses.{witnesses_of};
+ghost use Rattle.compact_db.specs.DbView.{seen_log, waits};
 ghost use Rattle.compact_db.specs.Held.{IsHeldFor};
+ghost use Rattle.compact_db.specs.Pinned.{ProvesCommit};
 ghost use Rattle.compact_db.specs.Rebuild.{rebuild_answer};
-ghost use Rattle.compact_db.specs.Serving.{IsKeptAt, has_size, is_kept, kept_answer, serve_answer, response_to, AnswersAs, IsDamaged, IsLogFault, IsRebuiltAt};
+ghost use Rattle.compact_db.specs.Serving.{has_size, is_kept, kept_answer, serve_answer, response_to, AnswersAs, IsDamaged, IsLogFault, IsRebuiltAt};
 ghost use Rattle.compact_db.specs.StateOf.{verified_of};
 ghost use Rattle.compact_db.specs.Verified.{IsShownOf};
 ghost use Rattle.compact_db.specs.WitnessOf.{witness_of};
@@ -95,8 +93,8 @@ fn copied<F: Family, D: Digest>(proof: &Proof<F, D>) -> Result<Proof<F, D>, Erro
 
 impl<F: Family, O: CompactOperation, H: Hasher> CompactDb<F, O, H> {
     /// What is shown of the kept state of exactly so many operations, and its commit. It refuses with
-    /// `Journal(ItemPruned)` of its commit where no such witness is kept, and while an import waits; with a fault of the
-    /// log; or as `rebuild` does.
+    /// `Journal(ItemPruned)` of its commit where no such witness is kept, and while an import waits; with a fault of
+    /// the log; or as `rebuild` does.
     fn state_at<V: Volume>(
         &self,
         vol: &mut V,
@@ -123,6 +121,9 @@ impl<F: Family, O: CompactOperation, H: Hasher> CompactDb<F, O, H> {
             IfOk result (λ r. V.tells → IsWithin view (V.state vol.old) →
             (v : VerifiedWitness F H.Digest) → v.witness ≡ r.0.witness →
             IsRebuiltAt F.shape O.meaning (λ bytes. whole (O.reads self.now.codec bytes)) items size v r.1) }
+        // On any contents its proof is of that witness's commit, by the witness's pins.
+        ensures proof { IfOk result (λ r. (floor : ℕ) → O.meaning.floor r.1 ≡ Some floor →
+            ProvesCommit F.shape H.hash r.0.witness floor r.0.proof) }
         ensures list { IfOk result (λ r. V.tells → (ops : List O) (sizes : List ℕ) →
             IsHeldFor F.shape H.hash O.meaning H.Digest.spelling (H.Digest.admits tt) ops sizes self.now
             (V.state vol.old) →
@@ -201,13 +202,15 @@ impl<F: Family, O: CompactOperation, H: Hasher> CompactDb<F, O, H> {
             size_of request ≢ self.now.tip.witness.size →
             IsOk (rebuild_answer {F = F} F.shape O.meaning (λ bytes. whole (O.reads self.now.codec bytes))
             (witness_of F.shape H.hash O.meaning ops (size_of request)))) }
-        // On any contents it is the answer of a witness of this size that stands in the log, and rebuilds.
+        // On any contents it is the answer of a witness of this size that stands in the log, and rebuilds: its proof is
+        // that of its commit, by its pins.
         ensures rebuilt { let view = seen_log self.now.log in
             let items = witnesses_of {F = F} H.Digest.spelling (H.Digest.admits tt) view (V.state vol.old) in
             IfOk result (λ r. size_of request ≢ self.now.tip.witness.size → V.tells → IsWithin view (V.state vol.old) →
             (v : VerifiedWitness F H.Digest) × (commit : O)
             × IsRebuiltAt F.shape O.meaning (λ bytes. whole (O.reads self.now.codec bytes)) items (size_of request) v
-            commit × (r ≡ response_to request v commit)) }
+            commit × ((floor : ℕ) → O.meaning.floor commit ≡ Some floor →
+            ProvesCommit F.shape H.hash v.witness floor v.proof) × (r ≡ response_to request v commit)) }
         // It is the answer of the state of so many of the list's operations, where the commit is allowed.
         ensures list { IfOk result (λ r. V.tells → (ops : List O) (sizes : List ℕ) →
             IsHeldFor F.shape H.hash O.meaning H.Digest.spelling (H.Digest.admits tt) ops sizes self.now
@@ -235,7 +238,7 @@ impl<F: Family, O: CompactOperation, H: Hasher> CompactDb<F, O, H> {
             return self.serve_tip(&request);
         }
         let (shown, commit) = match self.state_at(vol, size) {
-            Ok(rebuilt) => rebuilt,
+            Ok(kept) => kept,
             Err(error) => return Err(error),
         };
         response(

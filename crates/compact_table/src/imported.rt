@@ -114,12 +114,14 @@ where
     opened(alloc, vol)
 }
 
-/// Prints what is opened of an imported database when it is written, and builds on it.
+/// Prints what is opened of an imported database when it is written, and builds on it; then what it serves of the
+/// imported state, whose witness stands in the log.
 fn print_written<F: Family, O: Kind<F>>(
     rt: &impl Print,
     alloc: Global,
     vol: &mut MemoryVolume,
     db: Db<F, O>,
+    size: u64,
 ) -> Result<(), TableError>
 where
     O::Value: Drop,
@@ -127,7 +129,8 @@ where
     let db = reopened(alloc, vol, db)?;
     print!(rt; "  opened: ")?;
     print_state(rt, alloc, &db)?;
-    applied(rt, alloc, vol, db, (9, 11, 3))?;
+    let db = applied(rt, alloc, vol, db, (9, 11, 3))?;
+    served(rt, alloc, vol, &db, size)?;
     Ok(())
 }
 
@@ -181,7 +184,7 @@ where
     let db: Db<F, O> = imported(alloc, &mut vol, size, again)?;
     print!(rt; "  imported: ")?;
     print_state(rt, alloc, &db)?;
-    print_written(rt, alloc, &mut vol, db)
+    print_written(rt, alloc, &mut vol, db, size)
 }
 
 /// Prints what is served at a size, and what is imported of it.

@@ -184,14 +184,16 @@ pub trait Backing: Mutable {
         ensures reads { (V.state vol.new).reads ≡ (V.state vol.old).reads };
 
     /// Puts items of which these are the encodings behind the end, by one append, and answers where the first of them
-    /// stands; of none nothing is written. It refuses with `SizeOverflow` where the end would pass 2^64 - 1.
+    /// stands; of none nothing is written, and it answers the end of the view. It refuses with `SizeOverflow` where
+    /// the end would pass 2^64 - 1.
     fn append_encoded<V: Volume>(
         self,
         vol: &mut V,
         encodings: &[Bytes],
     ) -> Result<(Self, u64), JournalError>
         ensures none { length encodings.now ≡ 0 →
-            IsOk result × IfOk result (λ made. made.0 ≡ self) × (vol.new ≡ vol.old) }
+            IsOk result × (vol.new ≡ vol.old)
+            × IfOk result (λ made. (made.0 ≡ self) × (made.1 ≡ (Self.view self).end)) }
         ensures overflow { let end = end_of (log_of (Self.view self) (V.state vol.old)) in
             V.tells → IsErrOf result SizeOverflow → (end ≤ 2 ^ 64 - 1) × (2 ^ 64 - 1 < end + length encodings.now) }
         ensures fits { let end = end_of (log_of (Self.view self) (V.state vol.old)) in

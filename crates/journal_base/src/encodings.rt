@@ -7,23 +7,23 @@ use volume_base::JournalError;
 
 /// The encodings of items, in their order.
 pub fn encode_all<T: Write>(alloc: Global, items: &[T]) -> Result<Vec<Bytes>, JournalError>
-    ensures same { IfOk result (λ texts. texts.items ≡ map T.spelling items.now) }
+    ensures same { IfOk result (λ v. v.items ≡ map T.spelling items.now) }
     ensures memory { IsOkUnless result JournalError.Memory }
 {
-    let mut texts = Vec::with_capacity(alloc, items.len())?;
+    let mut encodings = Vec::with_capacity(alloc, items.len())?;
     for item in items {
-        texts.push(encode_one(alloc, item)?)?;
+        encodings.push(encode_one(alloc, item)?)?;
     }
-    Ok(texts)
+    Ok(encodings)
 }
 
 /// The encoding of an item.
-pub(crate) fn encode_one<T: Write>(alloc: Global, item: &T) -> Result<Bytes, JournalError>
-    ensures same { IfOk result (λ text. text ≡ T.spelling item.now) }
+pub fn encode_one<T: Write>(alloc: Global, item: &T) -> Result<Bytes, JournalError>
+    ensures same { IfOk result (λ encoding. encoding ≡ T.spelling item.now) }
     ensures memory { IsOkUnless result JournalError.Memory }
 {
     match encode(alloc, item) {
-        Ok(text) => Ok(text),
+        Ok(encoding) => Ok(encoding),
         Err(_) => Err(JournalError::Memory),
     }
 }

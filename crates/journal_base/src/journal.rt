@@ -98,8 +98,8 @@ impl<T: Write + EncodeSize + Read + Duplicate + Drop, K: Kind<T>> Contiguous for
     }
 
     fn read<V: Volume>(&self, vol: &mut V, position: u64) -> Result<T, JournalError> {
-        let text = vol.log_read(self.name.as_str(), position)?;
-        match decode(*self.name.allocator(), text.as_slice(), &self.codec) {
+        let bytes = vol.log_read(self.name.as_str(), position)?;
+        match decode(*self.name.allocator(), bytes.as_slice(), &self.codec) {
             Ok(item) => Ok(item),
             Err(CodecError::Memory) => Err(JournalError::Memory),
             Err(_) => Err(JournalError::Corruption(position)),
@@ -124,17 +124,17 @@ impl<T: Write + EncodeSize + Read + Duplicate + Drop, K: Kind<T>> Mutable for Jo
     }
 
     fn append<V: Volume>(self, vol: &mut V, item: &T) -> Result<(Self, u64), JournalError> {
-        let text = encode_one(*self.name.allocator(), item)?;
-        self.put(vol, &[text])
+        let encoding = encode_one(*self.name.allocator(), item)?;
+        self.put(vol, &[encoding])
     }
 
     fn append_many<V: Volume>(self, vol: &mut V, items: &[T]) -> Result<(Self, u64), JournalError> {
         if items.is_empty() {
             return Err(JournalError::EmptyAppend);
         }
-        let texts = encode_all(*self.name.allocator(), items)?;
-        let (journal, first) = self.put(vol, &texts)?;
-        Ok((journal, first + (texts.len() as u64 - 1)))
+        let encodings = encode_all(*self.name.allocator(), items)?;
+        let (journal, first) = self.put(vol, &encodings)?;
+        Ok((journal, first + (encodings.len() as u64 - 1)))
     }
 
     fn commit<V: Volume>(self, vol: &mut V) -> Result<Self, JournalError> {
@@ -207,24 +207,24 @@ impl<T: Write + EncodeSize + Read + Duplicate + Drop, K: Kind<T>> Journal<T, K> 
     pub(crate) fn put<V: Volume>(
         self,
         vol: &mut V,
-        texts: &[Bytes],
+        encodings: &[Bytes],
     ) -> Result<(Self, u64), JournalError>
-        requires some { 0 < length texts.now }
+        requires some { 0 < length encodings.now }
         ensures overflow { let end = end_of (log_of (view_of self) (V.state vol.old)) in
-            V.tells → IsErrOf result SizeOverflow → (end ≤ 2 ^ 64 - 1) × (2 ^ 64 - 1 < end + length texts.now) }
+            V.tells → IsErrOf result SizeOverflow → (end ≤ 2 ^ 64 - 1) × (2 ^ 64 - 1 < end + length encodings.now) }
         ensures fits { let end = end_of (log_of (view_of self) (V.state vol.old)) in
-            OnOk result (V.tells → end + length texts.now ≤ 2 ^ 64 - 1) }
+            OnOk result (V.tells → end + length encodings.now ≤ 2 ^ 64 - 1) }
         ensures position { let end = end_of (log_of (view_of self) (V.state vol.old)) in
             IfOk result (λ made. V.tells → made.1 ≡ end) }
-        ensures room { IfOk result (λ made. made.1 + length texts.now ≤ 2 ^ 64 - 1) }
+        ensures room { IfOk result (λ made. made.1 + length encodings.now ≤ 2 ^ 64 - 1) }
         ensures made { IfOk result (λ made. SameButBounds (view_of self) (view_of made.0)) }
         ensures held { IfOk result (λ made. V.tells → IsHeld (view_of made.0) (V.state vol.new)) }
         ensures appended { let log = log_of (view_of self) (V.state vol.old) in
-            OnOk result (V.tells → log_of (view_of self) (V.state vol.new) ≡ appended log texts.now) }
-        ensures listed { OnOk result (V.tells → (list items : List T) → map T.spelling items ≡ texts.now →
+            OnOk result (V.tells → log_of (view_of self) (V.state vol.new) ≡ appended log encodings.now) }
+        ensures listed { OnOk result (V.tells → (list items : List T) → map T.spelling items ≡ encodings.now →
             Spells T.spelling list (log_of (view_of self) (V.state vol.old)) →
             Spells T.spelling (list ++ items) (log_of (view_of self) (V.state vol.new))) }
-        ensures log { let step = Grows (log_of (view_of self) (V.state vol.old)) texts.now in
+        ensures log { let step = Grows (log_of (view_of self) (V.state vol.old)) encodings.now in
             V.tells → LogCall (view_of self).name step (V.state vol.old) (V.state vol.new) }
         ensures refused { RefusesUnwritten (V.state vol.old) (V.state vol.new) result }
         ensures errors { IfErr result IsOfSize }
@@ -232,11 +232,11 @@ impl<T: Write + EncodeSize + Read + Duplicate + Drop, K: Kind<T>> Journal<T, K> 
     {
         let name = self.name.as_str();
         let (start, end) = vol.log_bounds(name)?;
-        let count = texts.len() as u64;
+        let count = encodings.len() as u64;
         if u64::MAX - end < count {
             return Err(JournalError::SizeOverflow);
         }
-        vol.log_append(name, texts)?;
+        vol.log_append(name, encodings)?;
         let journal = Journal {
             start,
             end: end + count,

@@ -16,7 +16,7 @@ mod ticket;
 pub use append::append_all;
 pub use backing::{Backing, BackingRecovery};
 pub use contiguous::Contiguous;
-pub use encodings::encode_all;
+pub use encodings::{encode_all, encode_one};
 pub use journal::{Fixed, FixedJournal, Journal, JournalConfig, Kind, Variable, VariableJournal};
 pub use laws::{backing_laws, run_laws};
 pub use mutable::Mutable;

@@ -1,5 +1,5 @@
 //! Items that a predicate answers.
-ghost use Rattle.std.specs.Prelude.{◌≡◌, ◌≤◌, ◌<◌, ◌+◌, ◌-◌, ◌^◌, ℕ, min, MatchOption, IfSome, IfOk, IfErr, IsErrOf};
+ghost use Rattle.std.specs.Prelude.{◌≤◌, ◌<◌, ◌+◌, ◌-◌, ◌^◌, ℕ, min, MatchOption, IfSome, IfOk, IfErr, IsErrOf};
 ghost use Rattle.std.specs.Fn.{FnReturnsAt};
 ghost use Rattle.journal_base.specs.Answers.{IsOfRead, IsRefusedAt};
 ghost use Rattle.journal_base.specs.Items.{items_of, IsCorrupt};

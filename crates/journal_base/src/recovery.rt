@@ -1,4 +1,4 @@
-ghost use Rattle.std.specs.Prelude.{◌≡◌, ◌≤◌, ◌<◌, ◌+◌, ◌-◌, ◌^◌, ℕ, min, max, IfOk, IfErr, OnOk, IsErrOf};
+ghost use Rattle.std.specs.Prelude.{◌≡◌, ◌≤◌, ◌<◌, ◌+◌, ◌-◌, ℕ, min, max, IfOk, IfErr, OnOk, IsErrOf};
 ghost use Rattle.journal_base.specs.Answers.{IsOfVolume, IsOfStart, RefusesUnwritten};
 ghost use Rattle.journal_base.specs.Clears.{Clears};
 ghost use Rattle.journal_base.specs.View.{view_of, seen_of, config_of, log_of, prune_point, at_bounds, SameButBounds, capped, IsHeld, IsWithin};

@@ -353,13 +353,12 @@ built_errors size floor e (inr none) = inl none.1
 
 -- what an append of one item fails by is wrapped well
 pub append_lifted : {F T : Type 0} (full : Type 0) (e : joined_error.Error F) → ((x : tree_error.Error F) → IsErrOf {T = T} (Err e) (joined.Merkle x) → full)
-    → (full → ((let r : Result T (joined_error.Error F) = Err e in r) ≡ Err joined.Memory) ⊎ ((let r : Result T (joined_error.Error F) = Err e in r) ≡ Err (joined.Merkle (LocationOverflow (2 ^ 62 + 1)))))
+    → (full → IsErrOf {T = T} (Err e) (joined.Merkle (LocationOverflow (2 ^ 62 + 1))))
     → ((x : JournalError) → IsErrOf {T = T} (Err e) (joined.Journal x) → x ≡ journal.SizeOverflow) → IsLifted e
-append_lifted {F = F} {T = T} full (joined.Merkle x) tree is log = by (is (tree x refl))
-  where
-    by : ((let r : Result T (joined_error.Error F) = Err (joined.Merkle x) in r) ≡ Err joined.Memory) ⊎ ((let r : Result T (joined_error.Error F) = Err (joined.Merkle x) in r) ≡ Err (joined.Merkle (LocationOverflow (2 ^ 62 + 1)))) → IsLifted (joined.Merkle x)
-    by (inl a) = absurd cc
-    by (inr b) = let same : x ≡ LocationOverflow (2 ^ 62 + 1) = cc in subst (λ (d : tree_error.Error F). IsLifted (joined.Merkle d)) (sym same) tt
+append_lifted {F = F} full (joined.Merkle x) tree is log =
+    let past = is (tree x refl) in
+    let same : x ≡ LocationOverflow (2 ^ 62 + 1) = cc in
+    subst (λ (d : tree_error.Error F). IsLifted (joined.Merkle d)) (sym same) tt
 append_lifted {F = F} full (joined.Journal x) tree is log = subst (λ (d : JournalError). IsLifted {F = F} (joined.Journal d)) (sym (log x refl)) refl
 append_lifted full joined.Volume tree is log = tt
 append_lifted full joined.Memory tree is log = tt

@@ -36,6 +36,6 @@ pub use places::{Leaf, Location, MAX_LEAVES, MAX_PINNED_NODES, Node, Place, Posi
 pub use root::{backward_fold, fold_peaks, forward_fold, root_digest, root_of_peaks};
 pub use sha256::{Sha256Digest, Sha256Hasher};
 pub use slow::{slow_node, slow_peaks, slow_root};
-pub use standard::{Standard, begin, update_number};
+pub use standard::Standard;
 pub use table::table_laws;
 pub use widths::{half_width, width};

@@ -1,7 +1,8 @@
 ghost use Rattle.std.specs.Prelude.{◌≡◌, ◌≤◌, ◌+◌, ◌∷◌, length};
 ghost use Rattle.tree_shape.specs.Root.{fold_forward, fold_backward, bagged, root_input, folded_bytes, root_over};
 
-use crate::{Bagging, Digest, Hasher, Standard, begin, update_number};
+use crate::standard::{begin, update_number};
+use crate::{Bagging, Digest, Hasher, Standard};
 
 /// The first digest and the others folded to one, from the left.
 pub fn forward_fold<H: Hasher>(

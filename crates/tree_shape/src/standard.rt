@@ -5,7 +5,7 @@ use crate::{Bagging, Digest, Hasher, Position};
 use std::marker::{Model, PhantomData};
 
 /// A hasher that holds one byte.
-pub fn begin<H: Hasher>(tag: u8) -> H
+pub(crate) fn begin<H: Hasher>(tag: u8) -> H
     ensures { H.holds result (tag ∷ []) }
 {
     let mut hasher = H::new();
@@ -15,7 +15,7 @@ pub fn begin<H: Hasher>(tag: u8) -> H
 
 /// Adds a number in 8 bytes, the high one first.
 #[tactic(auto, unfolding(crate::specs::Hashing::number))]
-pub fn update_number<H: Hasher>(hasher: &mut H, n: u64)
+pub(crate) fn update_number<H: Hasher>(hasher: &mut H, n: u64)
     ensures { (m : List ℕ) → H.holds hasher.old m → H.holds hasher.new (m ++ number n) }
 {
     hasher.update(&n.to_be_bytes());

@@ -304,8 +304,8 @@ fn encodings_are_read_as_items(rt: HostRuntime) -> Result<(), Fail> {
         &items,
     )?;
     let given = gives(alloc, &mut vol, &journal, &[3, 4], &items)?;
-    let (journal, _) = journal.append_encoded(&mut vol, &[])?;
-    assert!(rt; (first, given, journal.bounds()) == (3, true, (3, 5)));
+    let (journal, end) = journal.append_encoded(&mut vol, &[])?;
+    assert!(rt; (first, given, end, journal.bounds()) == (3, true, 5, (3, 5)));
     Ok(())
 }
 

@@ -1,4 +1,3 @@
-ghost use Rattle.std.specs.Prelude.{◌≡◌};
 ghost use Rattle.codec_base.specs.Codec.{Takes};
 ghost use Rattle.op_codec.specs.Commits.{padded_at};
 ghost use Rattle.op_codec.specs.Keyless.{parts, fixed_width, fixed_spelling, fixed_admits, fixed_at, fixed_lawful, fixed_length};

@@ -1,4 +1,4 @@
-use Rattle.std.proofs.Common.{◌≡◌, ◌∷◌, [], ◌++◌, ◌^◌, ℕ, List, map, inl, inr, Err, Some, refl, sym, ◌∙◌, ap, subst, arith}
+use Rattle.std.proofs.Common.{◌≡◌, ◌∷◌, [], ◌++◌, ◌^◌, ℕ, List, map, inl, Err, Some, refl, sym, ◌∙◌, ap, subst, arith}
 use Rattle.volume_base.specs.Log.{Log}
 use Rattle.volume_base.specs.declared.error.JournalError.{JournalError}
 use Rattle.volume_base.specs.declared.error.JournalError.TheVariants as journal
@@ -7,7 +7,7 @@ use Rattle.journal_base.specs.Items.{Spells}
 use Rattle.journal_base.specs.View.{log_of}
 use Rattle.journal_base.proofs.ItemLemmas.{spells_appended}
 use Rattle.auth_journal.specs.Joined.{Joined}
-use Rattle.auth_journal.proofs.LowerLemmas.{one_fails, append_lowers, append_lowered, own_lowered, size_some, size_of, volume_of_size, unwritten_lowered, full_lowered}
+use Rattle.auth_journal.proofs.LowerLemmas.{one_fails, append_lowers, append_lowered, own_lowered, size_some, size_of, volume_of_size, unwritten_lowered, past_lowered}
 use Rattle.auth_journal.proofs.MutableLemmas.{same_view, held_view, writes_done, writes_lowered}
 use Rattle.volume_base.specs.Names.{log_alone}
 use Rattle.volume_base.specs.Log.{Grows}
@@ -17,13 +17,13 @@ use Rattle.auth_journal.proofs.mutable.JournalMutable.append.Goals as goal
 pub lower-requires : goal.lower-requires
 lower-requires g c =
     let leaves = c.args.self.tree.tree.leaves in
-    let fails = one_fails {F = g.row.F.Denot} {T = (Joined g.row.H-Digest.Denot g.row.C-Item-Cfg.Denot) × ℕ} (leaves ≡ 2 ^ 62) _ c.in-Err.error c.in-Err.ensures.refused (λ full. inr (c.in-Err.ensures.full full).0) c.in-Err.ensures.overflow in
+    let fails = one_fails {F = g.row.F.Denot} {T = (Joined g.row.H-Digest.Denot g.row.C-Item-Cfg.Denot) × ℕ} (leaves ≡ 2 ^ 62) _ c.in-Err.error c.in-Err.ensures.refused (λ full. (c.in-Err.ensures.full full).0) c.in-Err.ensures.overflow in
     append_lowers (leaves ≡ 2 ^ 62) (λ (d : JournalError). d ≡ journal.SizeOverflow) c.in-Err.error size_some fails
 
 pub returns-in-Err-clause-overflow : goal.returns-in-Err-clause-overflow
 returns-in-Err-clause-overflow g c tells is =
     let leaves = c.args.self.tree.tree.leaves in
-    let fails = one_fails {F = g.row.F.Denot} {T = (Joined g.row.H-Digest.Denot g.row.C-Item-Cfg.Denot) × ℕ} (leaves ≡ 2 ^ 62) _ c.in-Err.error c.in-Err.ensures.refused (λ full. inr (c.in-Err.ensures.full full).0) c.in-Err.ensures.overflow in
+    let fails = one_fails {F = g.row.F.Denot} {T = (Joined g.row.H-Digest.Denot g.row.C-Item-Cfg.Denot) × ℕ} (leaves ≡ 2 ^ 62) _ c.in-Err.error c.in-Err.ensures.refused (λ full. (c.in-Err.ensures.full full).0) c.in-Err.ensures.overflow in
     let here : c.lower.result ≡ journal.SizeOverflow = cc in
     let own = own_lowered (leaves ≡ 2 ^ 62) (λ (d : JournalError). d ≡ journal.SizeOverflow) c.in-Err.error journal.SizeOverflow size_some tt fails (c.lower.ensures ∙ ap Some here) in
     (c.in-Err.ensures.overflow journal.SizeOverflow (ap Err own)).1 tells
@@ -31,7 +31,7 @@ returns-in-Err-clause-overflow g c tells is =
 pub returns-in-Err-clause-full : goal.returns-in-Err-clause-full
 returns-in-Err-clause-full g c full =
     let was = c.in-Err.ensures.full full in
-    (was.1, full_lowered {S = (Joined g.row.H-Digest.Denot g.row.C-Item-Cfg.Denot) × ℕ} {T = (Joined g.row.H-Digest.Denot g.row.C-Item-Cfg.Denot) × ℕ} c.in-Err.error c.lower.result c.lower.ensures (inr was.0))
+    (past_lowered {S = (Joined g.row.H-Digest.Denot g.row.C-Item-Cfg.Denot) × ℕ} {T = (Joined g.row.H-Digest.Denot g.row.C-Item-Cfg.Denot) × ℕ} c.in-Err.error c.lower.result c.lower.ensures was.0, was.1)
 
 pub returns-in-Err-clause-refused : goal.returns-in-Err-clause-refused
 returns-in-Err-clause-refused g c =
@@ -40,7 +40,7 @@ returns-in-Err-clause-refused g c =
 pub returns-in-Err-clause-errors : goal.returns-in-Err-clause-errors
 returns-in-Err-clause-errors g c =
     let leaves = c.args.self.tree.tree.leaves in
-    let fails = one_fails {F = g.row.F.Denot} {T = (Joined g.row.H-Digest.Denot g.row.C-Item-Cfg.Denot) × ℕ} (leaves ≡ 2 ^ 62) _ c.in-Err.error c.in-Err.ensures.refused (λ full. inr (c.in-Err.ensures.full full).0) c.in-Err.ensures.overflow in
+    let fails = one_fails {F = g.row.F.Denot} {T = (Joined g.row.H-Digest.Denot g.row.C-Item-Cfg.Denot) × ℕ} (leaves ≡ 2 ^ 62) _ c.in-Err.error c.in-Err.ensures.refused (λ full. (c.in-Err.ensures.full full).0) c.in-Err.ensures.overflow in
     append_lowered (leaves ≡ 2 ^ 62) (λ (d : JournalError). d ≡ journal.SizeOverflow) IsOfSize c.in-Err.error c.lower.result volume_of_size size_of fails c.lower.ensures
 
 pub returns-in-Err-clause-writes : goal.returns-in-Err-clause-writes

@@ -155,7 +155,7 @@ returns-clause-list g c =
     let tip : c.as_u64-tip.result ≡ last = c.as_u64-tip.ensures ∙ ap (λ (d : DbView g.row.F.Denot g.row.H-Digest.Denot g.row.O.Denot g.row.O-Cfg.Denot). d.tip.witness.size) c.self.view_is in
     let passed : serve_answer {F = g.row.F.Denot} last n at true ≡ Ok tt = subst (λ (t : ℕ). serve_answer {F = g.row.F.Denot} t n at true ≡ Ok tt) tip (sym c.in-Ok.ensures) in
     let size : c.as_u64-size.result ≡ n = c.as_u64-size.ensures ∙ c.size.ensures in
-    let r = c.in-Ok-state_at.rebuilt in
+    let r = c.in-Ok-state_at.kept in
     if_ok c.response.result _ _ c.response.ensures.response (λ x is told ops sizes held commit there all.
     let state = subst (λ (k : ℕ). IsShownOf r.0.witness r.0.proof (verified_of s h m (take k ops)) × (slice_get ops (k - 1) ≡ Some r.1)) size
     (c.in-Ok-state_at.ensures.list told ops sizes held (λ op at.
@@ -223,7 +223,7 @@ returns-clause-rebuilt g c =
     let m = g.O.Logged.meaning in
     let n = size_of c.args.request in
     let size : c.as_u64-size.result ≡ n = c.as_u64-size.ensures ∙ c.size.ensures in
-    let r = c.in-Ok-state_at.rebuilt in
+    let r = c.in-Ok-state_at.kept in
     let state = g.V.Volume.state c.args.vol.now in
     let items = witnesses_of {F = g.row.F.Denot} g.H.Digest.Spelled.spelling (g.H.Digest.Read.admits tt) (seen_log c.args.self.now.log) state in
     let decoded = λ (bytes : List ℕ). whole (g.O.Read.reads c.args.self.now.codec bytes) in
@@ -232,5 +232,6 @@ returns-clause-rebuilt g c =
       v,
       r.1,
       subst (λ (k : ℕ). IsRebuiltAt s m decoded items k v r.1) size (c.in-Ok-state_at.ensures.rebuilt told within v refl),
+      c.in-Ok-state_at.ensures.proof,
       is v refl refl,
     ))

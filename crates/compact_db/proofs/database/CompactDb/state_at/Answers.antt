@@ -14,6 +14,7 @@ use Rattle.witness_store.specs.Witnesses.{witnesses_of, IsKept}
 use Rattle.witness_store.specs.declared.witness.Witness.{Witness}
 use Rattle.compact_db.specs.DbView.{DbView, seen_log}
 use Rattle.compact_db.specs.Held.{IsHeldFor, IsSizeOf}
+use Rattle.compact_db.specs.Pinned.{ProvesCommit}
 use Rattle.compact_db.specs.Rebuild.{RefusedOnlyAs, rebuild_answer}
 use Rattle.compact_db.specs.Serving.{has_size, kept_answer, AnswersAs, IsDamaged, IsLogFault, IsRebuiltAt}
 use Rattle.compact_db.specs.WitnessOf.{witness_of}
@@ -154,3 +155,7 @@ returns-in-Ok-Some-clause-rebuilt g c = if_ok c.shown_of.result _ _ (and_ok c.sh
     (λ told within v same.
     let x = subst (λ (o : Option (ℕ × Witness g.row.F.Denot g.row.H-Digest.Denot)). IfSome o (λ y. IsWitnessAt items y.0 y.1 × (y.1.size ≡ c.new.result))) one (c.in-Ok-Some.ensures.stands told within) in
     rebuilt_here s m decoded items c.args.size c.in-Ok-Some.field-0-0-0 c.in-Ok-Some.witness v r.1 (x.0, x.1 ∙ c.new.ensures) is.0 (same ∙ is.1)))
+
+pub returns-in-Ok-Some-clause-proof : goal.returns-in-Ok-Some-clause-proof
+returns-in-Ok-Some-clause-proof g c = if_ok c.shown_of.result _ _ (and_ok c.shown_of.result _ _ c.shown_of.ensures.proof c.shown_of.ensures.witness) (λ r is floor floored.
+    subst (λ (w : Witness g.row.F.Denot g.row.H-Digest.Denot). ProvesCommit g.F.Family.shape g.H.Hasher.hash w floor r.0.proof) (sym is.1) (is.0 floor floored))

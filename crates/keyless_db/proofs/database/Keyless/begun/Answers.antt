@@ -127,7 +127,7 @@ returns-in-Ok-sync-clause-log g c tells =
 
 pub returns-in-Err-clause-errors : goal.returns-in-Err-clause-errors
 returns-in-Err-clause-errors g c =
-    inr (c.in-Err.error, c.from_joined.ensures, append_lifted _ c.in-Err.error c.in-Err.ensures.refused (λ full. inr (c.in-Err.ensures.full full).0) (λ x is. (c.in-Err.ensures.overflow x is).0))
+    inr (c.in-Err.error, c.from_joined.ensures, append_lifted _ c.in-Err.error c.in-Err.ensures.refused (λ full. (c.in-Err.ensures.full full).0) (λ x is. (c.in-Err.ensures.overflow x is).0))
 
 pub returns-in-Err-sync-clause-errors : goal.returns-in-Err-sync-clause-errors
 returns-in-Err-sync-clause-errors g c =
