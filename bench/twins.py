@@ -214,14 +214,14 @@ def heap(command, given):
 
 def weigh_chain(program, scratch):
     """The line on the bytes of a chain: those for each batch, and those for each pair of a batch and one before it."""
-    def of(batches):
+    def bytes_of_chain(batches):
         given, folder = f"{scratch}/chain", f"{scratch}/chained"
         with open(given, "w", encoding="ascii") as out:
             out.write("\n".join(chain(batches)) + "\n")
         shutil.rmtree(folder, ignore_errors=True)
         return heap([program, folder], given)
 
-    few, more, most = (of(batches) for batches in CHAINS)
+    few, more, most = (bytes_of_chain(batches) for batches in CHAINS)
     n, m, k = CHAINS
     each = [(more - few) / (m - n), (most - more) / (k - m)]        # a batch + a pair * (n + m - 1) / 2, and so on
     pair = (each[1] - each[0]) / ((k - n) / 2)

@@ -1,5 +1,5 @@
 -- Errors of the log and of the tree below a journal.
-use Rattle.std.proofs.Common.{◌≡◌, ◌⊎◌, inl, inr, Ok, Err, refl, sym, ◌∙◌, ap, subst}
+use Rattle.std.proofs.Common.{◌≡◌, Ok, Err, refl, sym, ◌∙◌, ap, subst}
 use Rattle.std.specs.Prelude.{Result, IsErrOf}
 use Rattle.std.specs.Result.{IsErrAnd}
 use Rattle.volume_base.specs.declared.error.JournalError.{JournalError}
@@ -96,11 +96,6 @@ never_volume s t c _ why is = why
 -- what is refused for want of memory is no refusal of the tree
 pub memory_not_merkle : {F T : Type 0} (result : Result T (Error F)) (e d : tree_error.Error F) → IsErrAnd result (λ x. x ≡ from_tree e) → e ≡ tree.Memory → IsErrOf result (joined.Merkle d) → ⊥
 memory_not_merkle result e d is memory at = let same : joined.Merkle d ≡ joined.Memory = answered result (joined.Merkle d) (from_tree e) is at ∙ ap from_tree memory in cc
-
--- nor is it a failure of the volume
-pub leaves_never : {F : Type 0} (e d : Error F) (t : tree_error.Error F) (P : Type 0) → (e ≡ joined.Memory) ⊎ ((e ≡ joined.Merkle t) × P) → e ≡ joined.Volume → ⊥
-leaves_never e d t P (inl memory) is = let same : joined.Memory ≡ joined.Volume = sym memory ∙ is in cc
-leaves_never e d t P (inr merkle) is = let same : joined.Merkle t ≡ joined.Volume = sym merkle.0 ∙ is in cc
 
 -- a volume's failure above a tree is one of the tree
 pub volume_from_tree : {F : Type 0} (e : tree_error.Error F) → from_tree e ≡ joined.Volume → e ≡ tree.Volume

@@ -49,8 +49,8 @@ digests_more {D = D} s h xs ys =
 pub leaves_more : {D Item : Type 0} (s : Shape) (h : Hashing D) (spelling : Item → List ℕ) (list items : List Item)
     → leaves_of s h spelling (list ++ items) ≡ leaves_of s h spelling list ++ leaves_from s h (length list) (map spelling items)
 leaves_more {D = D} s h spelling list items =
-    ap (leaf_digests s h) (map-append spelling list items) ∙ from_join (λ p. leaf s h p.0 p.1) 0 (map spelling list) (map spelling items)
-    ∙ ap (λ (n : ℕ). leaves_of s h spelling list ++ leaves_from s h n (map spelling items)) (let l = length-map list spelling in let e : 0 + length (map spelling list) ≡ length list = omega (arith, l) in e)
+    ap (leaf_digests s h) (map-append spelling list items) ∙ digests_more s h (map spelling list) (map spelling items)
+    ∙ ap (λ (n : ℕ). leaves_of s h spelling list ++ leaves_from s h n (map spelling items)) (length-map list spelling)
 
 pub leaves_join : {D : Type 0} (s : Shape) (h : Hashing D) (xs ms : List (List ℕ)) → leaf_digests s h xs ++ drop (length (leaf_digests s h xs)) (leaf_digests s h ms) ≡ leaf_digests s h (xs ++ drop (length xs) ms)
 leaves_join {D = D} s h xs ms =

@@ -11,7 +11,7 @@ use Rattle.auth_journal.specs.declared.error.Error.TheVariants as joined
 abbrev pub unapplied : {D Item : Type 0} → SealedItems D Item → ℕ → List Item
 unapplied b leaves = drop (leaves - b.nodes.first) (joined_items b.items)
 
--- A call puts these items behind those of a journal's log, by at most one append; of no items nothing is written.
+-- A call puts these items behind those of a journal's log; of no items nothing is written.
 pub record Appends {Codec Item T E : Type 0} (tells : Type 0) (fault : E) (spelling : Item → List ℕ) (view : View Codec) (shown : T → View Codec)
     (items : List Item) (old new : State) (result : Result T E) : Type 0 where
   pub fits : OnOk result (tells → 0 < length items → end_of (log_of view old) + length items ≤ 2 ^ 64 - 1)

@@ -1,5 +1,5 @@
 //! The items that a tree lacks, replayed from the log.
-ghost use Rattle.std.specs.Prelude.{◌≡◌, ◌+◌, ◌≤◌, ◌^◌, max, ℕ, List, ◌++◌, length, take, false, IfOk, IfErr, OnOk};
+ghost use Rattle.std.specs.Prelude.{◌≡◌, ◌≤◌, ◌^◌, max, ℕ, List, ◌++◌, length, take, false, IfOk, IfErr, OnOk};
 ghost use Rattle.journal_base.specs.Items.{items_of, Spells};
 ghost use Rattle.journal_base.specs.View.{log_of, IsDurable};
 ghost use Rattle.tree_core.specs.Applied.{IsLonger};

@@ -124,9 +124,9 @@ impl<F: Family, C: Backing, H: Hasher> Journal<F, C, H> {
         Ok(())
     }
 
-    /// Puts the items of which these are the encodings, and there are some, behind the others, and their leaves, by one
-    /// append, and answers where the first of them stands. It refuses with `Journal(SizeOverflow)` where the log would
-    /// end past 2^64 - 1, before anything is written.
+    /// Puts the items of which these are the encodings, of which there are some, behind the others, each with its leaf,
+    /// by one append, and answers where the first of them stands. It refuses with `Journal(SizeOverflow)` where the log
+    /// would end past 2^64 - 1, before anything is written.
     fn put<V: Volume>(self, vol: &mut V, encodings: &[Bytes]) -> Result<(Self, u64), Error<F>>
         requires some { 0 < length encodings.now }
         requires few { self.tree.tree.leaves + length encodings.now ≤ 2 ^ 62 }

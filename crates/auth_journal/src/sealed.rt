@@ -32,7 +32,6 @@ impl<F: Family, D: Digest, Item: Write + Drop> Model for MerkleizedBatch<F, D, I
 impl<F: Family, D: Digest, Item: Write + Drop> MerkleizedBatch<F, D, Item> {
     ghost use Rattle.std.specs.Prelude.{◌≡◌, ◌+◌, ◌-◌, ◌≤◌, ◌^◌, List, length, reverse, slice_get, Some, IsOk, IfOk, IsOkUnless};
     ghost use Rattle.std.specs.Option.{option_copied};
-    ghost use Rattle.tree_shape.specs.Hashing.{Hashing};
     ghost use Rattle.tree_shape.specs.Root.{root, root_over};
     ghost use Rattle.tree_core.specs.Batches.{IsSealedOf};
     ghost use Rattle.tree_core.specs.Links.{StandsBehind};

@@ -3,7 +3,6 @@ use crate::segment::Segment;
 use crate::{Error, MerkleizedBatch};
 use codec_base::Write;
 use journal_base::encode_one;
-use std::alloc::Global;
 use std::marker::Model;
 use std::rc::Rc;
 use tree_core::{Family, Hasher, Location, MAX_LEAVES, Position, Standard};
@@ -42,7 +41,7 @@ impl<F: Family, H: Hasher, Item: Write + Drop> Model for UnmerkleizedBatch<F, H,
 impl<F: Family, H: Hasher, Item: Write + Drop> UnmerkleizedBatch<F, H, Item> {
     ghost use Rattle.std.specs.Prelude.{◌≡◌, ◌+◌, ◌<◌, ◌≤◌, ◌^◌, ◌++◌, List, map, length, Err, OnOk, OnErr, IfOk, IsOkUnless};
     ghost use Rattle.tree_core.specs.Batches.{leaf_count};
-    ghost use Rattle.auth_journal.specs.Batched.{UnsealedItems, IsSoundUnsealedItems, IsSealedOfItems, IsUnsealedOfItems, AreSealedFrom, with_item};
+    ghost use Rattle.auth_journal.specs.Batched.{IsSoundUnsealedItems, IsSealedOfItems, IsUnsealedOfItems, AreSealedFrom, with_item};
     ghost use Rattle.auth_journal.specs.declared.error.Error.{Error};
     ghost use Rattle.tree_store.specs.declared.error.Error.TheVariants.{LocationOverflow};
 

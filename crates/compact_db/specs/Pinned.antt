@@ -7,13 +7,20 @@ use Rattle.tree_shape.specs.Slow.{leaf, node_of}
 use Rattle.tree_proof.specs.Cover.{meets}
 use Rattle.tree_proof.specs.SlowProof.{proof_of}
 use Rattle.tree_proof.specs.declared.proof.Proof.{Proof}
-use Rattle.tree_verification.specs.Ranges.{HasForm}
+use Rattle.tree_store.specs.Stores.{IsFirstAbsent}
+use Rattle.tree_verification.specs.Ranges.{HasForm, cover_positions}
 use Rattle.tree_core.specs.KeptNodes.{entry_at}
 use Rattle.witness_store.specs.declared.witness.Witness.{Witness}
 
 -- What stands at a position, of these peaks of so many leaves, the oldest first.
 abbrev pub pin_at : {D : Type 0} → Shape → ℕ → List D → ℕ → Option D
 pin_at s n ds p = entry_at (zip (pins s n) ds) p
+
+-- At this position stands the first node that the proof of a witness's commit takes and that isn't one of the witness's
+-- pins.
+abbrev pub IsUnpinned : {F D : Type 0} → Shape → Witness F D → ℕ → Type 0
+IsUnpinned s w p =
+    IsFirstAbsent (pin_at s (w.size - 1) w.pinned_nodes) (cover_positions s (meets (w.size - 1) w.size) w.size) p
 
 -- It is the proof of a witness's commit under this floor: it has the form of one, and it is the proof of the last leaf
 -- of each tree that the commit ends and whose peaks before the commit are the pins.

@@ -84,7 +84,7 @@ module _ {F D Op : Type 0} where
     pub here : told → within → IsWitnessAt items position witness × (witness.size ≡ size)
     pub why : rebuild_answer s m decoded witness ≡ Err e
 
-  -- At a position of these items stands this one's witness, which is of this size, and it rebuilds with this commit.
+  -- At a position of these items stands the witness of `v`, which is of this size and rebuilds with this commit.
   pub record IsRebuiltAt {V : Type 0} (s : Shape) (m : Meaning Op V) (decoded : List ℕ → Result Op CodecError)
       (items : Items (Witness F D)) (size : ℕ) (v : VerifiedWitness F D) (commit : Op) : Type 0 where
     pub position : ℕ

@@ -1,7 +1,7 @@
 //! The proof of a witness's commit by the witness's pins alone.
-ghost use Rattle.std.specs.Prelude.{◌≡◌, ◌<◌, ◌≤◌, ◌^◌, IfOk, IfSome, IsOkUnless};
+ghost use Rattle.std.specs.Prelude.{◌≡◌, ◌<◌, ◌≤◌, ◌^◌, ℕ, None, IfOk, IfSome, IsOkUnless};
 ghost use Rattle.tree_shape.specs.Hashing.{Hashing};
-ghost use Rattle.compact_db.specs.Pinned.{ProvesCommit};
+ghost use Rattle.compact_db.specs.Pinned.{IsUnpinned, ProvesCommit};
 
 use chain_core::Error;
 use std::alloc::Global;
@@ -64,6 +64,7 @@ pub(crate) fn pinned_proof<F: Family, D: Digest>(
     requires few { witness.now.size ≤ 2 ^ 62 }
     ensures proof { IfOk result (λ found. IfSome found (λ proof. (h : Hashing D) →
         ProvesCommit F.shape h witness.now floor proof)) }
+    ensures none { IfOk result (λ found. found ≡ None → (p : ℕ) × IsUnpinned F.shape witness.now p) }
     ensures memory { IsOkUnless result Error.Memory }
 {
     let size = witness.size.as_u64();
@@ -76,6 +77,7 @@ pub(crate) fn pinned_proof<F: Family, D: Digest>(
     match proof_from_memory(alloc, &peaks, Location::new(size - 1), inactive) {
         Ok(proof) => Ok(Some(proof)),
         Err(tree_core::Error::ElementPruned(_)) => Ok(None),
-        Err(_) => Err(Error::Memory),
+        Err(tree_core::Error::Memory) => Err(Error::Memory),
+        Err(_) => unreachable!(),
     }
 }

@@ -6,7 +6,7 @@ ghost use Rattle.volume_base.specs.Volume.{Reads};
 ghost use Rattle.volume_base.specs.declared.error.JournalError.TheVariants as journal_error;
 ghost use Rattle.chain_core.specs.Answers.{IsOutside};
 ghost use Rattle.target_codec.specs.Request.{size_of, start_of};
-ghost use Rattle.witness_store.specs.Searched.{IsWitnessAt, LooksFew};
+ghost use Rattle.witness_store.specs.Searched.{LooksFew};
 ghost use Rattle.witness_store.specs.Witnesses.{witnesses_of};
 ghost use Rattle.compact_db.specs.DbView.{seen_log, waits};
 ghost use Rattle.compact_db.specs.Held.{IsHeldFor};

@@ -7,7 +7,6 @@ ghost use Rattle.journal_base.specs.View.{view_of, config_of, at_bounds};
 use crate::encodings::{encode_all, encode_one};
 use crate::{Contiguous, Mutable, SyncTicket};
 use codec_base::{Bytes, CodecError, Duplicate, EncodeSize, FixedSize, Read, Write, decode};
-use std::alloc::Global;
 use std::marker::PhantomData;
 use std::num::NonZeroU64;
 use volume_base::{JournalError, Volume, VolumeError};

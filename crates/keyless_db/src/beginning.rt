@@ -16,7 +16,7 @@ pub fn initial_root<F: Family, O: KeylessOperation, H: Hasher>(
     ensures memory { IsOkUnless result Error.Memory }
 {
     let hasher = Standard::<H>::new(Bagging::ForwardFold);
-    let Ok(text) = encode(alloc, &O::commit(None, 0)) else {
+    let Ok(encoding) = encode(alloc, &O::commit(None, 0)) else {
         return Err(Error::Memory);
     };
     let Ok(tree) = Mem::<F, H::Digest>::new(alloc) else {
@@ -25,7 +25,7 @@ pub fn initial_root<F: Family, O: KeylessOperation, H: Hasher>(
     let Ok(mut batch) = tree.new_batch() else {
         return Err(Error::Memory);
     };
-    let Ok(()) = batch.add(&hasher, text.as_slice()) else {
+    let Ok(()) = batch.add(&hasher, encoding.as_slice()) else {
         return Err(Error::Memory);
     };
     let Ok(sealed) = batch.merkleize(&hasher, 0) else {
